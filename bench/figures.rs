@@ -1,0 +1,56 @@
+//! One figure: the least of many samples for each side, the two sides taken in turns, and their ratio.
+
+use std::hint::black_box;
+use std::time::{Duration, Instant};
+
+const SAMPLES: usize = 31;
+const SAMPLE: Duration = Duration::from_millis(4);
+
+pub struct Figures {
+    filter: String,
+}
+
+impl Figures {
+    pub fn begin(filter: String) -> Self {
+        println!("{:<44} {:>12} {:>12} {:>7}", "", "ours, ns", "Rust, ns", "ratio");
+        Figures { filter }
+    }
+
+    /// Both sides answer alike, and are then timed.
+    pub fn compare<T: PartialEq + std::fmt::Debug>(&self, name: &str, mut ours: impl FnMut() -> T, mut rust: impl FnMut() -> T) {
+        if !name.starts_with(&self.filter) {
+            return;
+        }
+        assert_eq!(ours(), rust(), "{name}");
+        let turns = turns(&mut rust);
+        let (mut least_ours, mut least_rust) = (f64::MAX, f64::MAX);
+        for _ in 0..SAMPLES {
+            least_ours = least_ours.min(sample(turns, &mut ours));
+            least_rust = least_rust.min(sample(turns, &mut rust));
+        }
+        println!("{name:<44} {least_ours:>12.1} {least_rust:>12.1} {:>7.2}", least_ours / least_rust);
+    }
+}
+
+/// How many turns take about one sample.
+fn turns<T>(f: &mut impl FnMut() -> T) -> u32 {
+    let mut turns = 1;
+    loop {
+        let began = Instant::now();
+        for _ in 0..turns {
+            black_box(f());
+        }
+        if began.elapsed() >= SAMPLE || turns >= 1 << 24 {
+            return turns;
+        }
+        turns *= 2;
+    }
+}
+
+fn sample<T>(turns: u32, f: &mut impl FnMut() -> T) -> f64 {
+    let began = Instant::now();
+    for _ in 0..turns {
+        black_box(f());
+    }
+    began.elapsed().as_nanos() as f64 / f64::from(turns)
+}

@@ -1,0 +1,12 @@
+//! What the Rust's files name and does not come with them. Nothing that is timed calls it.
+
+pub mod message_type {
+    #[derive(Debug)]
+    pub enum MessageType {}
+
+    impl core::fmt::Display for MessageType {
+        fn fmt(&self, _: &mut core::fmt::Formatter<'_>) -> core::fmt::Result {
+            match *self {}
+        }
+    }
+}

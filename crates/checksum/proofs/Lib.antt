@@ -1,0 +1,4 @@
+pub mod WordLaws
+pub mod TailLaws
+pub mod HashLaws
+pub mod TrailingLaws

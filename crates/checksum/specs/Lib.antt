@@ -1,0 +1,2 @@
+pub mod Lookup3
+pub mod Trailing

@@ -1,0 +1,53 @@
+-- Laws of outcomes: which condition's refusal is given, and what acceptance says of all of them. Assumes nothing.
+use mathlib.Core.Path.{_≡_, refl}
+use Prim.Native.Nat.{ℕ}
+use native.Mathlib.Omega.{arith}
+use mathlib.Core.Bool.{Bool, true, false, cond}
+use mathlib.Core.List.{List, [], _∷_}
+use Rattle.error.specs.declared.Refusal.{Refusal}
+use Rattle.error.specs.Outcome.{Outcome, answer, refused, Condition, when, firstOf}
+
+-- ---- the first condition
+
+pub first-none : {A : Type 0} (x : Outcome A) → firstOf [] x ≡ x
+unfolding firstOf
+first-none x = refl
+
+pub first-holds : {A : Type 0} (t : Bool) (r : Refusal) (cs : List Condition) (x : Outcome A) → t ≡ true → firstOf (when t r ∷ cs) x ≡ refused r
+unfolding firstOf
+first-holds t r cs x h = rw h
+
+pub first-passes : {A : Type 0} (t : Bool) (r : Refusal) (cs : List Condition) (x : Outcome A) → t ≡ false → firstOf (when t r ∷ cs) x ≡ firstOf cs x
+unfolding firstOf
+first-passes t r cs x h = rw h
+
+-- the same where it is the only condition, as a contract's answer has it
+pub refuses : {A : Type 0} (t : Bool) (r : Refusal) (x : Outcome A) → t ≡ true → refused r ≡ firstOf (when t r ∷ []) x
+unfolding firstOf
+refuses t r x h = rw h
+
+pub passes : {A : Type 0} (t : Bool) (r : Refusal) (x : Outcome A) → t ≡ false → x ≡ firstOf (when t r ∷ []) x
+unfolding firstOf
+passes t r x h = rw h
+
+-- ---- all conditions
+
+abbrev pub NoneHolds : List Condition → Type 0
+NoneHolds [] = Unit {0}
+NoneHolds (c ∷ cs) = (c .holds ≡ false) × NoneHolds cs
+
+pub first-pass : {A : Type 0} (cs : List Condition) (x : Outcome A) → NoneHolds cs → firstOf cs x ≡ x
+unfolding firstOf
+first-pass [] x h = refl
+first-pass (c ∷ cs) x h = rw (h .0) (first-pass cs x (h .1))
+
+-- an answer shows that no condition holds, and is the one that was to be given
+pub first-answers : {A : Type 0} (cs : List Condition) (x y : A) → firstOf cs (answer x) ≡ answer y → NoneHolds cs × (x ≡ y)
+unfolding firstOf
+first-answers [] x y e = (tt, cc)
+first-answers (c ∷ cs) x y e = pick (c .holds) refl e (first-answers cs x y)
+  where
+    pick : (t : Bool) → c .holds ≡ t → cond t (refused (c .refusal)) (firstOf cs (answer x)) ≡ answer y → (firstOf cs (answer x) ≡ answer y → NoneHolds cs × (x ≡ y))
+        → ((c .holds ≡ false) × NoneHolds cs) × (x ≡ y)
+    pick true t e ih = let z : _≡_ {A = ℕ} 0 1 = cc in absurd (omega arith)
+    pick false t e ih = let q = ih e in ((t, q .0), q .1)

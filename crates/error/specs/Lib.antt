@@ -1,0 +1,4 @@
+pub mod Refusals
+pub mod Outcome
+pub mod Lent
+pub mod Answers

@@ -1,0 +1,39 @@
+-- Each refusal's number and values, by cases. Assumes nothing.
+--   numberOf   the number, 1 to 14, under which document 01 lists a refusal
+--   valuesOf   the values that document 01 says a refusal carries, in its order
+use Prim.Native.Nat.{ℕ}
+use mathlib.Core.List.{List, [], _∷_}
+use Rattle.error.specs.declared.Refusal.{Refusal}
+use Rattle.error.specs.declared.Refusal.the-variants.{Width, Page, NotAList, Overflow, SharedAddress, PartUnit, Short, MessageVersion, Strategy, InvalidManager, Checksum, WideAddress, Place, OverCapacity}
+
+abbrev pub numberOf : Refusal → ℕ
+numberOf Width = 1
+numberOf Page = 2
+numberOf NotAList = 3
+numberOf Overflow = 4
+numberOf SharedAddress = 5
+numberOf PartUnit = 6
+numberOf (Short expected available) = 7
+numberOf (MessageVersion byte) = 8
+numberOf (Strategy byte) = 9
+numberOf InvalidManager = 10
+numberOf (Checksum stored computed) = 11
+numberOf WideAddress = 12
+numberOf Place = 13
+numberOf (OverCapacity needed given) = 14
+
+abbrev pub valuesOf : Refusal → List ℕ
+valuesOf Width = []
+valuesOf Page = []
+valuesOf NotAList = []
+valuesOf Overflow = []
+valuesOf SharedAddress = []
+valuesOf PartUnit = []
+valuesOf (Short expected available) = expected ∷ available ∷ []
+valuesOf (MessageVersion byte) = byte ∷ []
+valuesOf (Strategy byte) = byte ∷ []
+valuesOf InvalidManager = []
+valuesOf (Checksum stored computed) = stored ∷ computed ∷ []
+valuesOf WideAddress = []
+valuesOf Place = []
+valuesOf (OverCapacity needed given) = needed ∷ given ∷ []

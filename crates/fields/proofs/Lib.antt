@@ -1,0 +1,3 @@
+pub mod LeLaws
+pub mod WidthLaws
+pub mod RangeLaws

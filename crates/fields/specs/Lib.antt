@@ -1,0 +1,4 @@
+pub mod Le
+pub mod Width
+pub mod Ranges
+pub mod Layout

@@ -1,0 +1,30 @@
+-- Widths and lengths that follow from a number alone. Assumes nothing.
+--   validWidth   an offset size or length size within 1 to 8
+--   leastFrom    the first of the widths w, w + 1, .. whose bytes hold a number, w + n at the most
+--   encSize      document 01's `enc_size`: the least number of bytes, at least 1, that hold a 64-bit number
+--   Least        what that means: at least 1, enough, and no more than any other width that is both
+--   fshdLen      the length of FSHD at offset size O, 74 + O; refusal 1 outside 1 to 8
+use Prim.Native.Nat.{ℕ, zero, suc, _+_, _^_, _≤_, _<_}
+use mathlib.Core.Bool.{Bool, cond, _&&_, not}
+use mathlib.Core.List.{[], _∷_}
+use lib.Dec.{ltb, leb}
+use Rattle.error.specs.declared.Refusal.the-variants.{Width}
+use Rattle.error.specs.Outcome.{Outcome, answer, when, firstOf}
+
+abbrev pub validWidth : ℕ → Bool
+validWidth w = leb 1 w && leb w 8
+
+unfoldable pub leastFrom : ℕ → ℕ → ℕ → ℕ
+leastFrom zero v w = w
+leastFrom (suc n) v w = cond (ltb v (256 ^ w)) w (leastFrom n v (w + 1))
+
+unfoldable pub encSize : ℕ → ℕ
+encSize v = leastFrom 7 v 1
+
+pub record Least (v w : ℕ) : Type 0 where
+  pub some : 1 ≤ w
+  pub holds : v < 256 ^ w
+  pub least : (k : ℕ) → 1 ≤ k → v < 256 ^ k → w ≤ k
+
+unfoldable pub fshdLen : ℕ → Outcome ℕ
+fshdLen O = firstOf (when (not (validWidth O)) Width ∷ []) (answer (74 + O))
