@@ -4,6 +4,8 @@
 mod checksum;
 mod error;
 mod figures;
+mod free_space;
+mod lists;
 mod stubs;
 
 use figures::Figures;
@@ -36,4 +38,5 @@ fn lookup3(figures: &Figures) {
 fn main() {
     let figures = Figures::begin(std::env::args().nth(1).unwrap_or_default());
     lookup3(&figures);
+    lists::run(&figures);
 }

@@ -1,11 +1,12 @@
 -- Laws of outcomes: which condition's refusal is given, and what acceptance says of all of them. Assumes nothing.
-use mathlib.Core.Path.{_≡_, refl}
+use mathlib.Core.Path.{_≡_, refl, ap, ap₂}
 use Prim.Native.Nat.{ℕ}
 use native.Mathlib.Omega.{arith}
 use mathlib.Core.Bool.{Bool, true, false, cond}
-use mathlib.Core.List.{List, [], _∷_}
+use mathlib.Core.List.{List, [], _∷_, _++_}
 use Rattle.error.specs.declared.Refusal.{Refusal}
-use Rattle.error.specs.Outcome.{Outcome, answer, refused, Condition, when, firstOf}
+use Rattle.error.specs.Refusals.{numberOf, valuesOf}
+use Rattle.error.specs.Outcome.{Outcome, answer, refuse, refused, Condition, when, firstOf}
 
 -- ---- the first condition
 
@@ -51,3 +52,24 @@ first-answers (c ∷ cs) x y e = pick (c .holds) refl e (first-answers cs x y)
         → ((c .holds ≡ false) × NoneHolds cs) × (x ≡ y)
     pick true t e ih = let z : _≡_ {A = ℕ} 0 1 = cc in absurd (omega arith)
     pick false t e ih = let q = ih e in ((t, q .0), q .1)
+
+-- ---- conditions in two parts
+
+pub first-append : {A : Type 0} (cs ds : List Condition) (x : Outcome A) → firstOf (cs ++ ds) x ≡ firstOf cs (firstOf ds x)
+unfolding firstOf
+first-append [] ds x = refl
+first-append (c ∷ cs) ds x = ap (cond (c .holds) (refused (c .refusal))) (first-append cs ds x)
+
+-- a refusal does not depend on what comes after the conditions
+pub first-refuses : {A B : Type 0} (cs : List Condition) (x : A) (r : Refusal) (y : Outcome B) → refused r ≡ firstOf cs (answer x) → refused r ≡ firstOf cs y
+unfolding firstOf
+first-refuses [] x r y e = let z : _≡_ {A = ℕ} 0 1 = cc in absurd (omega arith)
+first-refuses {A} {B} (c ∷ cs) x r y e = pick (c .holds) e (first-refuses cs x r y)
+  where
+    pick : (t : Bool) → refused r ≡ cond t (refused (c .refusal)) (firstOf cs (answer x)) → (refused r ≡ firstOf cs (answer x) → refused r ≡ firstOf cs y)
+        → refused r ≡ cond t (refused (c .refusal)) (firstOf cs y)
+    pick true e ih =
+        let n : numberOf r ≡ numberOf (c .refusal) = cc in
+        let v : valuesOf r ≡ valuesOf (c .refusal) = cc in
+        ap₂ refuse n v
+    pick false e ih = ih e

@@ -1,3 +1,4 @@
 pub mod LeLaws
 pub mod WidthLaws
 pub mod RangeLaws
+pub mod LayoutLaws

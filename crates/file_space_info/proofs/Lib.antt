@@ -1,0 +1,5 @@
+pub mod StrategyLaws
+pub mod WriteLaws
+pub mod ReadLaws
+pub mod MessageLaws
+pub mod Cases

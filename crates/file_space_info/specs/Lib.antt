@@ -1,0 +1,3 @@
+pub mod Strategies
+pub mod Infos
+pub mod Message

@@ -1,0 +1,207 @@
+-- Laws of the best fit: a pass upwards finds what the definition says, and what is found suffices. Assumes nothing.
+use mathlib.Core.Path.{_≡_, refl, sym, ap, ap₂, _∙_, subst⁻¹}
+use mathlib.Core.List.{List, [], _∷_}
+use mathlib.Core.Logic.{⊎-elim, inl, inr}
+use mathlib.Core.Bool.{Bool, true, false, cond, _&&_}
+use Prim.Native.Nat.{ℕ, zero, suc, _+_, _-_, _*_, _%_, _^_, _≤_, _<_}
+use native.Mathlib.Numerals.{add-one}
+use native.Mathlib.Omega.{arith}
+use borrow.Author.Tests.{le-leb, lt-leb, lt-ltb, le-ltb, leb-true, leb-false}
+use lib.ListN.{length, getD, drop}
+use lib.Dec.{leb, ltb}
+use Rattle.error.proofs.TestLaws.{le-or-lt, and-true}
+use Rattle.free_space.specs.declared.region.FreeRegion.{FreeRegion}
+use Rattle.free_space.specs.declared.list.FreeList.{FreeList}
+use Rattle.free_space.specs.declared.fit.Search.{Search}
+use Rattle.free_space.specs.declared.fit.Search.the-variants.{Nothing, At}
+use Rattle.free_space.specs.declared.fit.Best.{Best}
+use Rattle.free_space.specs.Regions.{region, Found, none, at, better, best}
+use Rattle.free_space.specs.Runs.{regionAt, decode, regions, isList}
+use Rattle.free_space.specs.Searches.{oneAt, lower, soFar, OneOf, answered, Finds}
+use Rattle.free_space.proofs.DecodeLaws.{decode-drop, decode-at, decode-end, length-decode}
+use Rattle.free_space.proofs.OkLaws.{listed}
+
+-- ---- what is found lower, and above it
+
+pub lower-none : (f : Found) → lower f none ≡ f
+lower-none none = refl
+lower-none (at i s) = refl
+
+better-lower : (len i span : ℕ) (g : Found) → better len i span g ≡ lower (oneAt len i span) g
+better-lower len i span none = sym (lower-none (oneAt len i span))
+better-lower len i span (at j s) = go (leb len span)
+  where
+    go : (t : Bool) → cond (t && leb span s) (at i span) (at j s) ≡ lower (cond t (at i span) none) (at j s)
+    go true = refl
+    go false = refl
+
+lower-assoc : (f g h : Found) → lower (lower f g) h ≡ lower f (lower g h)
+lower-assoc none g h = refl
+lower-assoc (at i s) none h = refl
+lower-assoc (at i s) (at j t) none = lower-none (cond (leb s t) (at i s) (at j t))
+lower-assoc (at i s) (at j t) (at k u) = go (leb s t) (leb t u) refl refl
+  where
+    go : (p q : Bool) → leb s t ≡ p → leb t u ≡ q → lower (cond p (at i s) (at j t)) (at k u) ≡ lower (at i s) (cond q (at j t) (at k u))
+    go true true e f =
+        let a = leb-true s t e in
+        let b = leb-true t u f in
+        rw (le-leb s u (omega arith), e)
+    go true false e f = refl
+    go false true e f = rw (e, f)
+    go false false e f =
+        let a = leb-false s t e in
+        let b = leb-false t u f in
+        rw (lt-leb s u (omega arith), f)
+
+-- ---- what is kept
+
+pub so-far-none : (len : ℕ) (b : Best) → 2 ^ 64 - len ≤ b .slack → soFar len b ≡ none
+so-far-none len b h = rw (le-ltb (b .slack) (2 ^ 64 - len) h)
+
+pub so-far-at : (len : ℕ) (b : Best) → b .slack < 2 ^ 64 - len → soFar len b ≡ at (b .index) (b .slack + len)
+so-far-at len b h = rw (lt-ltb (b .slack) (2 ^ 64 - len) h)
+
+-- ---- a turn of a pass
+
+best-turn : (span : FreeRegion → ℕ) (len i n : ℕ) (xs : List ℕ) → i < n → 2 * n ≤ length xs
+    → best span len i (drop i (decode n xs)) ≡ lower (oneAt len i (span (regionAt xs i))) (best span len (i + 1) (drop (i + 1) (decode n xs)))
+best-turn span len i n xs l room =
+    ap (best span len i) (decode-drop n i xs l room)
+    ∙ better-lower len i (span (regionAt xs i)) (best span len (suc i) (drop (i + 1) (decode n xs)))
+    ∙ ap (λ (j : ℕ). lower (oneAt len i (span (regionAt xs i))) (best span len j (drop (i + 1) (decode n xs)))) (sym (add-one i))
+
+-- b is kept before the region r at i, and b′ after it
+pub fit-turn : (span : FreeRegion → ℕ) (len i n : ℕ) (xs : List ℕ) (b b′ : Best) (r : FreeRegion) → i < n → 2 * n ≤ length xs → r ≡ regionAt xs i
+    → soFar len b′ ≡ lower (soFar len b) (oneAt len i (span r))
+    → lower (soFar len b) (best span len i (drop i (decode n xs))) ≡ lower (soFar len b′) (best span len (i + 1) (drop (i + 1) (decode n xs)))
+fit-turn span len i n xs b b′ r l room got e =
+    let rest = best span len (i + 1) (drop (i + 1) (decode n xs)) in
+    ap (lower (soFar len b)) (best-turn span len i n xs l room)
+    ∙ sym (lower-assoc (soFar len b) (oneAt len i (span (regionAt xs i))) rest)
+    ∙ ap (λ (q : FreeRegion). lower (lower (soFar len b) (oneAt len i (span q))) rest) (sym got)
+    ∙ ap (λ (f : Found). lower f rest) (sym e)
+
+-- the first region, before which nothing is found
+pub fit-first : (span : FreeRegion → ℕ) (len n : ℕ) (xs : List ℕ) (b b′ : Best) (r : FreeRegion) → 0 < n → 2 * n ≤ length xs → r ≡ regionAt xs 0
+    → 2 ^ 64 - len ≤ b .slack → soFar len b′ ≡ lower (soFar len b) (oneAt len 0 (span r))
+    → best span len 0 (decode n xs) ≡ lower (soFar len b′) (best span len 1 (drop 1 (decode n xs)))
+fit-first span len n xs b b′ r l room got z e = ap (λ (f : Found). lower f (best span len 0 (decode n xs))) (sym (so-far-none len b z)) ∙ fit-turn span len 0 n xs b b′ r l room got e
+
+pub fit-end : (span : FreeRegion → ℕ) (len i n : ℕ) (xs : List ℕ) (b : Best) → n ≤ i → 2 * n ≤ length xs
+    → lower (soFar len b) (best span len i (drop i (decode n xs))) ≡ soFar len b
+fit-end span len i n xs b l room = ap (λ (q : List FreeRegion). lower (soFar len b) (best span len i q)) (decode-end n i xs l room) ∙ lower-none (soFar len b)
+
+-- ---- the bytes left over
+
+module _ (len i span slack : ℕ) (r : FreeRegion) (b : Best) (some : 0 < len) (l : len < 2 ^ 64) (s : span < 2 ^ 64) (f : slack < 2 ^ 64) (wraps : (slack + len) % 2 ^ 64 ≡ span) where
+  pub better-new : slack < b .slack → soFar len (record { index = i; region = r; slack = slack }) ≡ lower (soFar len b) (oneAt len i span)
+  better-new h = ⊎-elim enough lacks (le-or-lt len span)
+    where
+      enough : len ≤ span → soFar len (record { index = i; region = r; slack = slack }) ≡ lower (soFar len b) (oneAt len i span)
+      enough k =
+          let e : slack + len ≡ span = omega arith in
+          so-far-at len (record { index = i; region = r; slack = slack }) (omega arith) ∙ ap (at i) e ∙ sym (rw (le-leb len span k) (go (ltb (b .slack) (2 ^ 64 - len))))
+        where
+          go : (t : Bool) → lower (cond t (at (b .index) (b .slack + len)) none) (at i span) ≡ at i span
+          go true = rw (lt-leb (b .slack + len) span (omega arith))
+          go false = refl
+
+      lacks : span < len → soFar len (record { index = i; region = r; slack = slack }) ≡ lower (soFar len b) (oneAt len i span)
+      lacks k =
+          let o : oneAt len i span ≡ none = rw (lt-leb len span k) in
+          so-far-none len (record { index = i; region = r; slack = slack }) (omega arith) ∙ sym (ap₂ lower (so-far-none len b (omega arith)) o)
+
+  pub better-old : b .slack ≤ slack → soFar len b ≡ lower (soFar len b) (oneAt len i span)
+  better-old h = ⊎-elim enough lacks (le-or-lt len span)
+    where
+      enough : len ≤ span → soFar len b ≡ lower (soFar len b) (oneAt len i span)
+      enough k =
+          let e : soFar len b ≡ at (b .index) (b .slack + len) = so-far-at len b (omega arith) in
+          let o : oneAt len i span ≡ at i span = rw (le-leb len span k) in
+          let w : lower (at (b .index) (b .slack + len)) (at i span) ≡ at (b .index) (b .slack + len) = rw (le-leb (b .slack + len) span (omega arith)) in
+          e ∙ sym w ∙ sym (ap₂ lower e o)
+
+      lacks : span < len → soFar len b ≡ lower (soFar len b) (oneAt len i span)
+      lacks k =
+          let o : oneAt len i span ≡ none = rw (lt-leb len span k) in
+          sym (ap (lower (soFar len b)) o ∙ lower-none (soFar len b))
+
+pub found-at : (len : ℕ) (b : Best) → b .slack < 2 ^ 64 - len → At (b .index) (b .region) ≡ answered len b
+found-at len b h = rw (lt-ltb (b .slack) (2 ^ 64 - len) h)
+
+pub found-none : (len : ℕ) (b : Best) → 2 ^ 64 - len ≤ b .slack → Nothing ≡ answered len b
+found-none len b h = rw (le-ltb (b .slack) (2 ^ 64 - len) h)
+
+-- the region that is kept is the one at its place
+abbrev pub Reads : List ℕ → ℕ → Best → Type 0
+Reads xs len b = b .slack < 2 ^ 64 - len → b .region ≡ regionAt xs (b .index)
+
+pub reads-none : (xs : List ℕ) (len : ℕ) (b : Best) → 2 ^ 64 - len ≤ b .slack → Reads xs len b
+reads-none xs len b h k = absurd (omega arith)
+
+pub reads-turn : (xs : List ℕ) (len : ℕ) (b n : Best) (i : ℕ) (r : FreeRegion) → Reads xs len b → r ≡ regionAt xs i → OneOf b i r n → Reads xs len n
+reads-turn xs len b n i r h got (inl e) = subst⁻¹ (Reads xs len) e h
+reads-turn xs len b n i r h got (inr e) = λ k. e .1 ∙ got ∙ ap (regionAt xs) (sym (e .0))
+
+-- ---- what is found suffices, and is the span of the region at that place
+
+record Sufficient (span : FreeRegion → ℕ) (len i j s : ℕ) (rs : List FreeRegion) (d : FreeRegion) : Type 0 where
+  rel : ℕ
+  place : j ≡ i + rel
+  below : rel < length rs
+  spans : s ≡ span (getD rs rel d)
+  suffices : len ≤ s
+
+never : (j s : ℕ) → none ≡ at j s → ⊥
+never j s e = let z : _≡_ {A = ℕ} 0 1 = cc in omega arith
+
+module _ (span : FreeRegion → ℕ) (len j s : ℕ) (d : FreeRegion) where
+  here : (i : ℕ) (r : FreeRegion) (rs : List FreeRegion) → len ≤ span r → at i (span r) ≡ at j s → Sufficient span len i j s (r ∷ rs) d
+  here i r rs h e =
+      let p : i ≡ j = cc in
+      let q : s ≡ span r = cc in
+      record { rel = 0; place = omega arith; below = omega arith; spans = q; suffices = omega arith }
+
+  there : (i : ℕ) (r : FreeRegion) (rs : List FreeRegion) → Sufficient span len (suc i) j s rs d → Sufficient span len i j s (r ∷ rs) d
+  there i r rs t = record { rel = suc (t .rel); place = omega (arith, t .place); below = omega (arith, t .below); spans = t .spans; suffices = t .suffices }
+
+  alone : (i : ℕ) (r : FreeRegion) (rs : List FreeRegion) (b : Bool) → leb len (span r) ≡ b
+      → cond b (at i (span r)) none ≡ at j s → Sufficient span len i j s (r ∷ rs) d
+  alone i r rs true t e = here i r rs (leb-true len (span r) t) e
+  alone i r rs false t e = absurd (never j s e)
+
+  against : (i : ℕ) (r : FreeRegion) (rs : List FreeRegion) (j′ s′ : ℕ) → (at j′ s′ ≡ at j s → Sufficient span len (suc i) j s rs d)
+      → (b : Bool) → (leb len (span r) && leb (span r) s′) ≡ b → cond b (at i (span r)) (at j′ s′) ≡ at j s → Sufficient span len i j s (r ∷ rs) d
+  against i r rs j′ s′ ih true t e = here i r rs (leb-true len (span r) (and-true (leb len (span r)) (leb (span r) s′) t .0)) e
+  against i r rs j′ s′ ih false t e = there i r rs (ih e)
+
+  step : (i : ℕ) (r : FreeRegion) (rs : List FreeRegion) (f : Found) → (f ≡ at j s → Sufficient span len (suc i) j s rs d)
+      → better len i (span r) f ≡ at j s → Sufficient span len i j s (r ∷ rs) d
+  step i r rs none ih e = alone i r rs (leb len (span r)) refl e
+  step i r rs (at j′ s′) ih e = against i r rs j′ s′ ih (leb len (span r) && leb (span r) s′) refl e
+
+  best-at : (i : ℕ) (rs : List FreeRegion) → best span len i rs ≡ at j s → Sufficient span len i j s rs d
+  best-at i [] e = absurd (never j s e)
+  best-at i (r ∷ rs) e = step i r rs (best span len (suc i) rs) (best-at (suc i) rs) e
+
+-- the answer, where the pass came to the end of a list
+pub finds : (measure : FreeRegion → ℕ) (xs : List ℕ) (l : FreeList) (len : ℕ) (b : Best) (s : Search) → isList xs l ≡ true
+    → best measure len 0 (regions xs l) ≡ soFar len b → Reads xs len b → s ≡ answered len b → Finds measure xs l len s
+finds measure xs l len b s ok e reads is = ⊎-elim none-left served (le-or-lt (2 ^ 64 - len) (b .slack))
+  where
+    none-left : 2 ^ 64 - len ≤ b .slack → Finds measure xs l len s
+    none-left h = subst⁻¹ (Finds measure xs l len) (is ∙ sym (found-none len b h)) (ok, e ∙ so-far-none len b h)
+
+    served : b .slack < 2 ^ 64 - len → Finds measure xs l len s
+    served h =
+        let n = l .count in
+        let d = region 0 0 in
+        let i = b .index in
+        let room = listed xs l ok .room in
+        let found = e ∙ so-far-at len b h in
+        let t = best-at measure len i (b .slack + len) d 0 (decode n xs) found in
+        let below : i < n = omega (arith, t .place, t .below, length-decode n xs room) in
+        let q : t .rel ≡ i = omega (arith, t .place) in
+        let g : getD (decode n xs) (t .rel) d ≡ b .region = ap (λ (k : ℕ). getD (decode n xs) k d) q ∙ decode-at n i xs d below room ∙ sym (reads h) in
+        subst⁻¹ (Finds measure xs l len) (is ∙ sym (found-at len b h))
+        (record { list = ok; room = room; below = below; got = reads h; suffices = omega (arith, t .suffices, t .spans, ap measure g); span = b .slack + len; is = found })

@@ -1,0 +1,155 @@
+-- Laws of `shares`, `insert` and `absorb`, from the regions that share a byte with a region. Assumes nothing.
+use mathlib.Core.Path.{_≡_, refl, sym, ap, ap₂, _∙_}
+use mathlib.Core.List.{List, [], _∷_, _++_}
+use mathlib.Core.Logic.{_⊎_, inl, inr}
+use mathlib.Core.Bool.{Bool, true, false, cond, _||_}
+use Prim.Native.Nat.{ℕ, zero, suc, _+_, _-_, _*_, _≤_, _<_, min, max}
+use native.Mathlib.Nat.{not-suc-le-zero, le-of-suc-le-suc}
+use native.Mathlib.Omega.{arith}
+use borrow.Author.Tests.{le-leb, lt-leb, lt-ltb, le-ltb}
+use lib.ListN.{length, take, drop, getD}
+use Rattle.error.proofs.TestLaws.{le-or-lt}
+use Rattle.fields.specs.Ranges.{top}
+use Rattle.free_space.specs.declared.region.FreeRegion.{FreeRegion}
+use Rattle.free_space.specs.declared.list.FreeList.{FreeList}
+use Rattle.free_space.specs.Regions.{region, end, meets, shares, join, absorb, insert}
+use Rattle.free_space.specs.Runs.{regionAt, decode, regions, isList}
+use Rattle.free_space.specs.Splices.{Apart}
+use Rattle.free_space.proofs.DecodeLaws.{decode-at, decode-drop, decode-end, length-decode}
+use Rattle.free_space.proofs.OkLaws.{Within, listed, region-fits}
+use Rattle.free_space.proofs.OrderLaws.{EndBefore, keep-prefix, rest-within, next-above, later, all-before}
+
+-- ---- `shares`
+
+module _ (new : FreeRegion) where
+  shares-in : (k : ℕ) (rs : List FreeRegion) (d : FreeRegion) → k < length rs → meets new (getD rs k d) ≡ true → shares new rs ≡ true
+  shares-in k [] d l e = absurd (not-suc-le-zero l)
+  shares-in zero (r ∷ rs) d l e = rw e
+  shares-in (suc k) (r ∷ rs) d l e = rw (shares-in k rs d (le-of-suc-le-suc l) e) (go (meets new r))
+    where
+      go : (t : Bool) → (t || true) ≡ true
+      go true = refl
+      go false = refl
+
+  shares-prefix : (i : ℕ) (rs : List FreeRegion) → EndBefore (suc (new .addr)) (take i rs) → shares new rs ≡ shares new (drop i rs)
+  shares-prefix zero rs h = refl
+  shares-prefix (suc i) [] h = refl
+  shares-prefix (suc i) (r ∷ rs) h =
+      let below = h .1 in
+      rw (le-ltb (max (new .addr) (r .addr)) (min (end new) (end r)) (omega arith)) (shares-prefix i rs (h .2))
+
+  shares-above : (low high : ℕ) (rs : List FreeRegion) → Within low high rs → end new ≤ low → shares new rs ≡ false
+  shares-above low high [] w h = refl
+  shares-above low high (r ∷ rs) w h =
+      let from = w .2 in
+      rw (le-ltb (max (new .addr) (r .addr)) (min (end new) (end r)) (omega arith)) (shares-above (suc (end r)) high rs (w .3) (omega arith))
+
+  -- an empty region shares no byte
+  pub shares-empty : (rs : List FreeRegion) → new .len ≡ 0 → shares new rs ≡ false
+  shares-empty [] z = refl
+  shares-empty (r ∷ rs) z = rw (le-ltb (max (new .addr) (r .addr)) (min (end new) (end r)) (omega arith)) (shares-empty rs z)
+
+module _ (xs : List ℕ) (l : FreeList) (new : FreeRegion) (some : 0 < new .len) where
+  pub shares-some : (lo hi : ℕ) → Apart xs l (new .addr) (end new) lo hi → lo < hi → shares new (regions xs l) ≡ true
+  shares-some lo hi apart h =
+      let ok = apart .list in
+      let room = listed xs l ok .room in
+      let within = apart .high .within in
+      let n : lo < l .count = omega arith in
+      let r = getD (regions xs l) lo (region 0 0) in
+      let e : r ≡ regionAt xs lo = decode-at (l .count) lo xs (region 0 0) n room in
+      let s = later xs l ok lo (hi - 1) (omega arith) (omega arith) in
+      let i = apart .high .inside h in
+      let p = apart .low .past n in
+      let f = region-fits xs l lo ok n in
+      shares-in new lo (regions xs l) (region 0 0) (omega (arith, length-decode (l .count) xs room))
+      (lt-ltb (max (new .addr) (r .addr)) (min (end new) (end r))
+      (omega (arith, ap end e, ap (λ (q : FreeRegion). q .addr) e, s .0, i, p, f .some)))
+
+  -- ---- `insert`, where no region shares a byte
+
+  module _ (i : ℕ) (apart : Apart xs l (new .addr) (end new) i i) where
+    ok : isList xs l ≡ true
+    ok = apart .list
+
+    pub shares-none : shares new (regions xs l) ≡ false
+    shares-none =
+        shares-prefix new i (regions xs l)
+        (all-before xs l ok (suc (new .addr)) i (apart .high .within) (λ m. let b = apart .low .below m in omega arith))
+        ∙ go (le-or-lt (l .count) i)
+      where
+        go : (l .count ≤ i) ⊎ (i < l .count) → shares new (drop i (regions xs l)) ≡ false
+        go (inl m) = ap (shares new) (decode-end (l .count) i xs m (listed xs l ok .room))
+        go (inr m) = shares-above new (regionAt xs i .addr) top (drop i (regions xs l)) (rest-within xs l ok i m) (apart .high .from m)
+
+    -- the region below does not touch
+    pub insert-apart : (0 < i → end (regionAt xs (i - 1)) ≡ new .addr → ⊥) → insert new (regions xs l) ≡ take i (regions xs l) ++ absorb new (drop i (regions xs l))
+    insert-apart h =
+        keep-prefix (insert new) (new .addr) (λ r t s k. rw (lt-ltb (end r) (new .addr) k)) i (regions xs l)
+        (all-before xs l ok (new .addr) i (apart .high .within) (λ m. let b = apart .low .below m in let n = h m in omega arith))
+        ∙ ap (λ (q : List FreeRegion). take i (regions xs l) ++ q) (go (le-or-lt (l .count) i))
+      where
+        go : (l .count ≤ i) ⊎ (i < l .count) → insert new (drop i (regions xs l)) ≡ absorb new (drop i (regions xs l))
+        go (inl m) = let z = decode-end (l .count) i xs m (listed xs l ok .room) in ap (insert new) z ∙ sym (ap (absorb new) z)
+        go (inr m) =
+            let r = regionAt xs i in
+            let z = decode-drop (l .count) i xs m (listed xs l ok .room) in
+            let p = apart .low .past m in
+            ap (insert new) z
+            ∙ ap (λ (b : Bool). cond b (r ∷ insert new (drop (i + 1) (regions xs l))) (absorb new (r ∷ drop (i + 1) (regions xs l)))) (le-ltb (end r) (new .addr) (omega arith))
+            ∙ sym (ap (absorb new) z)
+
+    -- the region below ends where the new one begins
+    pub insert-touch : 0 < i → (r : FreeRegion) → r ≡ regionAt xs (i - 1) → end r ≡ new .addr
+        → insert new (regions xs l) ≡ take (i - 1) (regions xs l) ++ absorb (region (r .addr) (r .len + new .len)) (drop i (regions xs l))
+    insert-touch m r is t =
+        let j = i - 1 in
+        let within = apart .high .within in
+        let k : j + 1 ≡ i = omega arith in
+        let z : drop j (regions xs l) ≡ r ∷ drop i (regions xs l) =
+        decode-drop (l .count) j xs (omega arith) (listed xs l ok .room) ∙ ap₂ (λ (q : FreeRegion) (u : ℕ). q ∷ drop u (regions xs l)) (sym is) k in
+        let joined : join new r ≡ region (r .addr) (r .len + new .len) =
+        ap₂ region (let g : min (new .addr) (r .addr) ≡ r .addr = omega arith in g)
+        (let g : max (end new) (end r) - min (new .addr) (r .addr) ≡ r .len + new .len = omega arith in g) in
+        keep-prefix (insert new) (new .addr) (λ r t s k. rw (lt-ltb (end r) (new .addr) k)) j (regions xs l)
+        (all-before xs l ok (new .addr) j (omega arith) lower)
+        ∙ ap (λ (q : List FreeRegion). take j (regions xs l) ++ q)
+        (ap (insert new) z
+        ∙ ap (λ (b : Bool). cond b (r ∷ insert new (drop i (regions xs l))) (absorb new (r ∷ drop i (regions xs l)))) (le-ltb (end r) (new .addr) (omega arith))
+        ∙ ap (λ (b : Bool). cond b (absorb (join new r) (drop i (regions xs l))) (new ∷ r ∷ drop i (regions xs l))) (le-leb (r .addr) (end new) (omega arith))
+        ∙ ap (λ (q : FreeRegion). absorb q (drop i (regions xs l))) joined)
+      where
+        lower : 0 < i - 1 → end (regionAt xs (i - 1 - 1)) < new .addr
+        lower p =
+            let within = apart .high .within in
+            let n = next-above xs l ok (i - 1 - 1) (omega arith) in
+            let k : i - 1 - 1 + 1 ≡ i - 1 = omega arith in
+            omega (arith, n, ap (λ (u : ℕ). regionAt xs u .addr) k, ap (λ (q : FreeRegion). q .addr) is, t)
+
+-- ---- `absorb`, where the regions from i on begin at the end or above
+
+module _ (xs : List ℕ) (l : FreeList) (ok : isList xs l ≡ true) where
+  pub absorb-apart : (new : FreeRegion) (i : ℕ) → (i < l .count → end new < regionAt xs i .addr) → absorb new (drop i (regions xs l)) ≡ new ∷ drop i (regions xs l)
+  absorb-apart new i h = go (le-or-lt (l .count) i)
+    where
+      go : (l .count ≤ i) ⊎ (i < l .count) → absorb new (drop i (regions xs l)) ≡ new ∷ drop i (regions xs l)
+      go (inl m) = let z = decode-end (l .count) i xs m (listed xs l ok .room) in ap (absorb new) z ∙ ap (λ (q : List FreeRegion). new ∷ q) (sym z)
+      go (inr m) =
+          let r = regionAt xs i in
+          let z = decode-drop (l .count) i xs m (listed xs l ok .room) in
+          ap (absorb new) z
+          ∙ ap (λ (b : Bool). cond b (absorb (join new r) (drop (i + 1) (regions xs l))) (new ∷ r ∷ drop (i + 1) (regions xs l))) (lt-leb (r .addr) (end new) (h m))
+          ∙ ap (λ (q : List FreeRegion). new ∷ q) (sym z)
+
+  pub absorb-touch : (new : FreeRegion) (i : ℕ) (r : FreeRegion) → i < l .count → r ≡ regionAt xs i → end new ≡ r .addr
+      → absorb new (drop i (regions xs l)) ≡ region (new .addr) (new .len + r .len) ∷ drop (i + 1) (regions xs l)
+  absorb-touch new i r m is t =
+      let z : drop i (regions xs l) ≡ r ∷ drop (i + 1) (regions xs l) =
+      decode-drop (l .count) i xs m (listed xs l ok .room) ∙ ap (λ (q : FreeRegion). q ∷ drop (i + 1) (regions xs l)) (sym is) in
+      let joined : join new r ≡ region (new .addr) (new .len + r .len) =
+      ap₂ region (let g : min (new .addr) (r .addr) ≡ new .addr = omega arith in g)
+      (let g : max (end new) (end r) - min (new .addr) (r .addr) ≡ new .len + r .len = omega arith in g) in
+      ap (absorb new) z
+      ∙ ap (λ (b : Bool). cond b (absorb (join new r) (drop (i + 1) (regions xs l))) (new ∷ r ∷ drop (i + 1) (regions xs l))) (le-leb (r .addr) (end new) (omega arith))
+      ∙ ap (λ (q : FreeRegion). absorb q (drop (i + 1) (regions xs l))) joined
+      ∙ absorb-apart (region (new .addr) (new .len + r .len)) (i + 1) (λ k. let n = next-above xs l ok i k in omega (arith, n, ap end is, t))

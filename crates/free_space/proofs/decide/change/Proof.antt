@@ -1,0 +1,44 @@
+use mathlib.Core.Path.{_≡_, ap, _∙_}
+use Prim.Native.Nat.{ℕ, _+_, _-_, _/_}
+use native.Mathlib.Omega.{arith}
+use borrow.Author.Needs.{needs}
+use lib.ListN.{length}
+use denote.Ref.{now}
+use Rattle.error.specs.declared.Refusal.the-variants.{OverCapacity}
+use Rattle.free_space.specs.declared.decide.Decision.the-variants.{Refused}
+use Rattle.free_space.proofs.SpliceLaws.{fitted-full, fitted-is}
+use Rattle.free_space.proofs.decide.change.Statement.{statement}
+use Rattle.free_space.proofs.decide.change.Tie as tie
+
+patch-len-requires : tie.Need-patch-len-requires
+patch-len-requires c κs = search needs
+
+add-needed : tie.Need-add-needed
+add-needed c = omega (arith, c .patch-len .ensures .1)
+
+sub-needed : tie.Need-sub-needed
+sub-needed c = search needs
+
+add-needed-2 : tie.Need-add-needed-2
+add-needed-2 c = omega (arith, c .before .patch-len .ensures .1)
+
+returns : tie.Need-returns
+returns c =
+    let a = c .before .before .before .before .args in
+    let k = c .before .before .patch-len in
+    let given = length (now (a .run)) / 2 in (
+      ap (λ (m : ℕ). Refused (OverCapacity (a .lo + m + (a .list .count - a .hi)) given)) (k .ensures .0)
+          ∙ fitted-full given (a .list .count) (a .addr) (a .lo) (a .hi) (a .p) (omega arith),
+      tt,
+    )
+
+returns-2 : tie.Need-returns-2
+returns-2 c =
+    let a = c .before .before .before .before .args in
+    let k = c .before .before .patch-len in
+    let given = length (now (a .run)) / 2 in
+    (fitted-is given (a .list .count) (a .addr) (a .lo) (a .hi) (a .p) (omega arith), (omega arith, omega arith, omega arith, omega arith))
+
+pub change-spec : {M : Type 1} → statement M
+change-spec =
+    tie.close (tie.spec patch-len-requires add-needed sub-needed add-needed-2 returns returns-2)

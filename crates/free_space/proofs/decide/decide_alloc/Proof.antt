@@ -1,0 +1,76 @@
+use mathlib.Core.Path.{sym, ap, _∙_, subst}
+use native.Mathlib.Omega.{arith}
+use borrow.Author.Needs.{needs}
+use denote.Ref.{now}
+use Rattle.free_space.specs.Calls.{serve}
+use Rattle.free_space.specs.Searches.{Finds}
+use Rattle.free_space.specs.Decisions.{givenBy}
+use Rattle.free_space.proofs.AnswerLaws.{serve-at, alloc-bad, alloc-zero, alloc-else}
+use Rattle.free_space.proofs.decide.decide_alloc.Statement.{statement}
+use Rattle.free_space.proofs.decide.decide_alloc.Tie as tie
+
+if-list-requires : tie.Need-if-list-requires
+if-list-requires c κs = search needs
+
+returns : tie.Need-returns
+returns c =
+    let a = c .before .before .before .args in
+    let xs = now (a .run) in
+    (ap (givenBy xs (a .list)) (c .if-list .ensures .0) ∙ alloc-zero xs (a .list) (a .len) (c .before .if1 .taken), c .if-list .ensures .1)
+
+best-fit-requires : tie.Need-best-fit-requires
+best-fit-requires c κs = search needs
+
+enum-told : tie.Need-enum-told
+enum-told c = search needs
+
+enum-told-2 : tie.Need-enum-told-2
+enum-told-2 c = search needs
+
+enum-known-s : tie.Need-enum-known-s
+enum-known-s c = search needs
+
+take-part-requires : tie.Need-take-part-requires
+take-part-requires c κs =
+    let a = c .before .before .before .before .before .before .args in
+    let f = subst (Finds (λ r. r .len) (now (a .run)) (a .list) (a .len)) (c .before .s .given .1) (c .before .before .before .best-fit .ensures) in
+    (f .list, f .below, f .got, omega (arith, f .suffices))
+
+returns-2 : tie.Need-returns-2
+returns-2 c =
+    let a = c .before .before .before .before .before .args in
+    let xs = now (a .run) in
+    (alloc-bad xs (a .list) (a .len) (subst (Finds (λ r. r .len) xs (a .list) (a .len)) (c .enum-told .given .1) (c .before .before .best-fit .ensures)), tt)
+
+returns-3 : tie.Need-returns-3
+returns-3 c =
+    let a = c .before .before .before .before .before .args in
+    let xs = now (a .run) in
+    let f = subst (Finds (λ r. r .len) xs (a .list) (a .len)) (c .enum-told2 .given .1) (c .before .before .best-fit .ensures) in
+    (sym (ap (serve (λ r. r .addr) xs (a .list) (a .len)) (f .1)) ∙ alloc-else xs (a .list) (a .len) (f .0) (c .before .before .before .if1 .left), tt)
+
+returns-4 : tie.Need-returns-4
+returns-4 c =
+    let a = c .before .before .before .before .before .before .before .args in
+    let xs = now (a .run) in
+    let f = subst (Finds (λ r. r .len) xs (a .list) (a .len)) (c .before .before .s .given .1) (c .before .before .before .before .best-fit .ensures) in (
+      c .take-part .ensures .0
+          ∙ serve-at (λ r. r .addr) xs (a .list) (a .len) _ (f .span) _ _ (f .below) (f .room) (f .got) (f .is)
+          ∙ alloc-else xs (a .list) (a .len) (f .list) (c .before .before .before .before .before .if1 .left),
+      c .take-part .ensures .1,
+    )
+
+pub decide-alloc-spec : {M : Type 1} → statement M
+decide-alloc-spec =
+    tie.close
+    (tie.spec
+    if-list-requires
+    returns
+    best-fit-requires
+    enum-told
+    enum-told-2
+    enum-known-s
+    take-part-requires
+    returns-2
+    returns-3
+    returns-4)

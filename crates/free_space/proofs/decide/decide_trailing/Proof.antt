@@ -1,0 +1,97 @@
+use mathlib.Core.Path.{_≡_, sym, ap, _∙_}
+use Prim.Native.Nat.{_-_}
+use native.Mathlib.Omega.{arith}
+use borrow.Author.Needs.{needs}
+use borrow.Author.Tests.{not-true, not-false}
+use denote.Ref.{now}
+use Rattle.free_space.specs.declared.decide.Decision.{Decision}
+use Rattle.free_space.specs.declared.run.Patch.the-variants.{Empty}
+use Rattle.free_space.specs.Decisions.{givenBy}
+use Rattle.free_space.proofs.OkLaws.{listed}
+use Rattle.free_space.proofs.CheckLaws.{read-fits}
+use Rattle.free_space.proofs.SpliceLaws.{given-fitted}
+use Rattle.free_space.proofs.AnswerLaws.{trailing-bad, trailing-none, trailing-other, trailing-last}
+use Rattle.free_space.proofs.decide.decide_trailing.Statement.{statement}
+use Rattle.free_space.proofs.decide.decide_trailing.Tie as tie
+
+is-list-requires : tie.Need-is-list-requires
+is-list-requires c κs = search needs
+
+returns : tie.Need-returns
+returns c =
+    let a = c .before .before .before .args in
+    let t = c .before .is-list in
+    (trailing-bad (now (a .run)) (a .list) (a .eof) (sym (t .ensures) ∙ not-true (t .result) (c .if1 .taken)), tt)
+
+returns-2 : tie.Need-returns-2
+returns-2 c =
+    let a = c .before .before .before .before .args in
+    let t = c .before .before .is-list in
+    (trailing-none (now (a .run)) (a .list) (a .eof) (sym (t .ensures) ∙ not-false (t .result) (c .before .if1 .left)) (c .if2 .taken), tt)
+
+sub-region-at : tie.Need-sub-region-at
+sub-region-at c = search needs
+
+region-at-requires : tie.Need-region-at-requires
+region-at-requires c κs =
+    let a = c .before .before .before .before .args in
+    let t = c .before .before .is-list in
+    let room = listed (now (a .run)) (a .list) (sym (t .ensures) ∙ not-false (t .result) (c .before .if1 .left)) .room in
+    omega arith
+
+add-if3 : tie.Need-add-if3
+add-if3 c =
+    let a = c .before .before .before .before .before .before .args in
+    let t = c .before .before .before .before .is-list in
+    let ok = sym (t .ensures) ∙ not-false (t .result) (c .before .before .before .if1 .left) in
+    let g = c .before .region-at in
+    let f = read-fits (now (a .run)) (a .list) (a .list .count - 1) (g .result) ok (omega arith) (g .ensures) in
+    omega arith
+
+returns-3 : tie.Need-returns-3
+returns-3 c =
+    let a = c .before .before .before .before .before .before .before .args in
+    let t = c .before .before .before .before .before .is-list in
+    let g = c .before .before .region-at in
+    let ok = sym (t .ensures) ∙ not-false (t .result) (c .before .before .before .before .if1 .left) in
+    (trailing-other (now (a .run)) (a .list) (a .eof) ok (c .before .before .before .if2 .left) (g .result) (g .ensures) (c .if3 .taken), tt)
+
+sub-change : tie.Need-sub-change
+sub-change c = search needs
+
+change-requires : tie.Need-change-requires
+change-requires c κs =
+    let a = c .before .before .before .before .before .before .before .args in
+    let t = c .before .before .before .before .before .is-list in
+    let room = listed (now (a .run)) (a .list) (sym (t .ensures) ∙ not-false (t .result) (c .before .before .before .before .if1 .left)) .room in
+    (omega arith, omega arith, room)
+
+returns-4 : tie.Need-returns-4
+returns-4 c =
+    let a = c .before .before .before .before .before .before .before .before .args in
+    let t = c .before .before .before .before .before .before .is-list in
+    let g = c .before .before .before .region-at in
+    let xs = now (a .run) in
+    let l = a .list in
+    let ok = sym (t .ensures) ∙ not-false (t .result) (c .before .before .before .before .before .if1 .left) in
+    let room = listed xs l ok .room in (
+      ap (givenBy xs l) (c .change .ensures .0)
+          ∙ given-fitted xs l (g .result .addr) _ (l .count) Empty (omega arith) (omega arith) room
+          ∙ trailing-last xs l (a .eof) ok (c .before .before .before .before .if2 .left) (g .result) (g .ensures) (c .before .if3 .left),
+      c .change .ensures .1,
+    )
+
+pub decide-trailing-spec : {M : Type 1} → statement M
+decide-trailing-spec =
+    tie.close
+    (tie.spec
+    is-list-requires
+    returns
+    returns-2
+    sub-region-at
+    region-at-requires
+    add-if3
+    returns-3
+    sub-change
+    change-requires
+    returns-4)

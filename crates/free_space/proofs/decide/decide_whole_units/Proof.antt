@@ -1,0 +1,100 @@
+use mathlib.Core.Path.{sym, ap, _∙_, subst}
+use native.Mathlib.Omega.{arith}
+use borrow.Author.Needs.{needs}
+use denote.Ref.{now}
+use Rattle.free_space.specs.Units.{interiorStart, interiorSpan}
+use Rattle.free_space.specs.Calls.{serve}
+use Rattle.free_space.specs.Searches.{Finds}
+use Rattle.free_space.specs.Decisions.{givenBy}
+use Rattle.free_space.proofs.AnswerLaws.{serve-at, units-bad, units-part, units-zero, units-else}
+use Rattle.free_space.proofs.decide.decide_whole_units.Statement.{statement}
+use Rattle.free_space.proofs.decide.decide_whole_units.Tie as tie
+
+is-part-requires : tie.Need-is-part-requires
+is-part-requires c κs = search needs
+
+if-list-requires : tie.Need-if-list-requires
+if-list-requires c κs = search needs
+
+returns : tie.Need-returns
+returns c =
+    let a = c .before .before .before .before .args in
+    let xs = now (a .run) in (
+      ap (givenBy xs (a .list)) (c .if-list .ensures .0) ∙ units-part xs (a .list) (a .len) (a .unit) (sym (c .before .before .is-part .ensures) ∙ c .before .if1 .taken),
+      c .if-list .ensures .1,
+    )
+
+if-list-requires-2 : tie.Need-if-list-requires-2
+if-list-requires-2 c κs = search needs
+
+returns-2 : tie.Need-returns-2
+returns-2 c =
+    let a = c .before .before .before .before .before .args in
+    let xs = now (a .run) in (
+      ap (givenBy xs (a .list)) (c .if-list2 .ensures .0)
+          ∙ units-zero xs (a .list) (a .len) (a .unit) (sym (c .before .before .before .is-part .ensures) ∙ c .before .before .if1 .left) (c .before .if2 .taken),
+      c .if-list2 .ensures .1,
+    )
+
+best-units-requires : tie.Need-best-units-requires
+best-units-requires c κs = search needs
+
+enum-told : tie.Need-enum-told
+enum-told c = search needs
+
+enum-told-2 : tie.Need-enum-told-2
+enum-told-2 c = search needs
+
+enum-known-s : tie.Need-enum-known-s
+enum-known-s c = search needs
+
+take-units-requires : tie.Need-take-units-requires
+take-units-requires c κs =
+    let a = c .before .before .before .before .before .before .before .before .args in
+    let f = subst (Finds (interiorSpan (a .unit)) (now (a .run)) (a .list) (a .len)) (c .before .s .given .1) (c .before .before .before .best-units .ensures) in
+    (f .list, f .below, f .got, omega (arith, c .before .before .before .before .if2 .left), f .suffices)
+
+returns-3 : tie.Need-returns-3
+returns-3 c =
+    let a = c .before .before .before .before .before .before .before .args in
+    let xs = now (a .run) in
+    (units-bad xs (a .list) (a .len) (a .unit) (subst (Finds (interiorSpan (a .unit)) xs (a .list) (a .len)) (c .enum-told .given .1) (c .before .before .best-units .ensures)), tt)
+
+returns-4 : tie.Need-returns-4
+returns-4 c =
+    let a = c .before .before .before .before .before .before .before .args in
+    let xs = now (a .run) in
+    let f = subst (Finds (interiorSpan (a .unit)) xs (a .list) (a .len)) (c .enum-told2 .given .1) (c .before .before .best-units .ensures) in (
+      sym (ap (serve (interiorStart (a .unit)) xs (a .list) (a .len)) (f .1))
+          ∙ units-else xs (a .list) (a .len) (a .unit) (sym (c .before .before .before .before .before .is-part .ensures) ∙ c .before .before .before .before .if1 .left) (f .0) (c .before .before .before .if2 .left),
+      tt,
+    )
+
+returns-5 : tie.Need-returns-5
+returns-5 c =
+    let a = c .before .before .before .before .before .before .before .before .before .args in
+    let xs = now (a .run) in
+    let f = subst (Finds (interiorSpan (a .unit)) xs (a .list) (a .len)) (c .before .before .s .given .1) (c .before .before .before .before .best-units .ensures) in (
+      c .take-units .ensures .0
+          ∙ serve-at (interiorStart (a .unit)) xs (a .list) (a .len) _ (f .span) _ _ (f .below) (f .room) (f .got) (f .is)
+          ∙ units-else xs (a .list) (a .len) (a .unit) (sym (c .before .before .before .before .before .before .before .is-part .ensures) ∙ c .before .before .before .before .before .before .if1 .left) (f .list) (c .before .before .before .before .before .if2 .left),
+      c .take-units .ensures .1,
+    )
+
+pub decide-whole-units-spec : {M : Type 1} → statement M
+decide-whole-units-spec =
+    tie.close
+    (tie.spec
+    is-part-requires
+    if-list-requires
+    returns
+    if-list-requires-2
+    returns-2
+    best-units-requires
+    enum-told
+    enum-told-2
+    enum-known-s
+    take-units-requires
+    returns-3
+    returns-4
+    returns-5)

@@ -1,0 +1,25 @@
+use mathlib.Core.Path.{refl}
+use mathlib.Core.Logic.{inl, inr}
+use native.Mathlib.Omega.{arith}
+use borrow.Author.Needs.{needs}
+use Rattle.free_space.proofs.FitLaws.{better-new, better-old}
+use Rattle.free_space.proofs.fit.better_of.Statement.{statement}
+use Rattle.free_space.proofs.fit.better_of.Tie as tie
+
+wrapping-sub-u64-requires : tie.Need-wrapping-sub-u64-requires
+wrapping-sub-u64-requires c κs = search needs
+
+returns : tie.Need-returns
+returns c =
+    let a = c .before .before .before .args in
+    let s = c .before .before .wrapping-sub-u64 in
+    (better-new (a .len) (a .i) (a .span) (s .result) (a .r) (a .b) (omega arith) (omega arith) (omega arith) (omega arith) (s .ensures) (c .if1 .taken), inr (refl, refl))
+
+returns-2 : tie.Need-returns-2
+returns-2 c =
+    let a = c .before .before .before .args in
+    let s = c .before .before .wrapping-sub-u64 in
+    (better-old (a .len) (a .i) (a .span) (s .result) (a .r) (a .b) (omega arith) (omega arith) (omega arith) (omega arith) (s .ensures) (omega arith), inl refl)
+
+pub better-of-spec : {M : Type 1} → statement M
+better-of-spec = tie.close (tie.spec wrapping-sub-u64-requires returns returns-2)

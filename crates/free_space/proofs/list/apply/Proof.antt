@@ -1,0 +1,44 @@
+use mathlib.Core.Path.{_≡_, sym, ap, _∙_}
+use Prim.Native.Nat.{ℕ, _+_, _-_}
+use native.Mathlib.Omega.{arith}
+use denote.Ref.{now}
+use Rattle.free_space.specs.declared.list.FreeList.{FreeList}
+use Rattle.free_space.specs.Splices.{patch}
+use Rattle.free_space.proofs.DecodeLaws.{length-spliced}
+use borrow.Author.Needs.{needs}
+use Rattle.free_space.proofs.list.apply.Statement.{statement}
+use Rattle.free_space.proofs.list.apply.Tie as tie
+
+patch-len-requires : tie.Need-patch-len-requires
+patch-len-requires c κs = search needs
+
+replace-requires : tie.Need-replace-requires
+replace-requires c κs = search needs
+
+add-t11 : tie.Need-add-t11
+add-t11 c = search needs
+
+sub-t12 : tie.Need-sub-t12
+sub-t12 c = search needs
+
+add-t13 : tie.Need-add-t13
+add-t13 c = search needs
+
+same-length : tie.Need-same-length
+same-length c = search needs
+
+returns : tie.Need-returns
+returns c =
+    let a = c .before .before .before .before .before .before .args in
+    let k = c .before .before .before .before .patch-len in
+    let n = a .list .count in
+    let record-of : ℕ → FreeList = λ m. record { count = m } in (
+      ap (λ (m : ℕ). record-of (a .lo + m + (n - a .hi))) (k .ensures .0)
+          ∙ ap record-of (sym (length-spliced (now (a .run)) n (a .lo) (a .hi) (patch (a .p)) (omega arith) (omega arith) (omega arith))),
+      c .before .before .replace .ensures,
+    )
+
+pub apply-spec : {M : Type 1} → statement M
+apply-spec =
+    tie.close
+    (tie.spec patch-len-requires replace-requires add-t11 sub-t12 add-t13 same-length returns)

@@ -1,0 +1,55 @@
+use mathlib.Core.Path.{ap, subst}
+use Prim.Native.Nat.{ℕ}
+use borrow.Author.Needs.{needs}
+use denote.Ref.{now}
+use Rattle.free_space.specs.Regions.{best}
+use Rattle.free_space.specs.Runs.{decode}
+use Rattle.free_space.specs.Units.{interiorSpan}
+use Rattle.free_space.specs.Splices.{Begins}
+use Rattle.free_space.proofs.units.best_units.Statement.{statement}
+use Rattle.free_space.proofs.units.best_units.Tie as tie
+
+first-region-requires : tie.Need-first-region-requires
+first-region-requires c κs = search needs
+
+enum-told : tie.Need-enum-told
+enum-told c = search needs
+
+enum-told-2 : tie.Need-enum-told-2
+enum-told-2 c = search needs
+
+enum-known-h : tie.Need-enum-known-h
+enum-known-h c = search needs
+
+units-after-requires : tie.Need-units-after-requires
+units-after-requires c κs =
+    let a = c .before .before .before .before .before .args in
+    (subst (Begins (now (a .run)) (a .list)) (c .before .h .given .1) (c .before .before .before .first-region .ensures), c .before .before .before .before .before .pre)
+
+returns : tie.Need-returns
+returns c =
+    let a = c .before .before .before .before .args in
+    subst (Begins (now (a .run)) (a .list)) (c .enum-told .given .1) (c .before .before .first-region .ensures)
+
+returns-2 : tie.Need-returns-2
+returns-2 c =
+    let a = c .before .before .before .before .args in
+    let xs = now (a .run) in
+    let h = subst (Begins xs (a .list)) (c .enum-told2 .given .1) (c .before .before .first-region .ensures) in
+    (h .0, ap (λ (n : ℕ). best (interiorSpan (a .unit)) (a .len) 0 (decode n xs)) (h .1))
+
+returns-3 : tie.Need-returns-3
+returns-3 c = c .units-after .ensures
+
+pub best-units-spec : {M : Type 1} → statement M
+best-units-spec =
+    tie.close
+    (tie.spec
+    first-region-requires
+    enum-told
+    enum-told-2
+    enum-known-h
+    units-after-requires
+    returns
+    returns-2
+    returns-3)

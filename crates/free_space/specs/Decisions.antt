@@ -1,0 +1,55 @@
+-- What a decision stands for: a call decides first, and then carries its decision out. Assumes nothing.
+--   fitted     a change, where the run has room for the regions that it leaves; else refusal 14
+--   partUnit   a length that is no multiple of its nonzero unit
+--   ifList     a decision, or refusal 3 where the test for it fails
+--   givenBy    the outcome of a decision, for a call that gives an address out
+--   keptBy     the same for one that gives nothing out
+--   Apt        a decision that can be carried out
+use Prim.Native.Nat.{ℕ, _+_, _-_, _*_, _%_, _≤_}
+use mathlib.Core.Bool.{Bool, cond, _&&_, not}
+use mathlib.Core.List.{List}
+use lib.Dec.{ltb, eqb}
+use lib.ListN.{length}
+use Rattle.error.specs.declared.Refusal.the-variants.{NotAList, OverCapacity}
+use Rattle.error.specs.Outcome.{Outcome, answer, nothing, refused}
+use Rattle.error.specs.Lent.{With, with}
+use Rattle.free_space.specs.declared.region.FreeRegion.{FreeRegion}
+use Rattle.free_space.specs.declared.list.FreeList.{FreeList}
+use Rattle.free_space.specs.declared.run.Patch.{Patch}
+use Rattle.free_space.specs.declared.decide.Decision.{Decision}
+use Rattle.free_space.specs.declared.decide.Decision.the-variants.{Refused, Nothing, Change}
+use Rattle.free_space.specs.Regions.{spliced}
+use Rattle.free_space.specs.Runs.{recordOf, regions, stored}
+use Rattle.free_space.specs.Calls.{Gave, giving, keeping}
+use Rattle.free_space.specs.Splices.{patch}
+
+abbrev pub fitted : ℕ → ℕ → ℕ → ℕ → ℕ → Patch → Decision
+fitted given n a lo hi p =
+    let needed = lo + length (patch p) + (n - hi) in
+    cond (ltb given needed) (Refused (OverCapacity needed given)) (Change a lo hi p)
+
+abbrev pub partUnit : ℕ → ℕ → Bool
+partUnit len unit = not (eqb unit 0) && not (eqb (len % unit) 0)
+
+abbrev pub ifList : Bool → Decision → Decision
+ifList isList d = cond isList d (Refused NotAList)
+
+-- these regions are left
+abbrev pub leave : {A : Type 0} → (FreeList → A) → List ℕ → FreeList → List FreeRegion → Outcome (With A (List ℕ))
+leave give xs l rs = answer (with (give (recordOf rs)) (stored xs (l .count) rs))
+
+abbrev pub givenBy : List ℕ → FreeList → Decision → Outcome (With Gave (List ℕ))
+givenBy xs l (Refused r) = refused r
+givenBy xs l Nothing = nothing
+givenBy xs l (Change a lo hi p) = leave (giving a) xs l (spliced (regions xs l) lo hi (patch p))
+
+abbrev pub keptBy : List ℕ → FreeList → Decision → Outcome (With FreeList (List ℕ))
+keptBy xs l (Refused r) = refused r
+keptBy xs l Nothing = answer (with l xs)
+keptBy xs l (Change a lo hi p) = leave keeping xs l (spliced (regions xs l) lo hi (patch p))
+
+abbrev pub Apt : List ℕ → FreeList → Decision → Type 0
+Apt xs l (Refused r) = Unit {0}
+Apt xs l Nothing = Unit {0}
+Apt xs l (Change a lo hi p) =
+    (lo ≤ hi) × (hi ≤ l .count) × (2 * l .count ≤ length xs) × (2 * (lo + length (patch p) + (l .count - hi)) ≤ length xs)

@@ -1,0 +1,77 @@
+-- What the contracts of the questions' private functions say. Assumes nothing.
+--   measureOf     what counts of a region: its length, or that of its aligned interior
+--   greatestOf    the greatest measure of the regions of a list; refusal 3
+--   apart         refusals 3 and 5 of three lists that are given together
+--   together      the outcome of testing for these refusals alone
+--   InOrder       the first n pairs of a run are regions in order, each after the end of the one before with a gap
+--   AllInOrder    the same of three runs
+--   remaining     the regions that the walk has not come to
+--   height        one above the address of the last of n regions, 0 for none
+--   Next          the walk's next region, and the cursors after it
+--   Onward        what the code reached: the next region, or none remains
+use Prim.Native.Nat.{ℕ, zero, suc, _+_, _*_, _≤_, _<_}
+use mathlib.Core.Path.{_≡_}
+use mathlib.Core.Bool.{true, _&&_, not}
+use mathlib.Core.List.{List, [], _∷_, _++_}
+use lib.ListN.{length}
+use Rattle.error.specs.declared.Refusal.the-variants.{NotAList, SharedAddress}
+use Rattle.error.specs.Outcome.{Outcome, answer, Condition, when, firstOf}
+use Rattle.fields.specs.Ranges.{top}
+use Rattle.free_space.specs.declared.list.FreeList.{FreeList}
+use Rattle.free_space.specs.declared.region.FreeRegion.{FreeRegion}
+use Rattle.free_space.specs.declared.questions.Measure.{Measure}
+use Rattle.free_space.specs.declared.questions.Measure.the-variants.{Length, Units}
+use Rattle.free_space.specs.declared.questions.Cursors.{Cursors}
+use Rattle.free_space.specs.declared.questions.Reached.{Reached}
+use Rattle.free_space.specs.declared.questions.Reached.the-variants.{At, Nothing}
+use Rattle.free_space.specs.Regions.{end, okFrom}
+use Rattle.free_space.specs.Runs.{regionAt, decode, regions, isList}
+use Rattle.free_space.specs.Units.{interiorSpan}
+use Rattle.free_space.specs.Calls.{notList}
+use Rattle.free_space.specs.Questions.{greatest, falling, sharedAmong}
+
+abbrev pub measureOf : Measure → FreeRegion → ℕ
+measureOf Length = λ r. r .len
+measureOf (Units u) = interiorSpan u
+
+abbrev pub greatestOf : Measure → List ℕ → FreeList → Outcome ℕ
+greatestOf what xs l = firstOf (notList xs l ∷ []) (answer (greatest (measureOf what) (regions xs l)))
+
+-- ---- three lists
+
+abbrev pub apart : List ℕ → FreeList → List ℕ → FreeList → List ℕ → FreeList → List Condition
+apart xs k ys l zs m =
+    when (not (isList xs k && (isList ys l && isList zs m))) NotAList
+    ∷ when (sharedAmong (regions xs k) (regions ys l) (regions zs m)) SharedAddress
+    ∷ []
+
+abbrev pub together : List ℕ → FreeList → List ℕ → FreeList → List ℕ → FreeList → Outcome (Unit {0})
+together xs k ys l zs m = firstOf (apart xs k ys l zs m) (answer tt)
+
+pub record InOrder (xs : List ℕ) (n : ℕ) : Type 0 where
+  pub room : 2 * n ≤ length xs
+  pub ok : okFrom 0 (decode n xs) ≡ true
+
+pub record AllInOrder (xs ys zs : List ℕ) (at : Cursors) : Type 0 where
+  pub meta : InOrder xs (at .meta)
+  pub raw : InOrder ys (at .raw)
+  pub unclassified : InOrder zs (at .unclassified)
+
+-- ---- the walk
+
+abbrev pub remaining : List ℕ → List ℕ → List ℕ → Cursors → List FreeRegion
+remaining xs ys zs at = decode (at .meta) xs ++ (decode (at .raw) ys ++ decode (at .unclassified) zs)
+
+abbrev pub height : ℕ → List ℕ → ℕ
+height zero xs = 0
+height (suc n) xs = suc (regionAt xs n .addr)
+
+pub record Next (xs ys zs : List ℕ) (at : Cursors) (r : FreeRegion) (rest : Cursors) : Type 0 where
+  pub first : falling (remaining xs ys zs at) ≡ r ∷ falling (remaining xs ys zs rest)
+  pub within : end r ≤ top
+  pub fewer : rest .meta + (rest .raw + rest .unclassified) < at .meta + (at .raw + at .unclassified)
+  pub order : AllInOrder xs ys zs rest
+
+abbrev pub Onward : List ℕ → List ℕ → List ℕ → Cursors → Reached → Type 0
+Onward xs ys zs at Nothing = remaining xs ys zs at ≡ []
+Onward xs ys zs at (At r rest) = Next xs ys zs at r rest

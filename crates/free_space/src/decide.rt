@@ -1,0 +1,259 @@
+// What each call decides before anything changes: a refusal, Nothing, or which regions to replace by which.
+ghost use mathlib.Core.Path.{_≡_};
+ghost use mathlib.Core.Bool.{true};
+ghost use mathlib.Core.List.{_++_};
+ghost use Prim.Native.Nat.{_+_, _-_, _*_, _<_, _≤_};
+ghost use lib.ListN.{length};
+ghost use Rattle.free_space.specs.Regions.{end, piece, cutAll};
+ghost use Rattle.free_space.specs.Runs.{capacity, regionAt, regions, isList};
+ghost use Rattle.free_space.specs.Units.{interiorStart, interiorSpan};
+ghost use Rattle.free_space.specs.Calls.{placed, keeping, giving, taken, allocated, allocatedUnits, freed, rangeTaken, trailingTaken};
+ghost use Rattle.free_space.specs.Splices.{Apart, patch};
+ghost use Rattle.free_space.specs.Decisions.{fitted, partUnit, ifList, givenBy, keptBy, Apt};
+use crate::check::is_list;
+use crate::fit::Search;
+use crate::fit::best_fit;
+use crate::join::put_between;
+use crate::list::FreeList;
+use crate::meet::Meet;
+use crate::meet::meeting;
+use crate::region::FreeRegion;
+use crate::run::Patch;
+use crate::run::patch_len;
+use crate::run::region_at;
+use crate::units::best_units;
+use crate::units::whole_units;
+use error::Refusal;
+
+pub(crate) enum Decision {
+    Refused(Refusal),
+    // The list stays as it is, and no address is given out.
+    Nothing,
+    // The regions from `lo` up to `hi` are replaced; `addr` is the first of the bytes that the call is about.
+    Change {
+        addr: u64,
+        lo: usize,
+        hi: usize,
+        patch: Patch,
+    },
+}
+
+// A change, if the run has room for the regions that it leaves.
+pub(crate) fn change(
+    run: &[u64],
+    list: FreeList,
+    addr: u64,
+    lo: usize,
+    hi: usize,
+    p: Patch,
+) -> Decision
+    requires { ⌜ (lo ≤ hi) × (hi ≤ list .count) × (2 * list .count ≤ length (now run)) ⌝ }
+    ensures { λ d. ⌜ (d ≡ fitted (capacity (now (run .entry))) (list .count) addr lo hi p) × Apt (now (run .entry)) list d ⌝ }
+{
+    let needed = lo + patch_len(p) + (list.count - hi);
+    let given = run.len() / 2;
+    if given < needed {
+        return Decision::Refused(Refusal::OverCapacity {
+            needed: needed as u64,
+            given: given as u64,
+        });
+    }
+    Decision::Change {
+        addr: addr,
+        lo: lo,
+        hi: hi,
+        patch: p,
+    }
+}
+
+// A decision that looks at no region, after the test for refusal 3.
+fn if_list(run: &[u64], list: FreeList, d: Decision) -> Decision
+    requires { ⌜ Apt (now run) list d ⌝ }
+    ensures { λ r. ⌜ (r ≡ ifList (isList (now (run .entry)) list) d) × Apt (now (run .entry)) list r ⌝ }
+{
+    if is_list(run, list) {
+        d
+    } else {
+        Decision::Refused(Refusal::NotAList)
+    }
+}
+
+fn minus(a: u64, b: u64) -> u64
+    ensures { λ r. ⌜ r ≡ a - b ⌝ }
+{
+    if b <= a { a - b } else { 0 }
+}
+
+// What is left below `a` from `addr` on, and above `e` up to `last`.
+fn edges(addr: u64, a: u64, e: u64, last: u64) -> Patch
+    ensures { λ p. ⌜ patch p ≡ piece addr (a - addr) ++ piece e (last - e) ⌝ }
+{
+    let front = FreeRegion {
+        addr: addr,
+        len: minus(a, addr),
+    };
+    let back = FreeRegion {
+        addr: e,
+        len: minus(last, e),
+    };
+    if front.len == 0 {
+        if back.len == 0 {
+            Patch::Empty
+        } else {
+            Patch::One(back)
+        }
+    } else {
+        if back.len == 0 {
+            Patch::One(front)
+        } else {
+            Patch::Two(front, back)
+        }
+    }
+}
+
+// Takes the `len` bytes from `start` on out of the region `r` at `i`.
+fn take_part(run: &[u64], list: FreeList, i: usize, r: FreeRegion, start: u64, len: u64) -> Decision
+    requires { ⌜ (isList (now run) list ≡ true) × (i < list .count) × (r ≡ regionAt (now run) i) × (start + len ≤ end r) ⌝ }
+    ensures { λ d. ⌜ (givenBy (now (run .entry)) list d ≡ placed (giving start) (now (run .entry)) list (taken (regions (now (run .entry)) list) i start len)) × Apt (now (run .entry)) list d ⌝ }
+{
+    change(
+        run,
+        list,
+        start,
+        i,
+        i + 1,
+        edges(r.addr, start, start + len, r.addr + r.len),
+    )
+}
+
+pub(crate) fn decide_alloc(run: &[u64], list: FreeList, len: u64) -> Decision
+    ensures { λ d. ⌜ (givenBy (now (run .entry)) list d ≡ allocated (now (run .entry)) list len) × Apt (now (run .entry)) list d ⌝ }
+{
+    if len == 0 {
+        return if_list(run, list, Decision::Nothing);
+    }
+    let s = best_fit(run, list, len);
+    match s {
+        Search::Bad => Decision::Refused(Refusal::NotAList),
+        Search::Nothing => Decision::Nothing,
+        Search::At { index, region } => take_part(run, list, index, region, region.addr, len),
+    }
+}
+
+// The same from the front of the whole units of the region.
+fn take_units(run: &[u64], list: FreeList, i: usize, r: FreeRegion, len: u64, unit: u64) -> Decision
+    requires { ⌜ (isList (now run) list ≡ true) × (i < list .count) × (r ≡ regionAt (now run) i) × (0 < len) × (len ≤ interiorSpan unit r) ⌝ }
+    ensures { λ d. ⌜ (givenBy (now (run .entry)) list d ≡ placed (giving (interiorStart unit r)) (now (run .entry)) list (taken (regions (now (run .entry)) list) i (interiorStart unit r) len)) × Apt (now (run .entry)) list d ⌝ }
+{
+    let w = whole_units(r, unit);
+    take_part(run, list, i, r, w.start, len)
+}
+
+// Whether `len` is no multiple of a unit that is not 0.
+fn is_part(len: u64, unit: u64) -> bool
+    ensures { λ b. ⌜ b ≡ partUnit len unit ⌝ }
+{
+    if unit == 0 {
+        return false;
+    }
+    len % unit != 0
+}
+
+pub(crate) fn decide_whole_units(run: &[u64], list: FreeList, len: u64, unit: u64) -> Decision
+    ensures { λ d. ⌜ (givenBy (now (run .entry)) list d ≡ allocatedUnits (now (run .entry)) list len unit) × Apt (now (run .entry)) list d ⌝ }
+{
+    if is_part(len, unit) {
+        return if_list(run, list, Decision::Refused(Refusal::PartUnit));
+    }
+    if len == 0 {
+        return if_list(run, list, Decision::Nothing);
+    }
+    let s = best_units(run, list, len, unit);
+    match s {
+        Search::Bad => Decision::Refused(Refusal::NotAList),
+        Search::Nothing => Decision::Nothing,
+        Search::At { index, region } => take_units(run, list, index, region, len, unit),
+    }
+}
+
+// Cuts the range from `a` up to `e` out of the regions that share a byte with it.
+fn cut_between(run: &[u64], list: FreeList, lo: usize, hi: usize, a: u64, e: u64) -> Decision
+    requires { ⌜ Apart (now run) list a e lo hi × (a ≤ e) ⌝ }
+    ensures { λ d. ⌜ (keptBy (now (run .entry)) list d ≡ placed keeping (now (run .entry)) list (cutAll a e (regions (now (run .entry)) list))) × Apt (now (run .entry)) list d ⌝ }
+{
+    if lo == hi {
+        return Decision::Nothing;
+    }
+    let first = region_at(run, lo);
+    let last = region_at(run, hi - 1);
+    change(
+        run,
+        list,
+        a,
+        lo,
+        hi,
+        edges(first.addr, a, e, last.addr + last.len),
+    )
+}
+
+pub(crate) fn decide_free(run: &[u64], list: FreeList, addr: u64, len: u64) -> Decision
+    ensures { λ d. ⌜ (keptBy (now (run .entry)) list d ≡ freed (now (run .entry)) list addr len) × Apt (now (run .entry)) list d ⌝ }
+{
+    if 18446744073709551615 - len < addr {
+        return if_list(run, list, Decision::Refused(Refusal::Overflow));
+    }
+    if len == 0 {
+        return if_list(run, list, Decision::Nothing);
+    }
+    let m = meeting(run, list, addr, addr + len);
+    match m {
+        Meet::Bad => Decision::Refused(Refusal::NotAList),
+        Meet::Between { lo, hi } => {
+            if lo < hi {
+                return Decision::Refused(Refusal::SharedAddress);
+            }
+            put_between(
+                run,
+                list,
+                lo,
+                FreeRegion {
+                    addr: addr,
+                    len: len,
+                },
+            )
+        }
+    }
+}
+
+pub(crate) fn decide_range(run: &[u64], list: FreeList, addr: u64, len: u64) -> Decision
+    ensures { λ d. ⌜ (keptBy (now (run .entry)) list d ≡ rangeTaken (now (run .entry)) list addr len) × Apt (now (run .entry)) list d ⌝ }
+{
+    if 18446744073709551615 - len < addr {
+        return if_list(run, list, Decision::Refused(Refusal::Overflow));
+    }
+    if len == 0 {
+        return if_list(run, list, Decision::Nothing);
+    }
+    let m = meeting(run, list, addr, addr + len);
+    match m {
+        Meet::Bad => Decision::Refused(Refusal::NotAList),
+        Meet::Between { lo, hi } => cut_between(run, list, lo, hi, addr, addr + len),
+    }
+}
+
+pub(crate) fn decide_trailing(run: &[u64], list: FreeList, eof: u64) -> Decision
+    ensures { λ d. ⌜ (givenBy (now (run .entry)) list d ≡ trailingTaken (now (run .entry)) list eof) × Apt (now (run .entry)) list d ⌝ }
+{
+    if !is_list(run, list) {
+        return Decision::Refused(Refusal::NotAList);
+    }
+    let count = list.count;
+    if count == 0 {
+        return Decision::Nothing;
+    }
+    let r = region_at(run, count - 1);
+    if r.addr + r.len != eof {
+        return Decision::Nothing;
+    }
+    change(run, list, r.addr, count - 1, count, Patch::Empty)
+}

@@ -1,0 +1,101 @@
+// The passes for the best fit, which test for refusal 3 as they go.
+ghost use mathlib.Core.Path.{_≡_};
+ghost use Prim.Native.Nat.{_-_, _^_, _<_, _≤_};
+ghost use Rattle.free_space.specs.Splices.{Stands};
+ghost use Rattle.free_space.specs.Searches.{oneAt, lower, soFar, OneOf, answered, Finds};
+use crate::check::Head;
+use crate::check::first_region;
+use crate::check::follows;
+use crate::list::FreeList;
+use crate::region::FreeRegion;
+use crate::run::region_at;
+
+// How a pass ends: no list, no region that suffices, or the one that serves and its place.
+pub(crate) enum Search {
+    Bad,
+    Nothing,
+    At { index: usize, region: FreeRegion },
+}
+
+// The best of the regions passed, and the bytes that it has beyond the length asked for. The bytes that lack wrap, and
+// so stand above all that are left over: one comparison tests both, that a region suffices and that it is better.
+pub(crate) struct Best {
+    pub(crate) index: usize,
+    pub(crate) region: FreeRegion,
+    pub(crate) slack: u64,
+}
+
+pub(crate) fn none_yet(len: u64) -> Best
+    requires { ⌜ 0 < len ⌝ }
+    ensures { λ r. ⌜ 2 ^ 64 - len ≤ r .slack ⌝ }
+{
+    Best {
+        index: 0,
+        region: FreeRegion { addr: 0, len: 0 },
+        slack: 18446744073709551615 - (len - 1),
+    }
+}
+
+// The better of `b` and the region `r` at `i`, above it, of which `span` bytes can serve.
+pub(crate) fn better_of(b: Best, i: usize, r: FreeRegion, span: u64, len: u64) -> Best
+    requires { ⌜ 0 < len ⌝ }
+    ensures { λ n. ⌜ (soFar len n ≡ lower (soFar len b) (oneAt len i span)) × OneOf b i r n ⌝ }
+{
+    let slack = std::num::wrapping_sub_u64(span, len);
+    if slack < b.slack {
+        return Best {
+            index: i,
+            region: r,
+            slack: slack,
+        };
+    }
+    b
+}
+
+pub(crate) fn found(b: Best, len: u64) -> Search
+    requires { ⌜ 0 < len ⌝ }
+    ensures { λ s. ⌜ s ≡ answered len b ⌝ }
+{
+    if b.slack <= 18446744073709551615 - len {
+        let region = b.region;
+        Search::At {
+            index: b.index,
+            region: region,
+        }
+    } else {
+        Search::Nothing
+    }
+}
+
+fn best_after(run: &[u64], list: FreeList, first: FreeRegion, len: u64) -> Search
+    requires { ⌜ Stands (now run) list 0 first × (0 < len) ⌝ }
+    ensures { λ s. ⌜ Finds (λ r. r .len) (now (run .entry)) list len s ⌝ }
+{
+    let count = list.count;
+    let mut b = better_of(none_yet(len), 0, first, first.len, len);
+    let mut prev = first.addr + first.len;
+    let mut i = 1;
+    while i < count {
+        let r = region_at(run, i);
+        if !follows(prev, r) {
+            return Search::Bad;
+        }
+        b = better_of(b, i, r, r.len, len);
+        prev = r.addr + r.len;
+        i += 1;
+    }
+    found(b, len)
+}
+
+// The smallest region that is long enough, the lowest on a tie.
+pub(crate) fn best_fit(run: &[u64], list: FreeList, len: u64) -> Search
+    requires { ⌜ 0 < len ⌝ }
+    ensures { λ s. ⌜ Finds (λ r. r .len) (now (run .entry)) list len s ⌝ }
+{
+    let h = first_region(run, list);
+    match h {
+        Head::Bad => Search::Bad,
+        Head::Empty => Search::Nothing,
+        Head::First(r) => best_after(run, list, r, len),
+    }
+}

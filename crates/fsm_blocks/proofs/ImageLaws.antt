@@ -1,0 +1,74 @@
+-- Managers are read back from an image that holds their blocks. Assumes nothing.
+use mathlib.Core.Path.{_≡_, refl, sym, ap, _∙_}
+use mathlib.Core.List.{List, [], _∷_, _++_}
+use Prim.Native.Nat.{ℕ, _+_, _-_, _≤_, _<_}
+use native.Mathlib.Omega.{arith}
+use borrow.Author.Tests.{le-ltb, ne-eqb}
+use lib.ListN.{length, drop, length-take, length-drop, take-append-drop}
+use Rattle.error.specs.Outcome.{answer, firstOf, andThen}
+use Rattle.fields.specs.Layout.{FieldFits, window}
+use Rattle.fields.specs.Ranges.{top}
+use Rattle.fsm_sections.specs.declared.FreeSection.{FreeSection}
+use Rattle.fsm_sections.specs.Sections.{bySizeThenAddr, All}
+use Rattle.fsm_blocks.specs.Groups.{SectionFits}
+use Rattle.fsm_blocks.specs.Fshd.{fshdRow, fshdSize, fshdBytes, parseFshd}
+use Rattle.fsm_blocks.specs.Managers.{Settings, widthsFor, fsseUsed, headerFor, fsseFor}
+use Rattle.fsm_blocks.specs.Reading.{readNamed, readManager, readSlots}
+use Rattle.fsm_blocks.proofs.WrittenLaws.{length-fshd, length-fsse, fshd-read, fsse-read}
+
+-- what stands whole at a place lies within the bytes
+held : (p n : ℕ) (bytes b : List ℕ) → window p n bytes ≡ b → length b ≡ n → 0 < n → p + n ≤ length bytes
+held p n bytes b e l h = omega (arith, length-take n (drop p bytes), length-drop p bytes, ap length e)
+
+module _ (sum : List ℕ → ℕ) (O base : ℕ) (set : Settings) where
+  -- an image holds the two blocks of one manager at the addresses `slot` and `fsse`, in which the numbers fit
+  pub record Stored (slot fsse class : ℕ) (l : List FreeSection) (bytes : List ℕ) : Type 0 where
+    pub slot-defined : slot ≡ top → ⊥
+    pub fsse-defined : fsse ≡ top → ⊥
+    pub slot-near : slot + base ≤ top
+    pub fsse-near : fsse + base ≤ top
+    pub header-fits : All FieldFits (fshdRow O (headerFor O set fsse l))
+    pub bits-some : 0 < set .bits
+    pub bits-few : set .bits ≤ 64
+    pub sections-fit : All (SectionFits (widthsFor O set (length l))) l
+    pub header-there : window (slot + base) (fshdSize O) bytes ≡ fshdBytes sum O (headerFor O set fsse l)
+    pub list-there : window (fsse + base) (fsseUsed O set l) bytes ≡ fsseFor O set sum slot class l
+
+  module _ (slot fsse class : ℕ) (l : List FreeSection) (bytes : List ℕ) (s : Stored slot fsse class l bytes) where
+    list-in : fsse + base + fsseUsed O set l ≤ length bytes
+    list-in = held (fsse + base) (fsseUsed O set l) bytes _ (s .list-there) (length-fsse sum (widthsFor O set (length l)) O slot class l) (omega arith)
+
+    named-read : readNamed O base (headerFor O set fsse l) bytes ≡ answer (bySizeThenAddr l)
+    unfolding readNamed firstOf
+    named-read =
+        rw (ne-eqb fsse top (s .fsse-defined), le-ltb top (fsse + base) (s .fsse-near), le-ltb (length bytes) (fsse + base + fsseUsed O set l) list-in, s .list-there)
+        (fsse-read sum O slot class (set .bits) (set .greatest) l (s .bits-some) (s .bits-few) (s .header-fits .1 .1 .1 .1 .1 .1 .1 .0) (s .sections-fit))
+
+    header-in : slot + base + fshdSize O ≤ length bytes
+    header-in = held (slot + base) (fshdSize O) bytes _ (s .header-there) (length-fshd sum O (headerFor O set fsse l)) (omega arith)
+
+    header-read : parseFshd O (drop (slot + base) bytes) ≡ answer (headerFor O set fsse l)
+    header-read =
+        ap (parseFshd O)
+        (sym (take-append-drop (fshdSize O) (drop (slot + base) bytes))
+        ∙ ap (λ (b : List ℕ). b ++ drop (fshdSize O) (drop (slot + base) bytes)) (s .header-there))
+        ∙ fshd-read sum O (headerFor O set fsse l) (drop (fshdSize O) (drop (slot + base) bytes)) (s .header-fits)
+
+    -- the manager's sections are read, by size and then address
+    pub manager-read : readManager O base slot bytes ≡ answer (bySizeThenAddr l)
+    unfolding readManager firstOf andThen
+    manager-read =
+        let n : slot + base ≤ length bytes = omega (arith, header-in) in
+        rw (ne-eqb slot top (s .slot-defined), le-ltb top (slot + base) (s .slot-near), le-ltb (length bytes) (slot + base) n, header-read) named-read
+
+-- ---- slots in a row
+
+module _ (O base : ℕ) (bytes : List ℕ) where
+  pub slots-none : readSlots O base [] bytes ≡ answer []
+  unfolding readSlots
+  slots-none = refl
+
+  pub slots-more : (a : ℕ) (rest : List ℕ) (x : List FreeSection) (y : List (List FreeSection)) → readManager O base a bytes ≡ answer x → readSlots O base rest bytes ≡ answer y
+      → readSlots O base (a ∷ rest) bytes ≡ answer (x ∷ y)
+  unfolding readSlots andThen
+  slots-more a rest x y p q = rw (p, q)

@@ -1,0 +1,17 @@
+pub mod BytesLaws
+pub mod FshdLaws
+pub mod ThenLaws
+pub mod ScanLaws
+pub mod GroupsLaws
+pub mod CountLaws
+pub mod PutLaws
+pub mod FsseLaws
+pub mod IntoLaws
+pub mod ParseLaws
+pub mod NamedLaws
+pub mod SlotsLaws
+pub mod ReadLaws
+pub mod DistinctLaws
+pub mod WrittenLaws
+pub mod ImageLaws
+pub mod Cases

@@ -1,0 +1,125 @@
+-- Where a manager's section list is found: the cases of `list_of` and `locate`. Assumes nothing.
+use mathlib.Core.Path.{_≡_, refl, sym, ap, _∙_}
+use mathlib.Core.Bool.{Bool, true, false, not}
+use mathlib.Core.List.{List, [], _∷_}
+use Prim.Native.Nat.{ℕ, _+_, _-_, _≤_, _<_}
+use native.Mathlib.Omega.{arith}
+use borrow.Author.Tests.{lt-ltb, le-ltb, eq-eqb, ne-eqb, ltb-true, ltb-false}
+use lib.Dec.{ltb}
+use lib.ListN.{length, drop, length-drop}
+use lib.Seq.{take-all}
+use Rattle.error.specs.declared.Refusal.{Refusal}
+use Rattle.error.specs.declared.Refusal.the-variants.{Overflow, InvalidManager}
+use Rattle.error.specs.declared.Number.{Number}
+use Rattle.error.specs.declared.Number.the-variants as number
+use Rattle.error.specs.Answers.{numberOutcome}
+use Rattle.error.specs.Outcome.{Outcome, answer, nothing, refuse, refused, when, firstOf, andThen}
+use Rattle.fields.specs.Layout.{window}
+use Rattle.fields.specs.Ranges.{top, sum}
+use Rattle.fields.specs.Width.{validWidth}
+use Rattle.fsm_blocks.specs.declared.header.FsmHeader.{FsmHeader}
+use Rattle.fsm_blocks.specs.declared.header.HeaderAnswer.{HeaderAnswer}
+use Rattle.fsm_blocks.specs.declared.header.HeaderAnswer.the-variants as header
+use Rattle.fsm_blocks.specs.Answers.{headerOutcome}
+use Rattle.fsm_blocks.specs.Fshd.{Header, taken, parseFshd, parsedFshd}
+use Rattle.fsm_blocks.specs.Reading.{readNamed, readManager}
+use Rattle.fsm_blocks.specs.Parts.{sectionsBy}
+use Rattle.fsm_blocks.specs.Named.{full, refusalIn}
+use Rattle.fsm_blocks.proofs.FshdLaws.{kept, parse-sized}
+use Rattle.fsm_blocks.proofs.ThenLaws.{then-refused}
+
+-- ---- an address and the base
+
+module _ (a b : ℕ) {r : Number} (s : numberOutcome r ≡ sum a b) where
+  pub sum-over : (x : Refusal) → r ≡ number.Refused x → top < a + b
+  unfolding sum firstOf
+  sum-over x e = go (ltb top (a + b)) refl (sym (ap numberOutcome e) ∙ s)
+    where
+      go : (t : Bool) → ltb top (a + b) ≡ t → refused x ≡ firstOf (when t Overflow ∷ []) (answer (a + b)) → top < a + b
+      go true q p = ltb-true top (a + b) q
+      go false q p = let z : _≡_ {A = ℕ} 0 1 = cc in absurd (omega arith)
+
+  pub sum-is : (n : ℕ) → r ≡ number.Is n → (n ≡ a + b) × (a + b ≤ top)
+  unfolding sum firstOf
+  sum-is n e = go (ltb top (a + b)) refl (sym (ap numberOutcome e) ∙ s)
+    where
+      go : (t : Bool) → ltb top (a + b) ≡ t → answer n ≡ firstOf (when t Overflow ∷ []) (answer (a + b)) → (n ≡ a + b) × (a + b ≤ top)
+      go true q p = let z : _≡_ {A = ℕ} 0 1 = cc in absurd (omega arith)
+      go false q p = (cc, ltb-false top (a + b) q)
+
+-- ---- `list_of`
+
+module _ (base : ℕ) (h : FsmHeader) (bytes : List ℕ) where
+  pub named-none : h .«fsse_addr» ≡ top → (O : ℕ) → answer [] ≡ readNamed O base (full h) bytes
+  unfolding readNamed
+  named-none e O = rw (eq-eqb (h .«fsse_addr») top e)
+
+  module _ (some : h .«fsse_addr» ≡ top → ⊥) where
+    pub named-wraps : top < h .«fsse_addr» + base → (O : ℕ) → refused InvalidManager ≡ readNamed O base (full h) bytes
+    unfolding readNamed firstOf
+    named-wraps l O = rw (ne-eqb (h .«fsse_addr») top some, lt-ltb top (h .«fsse_addr» + base) l)
+
+    module _ (start : ℕ) (at : (start ≡ h .«fsse_addr» + base) × (h .«fsse_addr» + base ≤ top)) where
+      pub named-past : length bytes < start + h .«fsse_used» → (O : ℕ) → refused InvalidManager ≡ readNamed O base (full h) bytes
+      unfolding readNamed firstOf
+      named-past l O =
+          let m : length bytes < h .«fsse_addr» + base + h .«fsse_used» = omega arith in
+          rw (ne-eqb (h .«fsse_addr») top some, le-ltb top (h .«fsse_addr» + base) (at .1), lt-ltb (length bytes) (h .«fsse_addr» + base + h .«fsse_used») m)
+
+      pub named-is : start + h .«fsse_used» ≤ length bytes → (O : ℕ) → sectionsBy h O (window start (h .«fsse_used») bytes) ≡ readNamed O base (full h) bytes
+      unfolding readNamed firstOf
+      named-is l O =
+          let m : h .«fsse_addr» + base + h .«fsse_used» ≤ length bytes = omega arith in
+          rw (at .0, ne-eqb (h .«fsse_addr») top some, le-ltb top (h .«fsse_addr» + base) (at .1), le-ltb (length bytes) (h .«fsse_addr» + base + h .«fsse_used») m)
+
+-- ---- `locate`
+
+-- the bytes from a place on, as the code takes them
+pub from-place : (a : ℕ) (l : List ℕ) → window a (length l - a) l ≡ drop a l
+from-place a l = take-all (length l - a) (drop a l) (rw length-drop (omega arith))
+
+-- what follows on a header asks for no more than its six fields
+then-kept : (O base : ℕ) (bytes : List ℕ) (o : Outcome Header) (x : FsmHeader) → kept o ≡ answer x → andThen o (λ h. readNamed O base h bytes) ≡ readNamed O base (full x) bytes
+unfolding andThen readNamed
+then-kept O base bytes (answer h) x e = let k : taken h ≡ x = cc in ap (λ (y : FsmHeader). readNamed O base (full y) bytes) k
+then-kept O base bytes nothing x e = let z : _≡_ {A = ℕ} 0 1 = cc in absurd (omega arith)
+then-kept O base bytes (refuse n vs) x e = let z : _≡_ {A = ℕ} 0 1 = cc in absurd (omega arith)
+
+module _ (O base slot : ℕ) (bytes : List ℕ) where
+  pub manager-none : slot ≡ top → answer [] ≡ readManager O base slot bytes
+  unfolding readManager
+  manager-none e = rw (eq-eqb slot top e)
+
+  module _ (some : slot ≡ top → ⊥) where
+    pub manager-wraps : top < slot + base → refused InvalidManager ≡ readManager O base slot bytes
+    unfolding readManager firstOf
+    manager-wraps l = rw (ne-eqb slot top some, lt-ltb top (slot + base) l)
+
+    module _ (start : ℕ) (at : (start ≡ slot + base) × (slot + base ≤ top)) where
+      pub manager-past : length bytes < start → refused InvalidManager ≡ readManager O base slot bytes
+      unfolding readManager firstOf
+      manager-past l =
+          let m : length bytes < slot + base = omega arith in
+          rw (ne-eqb slot top some, le-ltb top (slot + base) (at .1), lt-ltb (length bytes) (slot + base) m)
+
+      module _ (in-bytes : start ≤ length bytes) where
+        by-header : readManager O base slot bytes ≡ andThen (parseFshd O (drop start bytes)) (λ h. readNamed O base h bytes)
+        unfolding readManager firstOf
+        by-header =
+            let m : slot + base ≤ length bytes = omega arith in
+            rw (at .0, ne-eqb slot top some, le-ltb top (slot + base) (at .1), le-ltb (length bytes) (slot + base) m)
+
+        module _ (v : not (validWidth O) ≡ false) where
+          parsed : (a : HeaderAnswer) → headerOutcome a ≡ kept (parsedFshd O (window start (length bytes - start) bytes)) → headerOutcome a ≡ kept (parseFshd O (drop start bytes))
+          parsed a p = p ∙ ap (λ (l : List ℕ). kept (parsedFshd O l)) (from-place start bytes) ∙ ap kept (parse-sized O (drop start bytes) v)
+
+          pub manager-refused : {a : HeaderAnswer} → headerOutcome a ≡ kept (parsedFshd O (window start (length bytes - start) bytes))
+              → (r x : Refusal) → a ≡ header.Refused r → x ≡ refusalIn a → refused x ≡ readManager O base slot bytes
+          manager-refused {a} p r x e q =
+              let k : x ≡ r = q ∙ ap refusalIn e in
+              ap refused k
+              ∙ sym (by-header ∙ then-refused (parseFshd O (drop start bytes)) taken (λ h. readNamed O base h bytes) _ _ (sym (parsed a p) ∙ ap headerOutcome e))
+
+          pub manager-is : {a : HeaderAnswer} → headerOutcome a ≡ kept (parsedFshd O (window start (length bytes - start) bytes))
+              → (h : FsmHeader) → a ≡ header.Header h → readNamed O base (full h) bytes ≡ readManager O base slot bytes
+          manager-is {a} p h e = sym (by-header ∙ then-kept O base bytes (parseFshd O (drop start bytes)) h (sym (parsed a p) ∙ ap headerOutcome e))

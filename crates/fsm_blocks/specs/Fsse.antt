@@ -1,0 +1,45 @@
+-- The Free-space Section List, FSSE: its bytes, its length and its reading. From the HDF5 File Format Specification, section III.H.
+-- Assumes nothing.
+--   bitsWidth    address bits rounded up to bytes
+--   widthsOf     the widths that a number of sections, a greatest size and address bits give: `enc_size` of the first two, and bitsWidth
+--   fsseHead     signature, version 0 and the address of FSHD
+--   fsseBytes    a section list's bytes: head, groups by size then address, checksum
+--   fsseSize     their number, by document 01's formula
+--   parseFsse    n sections by address bits and greatest size: length, signature, address bits 0 or above 64, groups
+use Prim.Native.Nat.{ℕ, _+_, _-_, _*_, _/_}
+use mathlib.Core.Bool.{_||_, not}
+use mathlib.Core.List.{List, [], _∷_, _++_}
+use lib.Dec.{ltb, eqb}
+use lib.ListN.{length}
+use Rattle.error.specs.declared.Refusal.the-variants.{Short, InvalidManager}
+use Rattle.error.specs.Outcome.{Outcome, when, firstOf}
+use Rattle.fields.specs.Layout.{Field, field, layout, window}
+use Rattle.fields.specs.Width.{encSize}
+use Rattle.fsm_sections.specs.declared.FreeSection.{FreeSection}
+use Rattle.fsm_sections.specs.Sections.{bySizeThenAddr, groupsOf, distinct}
+use Rattle.fsm_blocks.specs.Fshd.{signature, sealed, signed}
+use Rattle.fsm_blocks.specs.Groups.{Widths, groupBytes, parseGroups}
+
+abbrev pub bitsWidth : ℕ → ℕ
+bitsWidth bits = (bits + 7) / 8
+
+abbrev pub widthsOf : ℕ → ℕ → ℕ → Widths
+widthsOf n greatest bits = record { counts = encSize n; sizes = encSize greatest; addresses = bitsWidth bits }
+
+abbrev pub fsseHead : ℕ → ℕ → List Field
+fsseHead O back = signature 70 83 83 69 ++ (field 1 0 ∷ field O back ∷ [])
+
+unfoldable pub fsseBytes : (List ℕ → ℕ) → Widths → ℕ → ℕ → ℕ → List FreeSection → List ℕ
+fsseBytes sum w O back class l = sealed sum (layout (fsseHead O back) ++ groupBytes w class (groupsOf (bySizeThenAddr l)))
+
+abbrev pub fsseSize : Widths → ℕ → List FreeSection → ℕ
+fsseSize w O l = 9 + O + distinct l * (w .counts + w .sizes) + length l * (w .addresses + 1)
+
+unfoldable pub parseFsse : ℕ → ℕ → ℕ → ℕ → List ℕ → Outcome (List FreeSection)
+parseFsse O bits greatest n bs =
+    firstOf
+    (when (ltb (length bs) (9 + O)) (Short (9 + O) (length bs))
+    ∷ when (not (signed 70 83 83 69 bs)) InvalidManager
+    ∷ when (eqb bits 0 || ltb 64 bits) InvalidManager
+    ∷ [])
+    (parseGroups (widthsOf n greatest bits) n (window (5 + O) (length bs - (9 + O)) bs))

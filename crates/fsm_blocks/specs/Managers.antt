@@ -1,0 +1,53 @@
+-- The two blocks of one manager, by the writer's settings. Assumes nothing.
+--   Settings      what a writer may choose: address bits, greatest section size, shrink, expand, surplus of allocated over used length
+--   startingSet   the settings that document 01 fixes at an offset size
+--   widthsFor     the widths that the settings give to a number of sections
+--   headerFor     the header of sections whose list stands at an address
+--   fsseFor       the section list whose header stands at an address
+--   fsseUsed      its length
+use Prim.Native.Nat.{ℕ, _+_, _-_, _*_, _^_}
+use mathlib.Core.List.{List}
+use lib.ListN.{length}
+use Rattle.fsm_sections.specs.declared.FreeSection.{FreeSection}
+use Rattle.fsm_sections.specs.Sections.{space}
+use Rattle.fsm_blocks.specs.Fshd.{Header}
+use Rattle.fsm_blocks.specs.Groups.{Widths}
+use Rattle.fsm_blocks.specs.Fsse.{widthsOf, fsseBytes, fsseSize}
+
+pub record Settings : Type 0 where
+  pub bits : ℕ
+  pub greatest : ℕ
+  pub shrink : ℕ
+  pub expand : ℕ
+  pub surplus : ℕ
+
+abbrev pub startingSet : ℕ → Settings
+startingSet O = record { bits = 8 * O - 1; greatest = 2 ^ 63 - 1; shrink = 80; expand = 120; surplus = 0 }
+
+module _ (O : ℕ) (set : Settings) where
+  abbrev pub widthsFor : ℕ → Widths
+  widthsFor n = widthsOf n (set .greatest) (set .bits)
+
+  abbrev pub fsseUsed : List FreeSection → ℕ
+  fsseUsed l = fsseSize (widthsFor (length l)) O l
+
+  abbrev pub headerFor : ℕ → List FreeSection → Header
+  headerFor fsse l = record {
+    version = 0;
+    client = 1;
+    space = space l;
+    total = length l;
+    serialized = length l;
+    ghost = 0;
+    classes = 3;
+    shrink = set .shrink;
+    expand = set .expand;
+    bits = set .bits;
+    greatest = set .greatest;
+    fsse = fsse;
+    used = fsseUsed l;
+    allocated = fsseUsed l + set .surplus;
+  }
+
+  abbrev pub fsseFor : (List ℕ → ℕ) → ℕ → ℕ → List FreeSection → List ℕ
+  fsseFor sum fshd class l = fsseBytes sum (widthsFor (length l)) O fshd class l

@@ -1,0 +1,71 @@
+-- Managers read from the bytes of a file: `parse_fsse` and `read_persisted_sections`. Assumes nothing.
+--   undefined8     an address of 64 one bits: no manager, no section list
+--   readNamed      the section list that a header names
+--   readManager    the sections of the manager whose header a slot names
+--   readSlots      each slot's sections, in order; the first refusal ends the read
+--   joined         the sections of all slots, in order
+--   intoRun        the sections in the lent run, or refusal 14 with their number (at most 2^64 - 1) and its capacity
+--   parsedFsse     `parse_fsse`: refusals 1, 3 (an odd run), then those of the list, 14 last
+--   persisted      `read_persisted_sections`: refusals 1, 3, then slot by slot, 14 last
+use Prim.Native.Nat.{ℕ, _+_, _/_, _%_}
+use mathlib.Core.Bool.{cond, not}
+use mathlib.Core.List.{List, [], _∷_, _++_}
+use lib.Dec.{ltb, eqb}
+use lib.ListN.{length, drop}
+use Rattle.error.specs.declared.Refusal.the-variants.{Width, NotAList, InvalidManager, OverCapacity}
+use Rattle.error.specs.Outcome.{Outcome, answer, when, firstOf, andThen, sat}
+use Rattle.error.specs.Lent.{With, with, over}
+use Rattle.fields.specs.Layout.{window}
+use Rattle.fields.specs.Ranges.{top}
+use Rattle.fields.specs.Width.{validWidth}
+use Rattle.fsm_sections.specs.declared.FreeSection.{FreeSection}
+use Rattle.fsm_sections.specs.Sections.{flat}
+use Rattle.fsm_blocks.specs.declared.header.FsmHeader.{FsmHeader}
+use Rattle.fsm_blocks.specs.Fshd.{Header, parseFshd}
+use Rattle.fsm_blocks.specs.Fsse.{parseFsse}
+
+abbrev pub undefined8 : ℕ
+undefined8 = top
+
+-- O is the offset size, base what is added to each block's address
+module _ (O base : ℕ) where
+  unfoldable pub readNamed : Header → List ℕ → Outcome (List FreeSection)
+  readNamed h bytes =
+      cond (eqb (h .fsse) undefined8) (answer [])
+      (firstOf
+      (when (ltb top (h .fsse + base)) InvalidManager
+      ∷ when (ltb (length bytes) (h .fsse + base + h .used)) InvalidManager
+      ∷ [])
+      (parseFsse O (h .bits) (h .greatest) (h .total) (window (h .fsse + base) (h .used) bytes)))
+
+  unfoldable pub readManager : ℕ → List ℕ → Outcome (List FreeSection)
+  readManager slot bytes =
+      cond (eqb slot undefined8) (answer [])
+      (firstOf
+      (when (ltb top (slot + base)) InvalidManager
+      ∷ when (ltb (length bytes) (slot + base)) InvalidManager
+      ∷ [])
+      (andThen (parseFshd O (drop (slot + base) bytes)) (λ h. readNamed h bytes)))
+
+  unfoldable pub readSlots : List ℕ → List ℕ → Outcome (List (List FreeSection))
+  readSlots [] bytes = answer []
+  readSlots (a ∷ slots) bytes = andThen (readManager a bytes) (λ x. andThen (readSlots slots bytes) (λ y. answer (x ∷ y)))
+
+unfoldable pub joined : List (List FreeSection) → List FreeSection
+joined [] = []
+joined (l ∷ ls) = l ++ joined ls
+
+abbrev pub intoRun : List ℕ → List FreeSection → Outcome (With ℕ (List ℕ))
+intoRun out l =
+    firstOf (when (ltb (length out / 2) (length l)) (OverCapacity (sat (length l)) (length out / 2)) ∷ [])
+    (answer (with (length l) (over 0 (flat l) out)))
+
+unfoldable pub parsedFsse : FsmHeader → ℕ → List ℕ → List ℕ → Outcome (With ℕ (List ℕ))
+parsedFsse h O bytes out =
+    firstOf (when (not (validWidth O)) Width ∷ when (not (eqb (length out % 2) 0)) NotAList ∷ [])
+    (andThen (parseFsse O (h .«addr_space_bits») (h .«max_section_size») (h .«total_sections») bytes) (intoRun out))
+
+unfoldable pub persisted : List ℕ → ℕ → ℕ → List ℕ → List ℕ → Outcome (With ℕ (List ℕ))
+persisted slots base O bytes out =
+    firstOf (when (not (validWidth O)) Width ∷ when (not (eqb (length out % 2) 0)) NotAList ∷ [])
+    (andThen (readSlots O base slots bytes) (λ ls. intoRun out (joined ls)))

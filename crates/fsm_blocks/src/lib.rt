@@ -1,0 +1,5 @@
+// The blocks of a free-space manager: the header FSHD and the section list FSSE.
+pub mod fsse;
+mod groups;
+pub mod header;
+pub mod persisted;

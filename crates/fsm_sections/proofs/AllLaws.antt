@@ -1,0 +1,25 @@
+-- A property of each element of a list. Assumes nothing.
+use Prim.Native.Nat.{ℕ, zero, suc, _<_}
+use native.Mathlib.Nat.{le-of-suc-le-suc, not-suc-le-zero}
+use mathlib.Core.List.{List, [], _∷_, _++_}
+use lib.ListN.{length, take, getD}
+use Rattle.fsm_sections.specs.Sections.{All}
+
+module _ {A : Type 0} where
+  pub all-take : (P : A → Type 0) (k : ℕ) (l : List A) → All P l → All P (take k l)
+  all-take P zero l h = tt
+  all-take P (suc k) [] h = tt
+  all-take P (suc k) (x ∷ l) h = (h .0, all-take P k l (h .1))
+
+  pub all-append : (P : A → Type 0) (l m : List A) → All P l → All P m → All P (l ++ m)
+  all-append P [] m h k = k
+  all-append P (x ∷ l) m h k = (h .0, all-append P l m (h .1) k)
+
+  pub all-map : {P Q : A → Type 0} → ((x : A) → P x → Q x) → (l : List A) → All P l → All Q l
+  all-map f [] h = tt
+  all-map f (x ∷ l) h = (f x (h .0), all-map f l (h .1))
+
+  pub all-getD : (P : A → Type 0) (l : List A) (i : ℕ) (d : A) → i < length l → All P l → P (getD l i d)
+  all-getD P [] i d h a = absurd (not-suc-le-zero h)
+  all-getD P (x ∷ l) zero d h a = a .0
+  all-getD P (x ∷ l) (suc i) d h a = all-getD P l i d (le-of-suc-le-suc h) (a .1)

@@ -1,0 +1,12 @@
+pub mod AllLaws
+pub mod SectionsLaws
+pub mod SortLaws
+pub mod PagesLaws
+pub mod SlotLaws
+pub mod SizesLaws
+pub mod SourceLaws
+pub mod GroupLaws
+pub mod PassLaws
+pub mod TakeLaws
+pub mod AddrLaws
+pub mod ChainLaws

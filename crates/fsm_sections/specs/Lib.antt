@@ -1,0 +1,5 @@
+pub mod Sections
+pub mod Chains
+pub mod Pages
+pub mod Sources
+pub mod Passes

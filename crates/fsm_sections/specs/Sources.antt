@@ -1,0 +1,112 @@
+-- Sources: three lent runs of regions with a part for each, and the chains that they give. Assumes nothing.
+--   pad           from an address to the first page multiple at or after it
+--   headSize      how much of a region stands before its first page multiple; bodySize what is left
+--   one           the chain of one section, or of none where it would be empty
+--   partOf        a part of a region as a chain, in closed form
+--   chainsIn      the chains of regions
+--   chainsOf      the chains of a source, run by run
+--   chainCount    how many
+--   rest          the sections that are left when the first i, j and k regions of the three runs are done
+--   Within        as many as there are at most
+--   ChosenOfTwo   which of the last two runs has a region left, or that neither has
+--   Chosen        a run that has a region left
+--   Taking        a chain is taken of those that are left, whichever
+--   PartFits      what is cut ends within 64 bits
+--   Given         a source that can be gone through: the page is not 0, each count is within its run, what is cut ends within 64 bits
+--   smallSource   the pieces of a run's regions below a page: the run stands at a and at b
+--   largeSource   the whole pages of two runs, and the regions of a third uncut
+--   plainSource   a run of sections as they are
+use mathlib.Core.Path.{_≡_}
+use Prim.Native.Nat.{ℕ, suc, _+_, _-_, _*_, _/_, _%_, _^_, min, _≤_, _<_}
+use mathlib.Core.Bool.{cond}
+use mathlib.Core.List.{List, _++_, map}
+use lib.Dec.{eqb}
+use lib.ListN.{length, drop}
+use Rattle.fsm_sections.specs.declared.FreeSection.{FreeSection}
+use Rattle.fsm_sections.specs.declared.Chain.{Chain}
+use Rattle.fsm_sections.specs.declared.Part.{Part}
+use Rattle.fsm_sections.specs.declared.Part.the-variants.{Head, Pages, Tail, Whole}
+use Rattle.fsm_sections.specs.declared.Source.{Source}
+use Rattle.fsm_sections.specs.declared.Taken.{Taken}
+use Rattle.fsm_sections.specs.Sections.{decode, bySizeThenAddr, All}
+use Rattle.fsm_sections.specs.Chains.{link, chain, sectionsOf, ChainFits}
+
+abbrev pub pad : ℕ → ℕ → ℕ
+pad page a = cond (eqb (a % page) 0) 0 (page - a % page)
+
+abbrev pub headSize : ℕ → FreeSection → ℕ
+headSize page r = min (r .size) (pad page (r .addr))
+
+abbrev pub bodySize : ℕ → FreeSection → ℕ
+bodySize page r = r .size - headSize page r
+
+abbrev pub one : ℕ → ℕ → Chain
+one a z = link a z (cond (eqb z 0) 0 1)
+
+unfoldable pub partOf : Part → ℕ → FreeSection → Chain
+partOf Head page r = one (r .addr) (headSize page r)
+partOf Pages page r = link (r .addr + headSize page r) page (bodySize page r / page)
+partOf Tail page r = one (r .addr + headSize page r + bodySize page r / page * page) (bodySize page r % page)
+partOf Whole page r = link (r .addr) (r .size) 1
+
+abbrev pub chainsIn : Part → ℕ → List FreeSection → List Chain
+chainsIn q page rs = map (partOf q page) rs
+
+unfoldable pub chainsOf : Source → List ℕ → List ℕ → List ℕ → List Chain
+chainsOf s a b c =
+    chainsIn (s .pa) (s .page) (decode (s .na) a)
+    ++ (chainsIn (s .pb) (s .page) (decode (s .nb) b) ++ chainsIn (s .pc) (s .page) (decode (s .nc) c))
+
+unfoldable pub rest : Source → List ℕ → List ℕ → List ℕ → ℕ → ℕ → ℕ → List FreeSection
+rest s a b c i j k =
+    sectionsOf
+    (drop i (chainsIn (s .pa) (s .page) (decode (s .na) a))
+    ++ (drop j (chainsIn (s .pb) (s .page) (decode (s .nb) b)) ++ drop k (chainsIn (s .pc) (s .page) (decode (s .nc) c))))
+
+abbrev pub chainCount : Source → ℕ
+chainCount s = s .na + (s .nb + s .nc)
+
+abbrev pub PartFits : Part → FreeSection → Type 0
+PartFits Head r = r .addr + r .size < 2 ^ 64
+PartFits Pages r = r .addr + r .size < 2 ^ 64
+PartFits Tail r = r .addr + r .size < 2 ^ 64
+PartFits Whole r = Unit {0}
+
+pub record Given (s : Source) (a b c : List ℕ) : Type 0 where
+  pub some : 0 < s .page
+  pub room-a : 2 * s .na ≤ length a
+  pub room-b : 2 * s .nb ≤ length b
+  pub room-c : 2 * s .nc ≤ length c
+  pub fit-a : All (PartFits (s .pa)) (decode (s .na) a)
+  pub fit-b : All (PartFits (s .pb)) (decode (s .nb) b)
+  pub fit-c : All (PartFits (s .pc)) (decode (s .nc) c)
+
+pub record Within (s : Source) (i j k : ℕ) : Type 0 where
+  pub a-in : i ≤ s .na
+  pub b-in : j ≤ s .nb
+  pub c-in : k ≤ s .nc
+
+pub record ChosenOfTwo (s : Source) (j k w : ℕ) : Type 0 where
+  pub done : w ≡ 0 → (s .nb ≤ j) × (s .nc ≤ k)
+  pub of-b : w ≡ 1 → j < s .nb
+  pub of-c : (w ≡ 0 → ⊥) → (w ≡ 1 → ⊥) → k < s .nc
+
+pub record Chosen (s : Source) (i j k w : ℕ) : Type 0 where
+  pub of-a : w ≡ 0 → i < s .na
+  pub of-b : w ≡ 1 → j < s .nb
+  pub of-c : (w ≡ 0 → ⊥) → (w ≡ 1 → ⊥) → k < s .nc
+
+pub record Taking (s : Source) (a b c : List ℕ) (i j k : ℕ) (t : Taken) : Type 0 where
+  pub fits : ChainFits (link (t .addr) (t .size) (t .count))
+  pub within : Within s (t .i) (t .j) (t .k)
+  pub one-more : t .i + (t .j + t .k) ≡ suc (i + (j + k))
+  pub same : bySizeThenAddr (rest s a b c i j k) ≡ bySizeThenAddr (chain (t .addr) (t .size) (t .count) ++ rest s a b c (t .i) (t .j) (t .k))
+
+abbrev pub smallSource : ℕ → ℕ → Source
+smallSource page n = record { na = n; pa = Head; nb = n; pb = Tail; nc = 0; pc = Whole; page = page }
+
+abbrev pub largeSource : ℕ → ℕ → ℕ → ℕ → Source
+largeSource page n m k = record { na = n; pa = Pages; nb = m; pb = Pages; nc = k; pc = Whole; page = page }
+
+abbrev pub plainSource : ℕ → Source
+plainSource n = record { na = n; pa = Whole; nb = 0; pb = Whole; nc = 0; pc = Whole; page = 1 }

@@ -1,0 +1,61 @@
+// Free sections as a manager tracks them, and the chains of equal sections that region lists give.
+ghost use mathlib.Core.Path.{_≡_};
+ghost use Rattle.error.specs.Answers.{numberOutcome};
+ghost use Rattle.fields.specs.Ranges.{sum};
+use error::Number;
+use error::Refusal;
+
+pub struct FreeSection {
+    pub addr: u64,
+    pub size: u64,
+}
+
+impl FreeSection {
+    // One past the last byte.
+    pub fn end(self) -> Number
+        ensures { λ r. ⌜ numberOutcome r ≡ sum (self .addr) (self .size) ⌝ }
+    {
+        let size = self.size;
+        if 18446744073709551615 - size < self.addr {
+            return Number::Refused(Refusal::Overflow);
+        }
+        Number::Is(self.addr + size)
+    }
+}
+
+// `count` sections of one size, each where the one before ends.
+pub struct Chain {
+    pub addr: u64,
+    pub size: u64,
+    pub count: u64,
+}
+
+// What of a region is meant: the piece before its first page multiple, its whole pages, the piece behind its last page
+// multiple, or all of it uncut.
+pub enum Part {
+    Head,
+    Pages,
+    Tail,
+    Whole,
+}
+
+// How many regions of each of three lent runs are meant, and which part of each region.
+pub struct Source {
+    pub na: usize,
+    pub pa: Part,
+    pub nb: usize,
+    pub pb: Part,
+    pub nc: usize,
+    pub pc: Part,
+    pub page: u64,
+}
+
+// A chain of a source, and how many regions of each run are done when it is taken.
+pub struct Taken {
+    pub addr: u64,
+    pub size: u64,
+    pub count: u64,
+    pub i: usize,
+    pub j: usize,
+    pub k: usize,
+}

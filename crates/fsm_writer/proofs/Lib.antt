@@ -1,0 +1,5 @@
+pub mod EntryLaws
+pub mod SlowLaws
+pub mod WriterLaws
+pub mod RowLaws
+pub mod SerializeLaws

@@ -1,0 +1,345 @@
+-- Laws of the writer's public entries: which refusal is given, and what acceptance says. Assumes nothing.
+use mathlib.Core.Path.{_≡_, refl, sym, ap, ap₂, _∙_}
+use mathlib.Core.Logic.{⊎-elim}
+use Prim.Native.Nat.{ℕ, zero, suc, _+_, _*_, _/_, _%_, _^_, _≤_, _<_}
+use native.Mathlib.Nat.{pow-le-pow-right, mul-le-mul}
+use native.Mathlib.Omega.{arith}
+use native.Mathlib.Numerals.{add-one}
+use mathlib.Core.Bool.{Bool, true, false, cond, not, _||_}
+use mathlib.Core.List.{List, [], _∷_}
+use lib.Dec.{ltb, leb, eqb}
+use lib.ListN.{length, drop, getD, drop-of-length-le}
+use lib.Seq.{drop-cons}
+use borrow.Author.Tests.{ltb-false, leb-true, lt-ltb, le-ltb, le-leb, lt-leb, eq-eqb, ne-eqb}
+use Rattle.error.specs.declared.Number.{Number}
+use Rattle.error.specs.declared.Number.the-variants as number
+use Rattle.error.specs.declared.Refusal.{Refusal}
+use Rattle.error.specs.declared.Refusal.the-variants.{Width, NotAList, Overflow, WideAddress, OverCapacity}
+use Rattle.error.specs.Outcome.{Outcome, answer, nothing, refuse, refused, when, firstOf, andThen}
+use Rattle.error.specs.Answers.{numberOutcome}
+use Rattle.error.specs.Lent.{With, with, left, leaving, over}
+use Rattle.error.proofs.TestLaws.{le-or-lt, and-true, or-false, true-not-false}
+use Rattle.error.proofs.OutcomeLaws.{first-holds, first-passes, first-none, first-answers}
+use Rattle.fields.specs.Ranges.{top}
+use Rattle.fields.specs.Width.{encSize, validWidth}
+use Rattle.fields.proofs.WidthLaws.{encSize-least}
+use Rattle.checksum.specs.Lookup3.{lookup3}
+use Rattle.fsm_sections.specs.declared.FreeSection.{FreeSection}
+use Rattle.fsm_sections.specs.declared.Source.{Source}
+use Rattle.fsm_sections.specs.Sections.{section, decode, space, ofSize, distinct, All}
+use Rattle.fsm_sections.specs.Chains.{sectionsOf}
+use Rattle.fsm_sections.specs.Sources.{chainsOf, plainSource, Given}
+use Rattle.fsm_sections.specs.Passes.{spaceOf, Numbers}
+use Rattle.fsm_sections.proofs.SlotLaws.{plain-runs}
+use Rattle.fsm_sections.proofs.SourceLaws.{pairAt, length-decode, decode-at}
+use Rattle.fsm_blocks.specs.Fshd.{Header, fshdBytes, fshdSize}
+use Rattle.fsm_blocks.specs.Fsse.{fsseSize}
+use Rattle.fsm_blocks.specs.Groups.{Widths}
+use Rattle.fsm_blocks.specs.Managers.{startingSet, headerFor, fsseUsed, fsseFor}
+use Rattle.fsm_writer.specs.Serializing.{ofRun, wide, anyWide, blocksLen, writtenFshd, writtenFsse}
+use Rattle.fsm_writer.specs.Writing.{headerOf}
+use Rattle.fsm_writer.proofs.RowLaws.{widths-are, width-small}
+
+-- ---- a run of sections as a source
+
+whole-fits : (l : List FreeSection) → All (λ s. Unit {0}) l
+whole-fits [] = tt
+whole-fits (x ∷ l) = (tt, whole-fits l)
+
+module _ (n : ℕ) (run : List ℕ) where
+  pub plain-given : 2 * n ≤ length run → Given (plainSource n) run run run
+  plain-given h = record {
+    some = omega arith;
+    room-a = h;
+    room-b = omega arith;
+    room-c = omega arith;
+    fit-a = whole-fits (decode n run);
+    fit-b = tt;
+    fit-c = tt;
+  }
+
+  pub plain-all : sectionsOf (chainsOf (plainSource n) run run run) ≡ decode n run
+  plain-all = sym (plain-runs n run run run)
+
+pub run-numbers : (n : ℕ) (run : List ℕ) → ((i : ℕ) → getD run i 0 < 2 ^ 64) → Numbers (decode n run)
+run-numbers zero run h = tt
+run-numbers (suc n) [] h = tt
+run-numbers (suc n) (a ∷ []) h = tt
+run-numbers (suc n) (a ∷ z ∷ run) h =
+    let p : a < 2 ^ 64 = h 0 in
+    let q : z < 2 ^ 64 = h 1 in
+    ((omega arith, omega arith), run-numbers n run (λ i. h (suc (suc i))))
+
+-- ---- what follows on a refusal and on an answer
+
+then-refused : {A B : Type 0} (s : Outcome A) (r : Refusal) (g : A → Outcome B) → s ≡ refused r → refused r ≡ andThen s g
+unfolding andThen
+then-refused s r g e = rw e
+
+-- a refusal of what gives a number is a refusal of what gives anything
+refused-alike : {A B : Type 0} (s : Outcome A) (f : A → ℕ) (n : ℕ) (vs : List ℕ) (g : A → Outcome B) → refuse n vs ≡ andThen s (λ x. answer (f x)) → refuse n vs ≡ andThen s g
+unfolding andThen
+refused-alike (answer a) f n vs g e = let z : _≡_ {A = ℕ} 0 1 = cc in absurd (omega arith)
+refused-alike nothing f n vs g e = let z : _≡_ {A = ℕ} 0 1 = cc in absurd (omega arith)
+refused-alike (refuse m ws) f n vs g e = cc
+
+answered : {A : Type 0} {R : Type 0} (s : Outcome A) (f : A → ℕ) (n : ℕ) → answer n ≡ andThen s (λ x. answer (f x)) → ((x : A) → s ≡ answer x → n ≡ f x → R) → R
+unfolding andThen
+answered (answer a) f n e k = k a refl cc
+answered nothing f n e k = let z : _≡_ {A = ℕ} 0 1 = cc in absurd (omega arith)
+answered (refuse m ws) f n e k = let z : _≡_ {A = ℕ} 0 1 = cc in absurd (omega arith)
+
+one-then : {A B : Type 0} (t : Bool) (r : Refusal) (x : A) (g : A → Outcome B) → andThen (firstOf (when t r ∷ []) (answer x)) g ≡ firstOf (when t r ∷ []) (g x)
+unfolding andThen firstOf
+one-then true r x g = refl
+one-then false r x g = refl
+
+not-false : (b : Bool) → not b ≡ false → b ≡ true
+not-false true e = refl
+not-false false e = true-not-false true refl e
+
+-- ---- a run of sections: refusals 1, 3, 4
+
+module _ (O : ℕ) (run : List ℕ) (n : ℕ) where
+  pub record Accepted (sum : ℕ) : Type 0 where
+    pub low : 1 ≤ O
+    pub high : O ≤ 8
+    pub room : 2 * n ≤ length run
+    pub is-sum : sum ≡ space (decode n run)
+    pub is : ofRun O run n ≡ answer (decode n run)
+
+  module _ {B : Type 0} (g : List FreeSection → Outcome B) where
+    pub run-width : not (validWidth O) ≡ true → refused Width ≡ andThen (ofRun O run n) g
+    unfolding ofRun
+    run-width h = then-refused _ Width g (first-holds _ Width _ _ h)
+
+    module _ (v : not (validWidth O) ≡ false) where
+      pub run-odd : (length run % 2 ≡ 0 → ⊥) → refused NotAList ≡ andThen (ofRun O run n) g
+      unfolding ofRun
+      run-odd h = then-refused _ NotAList g (first-passes _ Width _ _ v ∙ first-holds _ NotAList _ _ (rw (ne-eqb (length run % 2) 0 h)))
+
+      pub run-long : length run % 2 ≡ 0 → length run / 2 < n → refused NotAList ≡ andThen (ofRun O run n) g
+      unfolding ofRun
+      run-long e h = then-refused _ NotAList g (first-passes _ Width _ _ v ∙ first-holds _ NotAList _ _ (rw (eq-eqb (length run % 2) 0 e, lt-ltb (length run / 2) n h)))
+
+  pub run-space : not (validWidth O) ≡ false → length run % 2 ≡ 0 → n ≤ length run / 2 → (r : Outcome ℕ) → r ≡ spaceOf (sectionsOf (chainsOf (plainSource n) run run run))
+      → r ≡ andThen (ofRun O run n) (λ l. answer (space l))
+  unfolding ofRun spaceOf
+  run-space v e h r p =
+      p ∙ ap spaceOf (plain-all n run)
+      ∙ sym (ap (λ (s : Outcome (List FreeSection)). andThen s (λ l. answer (space l)))
+      (first-passes _ Width _ _ v ∙ first-passes _ NotAList _ _ (rw (eq-eqb (length run % 2) 0 e, le-ltb (length run / 2) n h)))
+      ∙ one-then (ltb top (space (decode n run))) Overflow (decode n run) (λ l. answer (space l)))
+
+  module _ (c : Number) (e : numberOutcome c ≡ andThen (ofRun O run n) (λ l. answer (space l))) where
+    pub taken-refused : {B : Type 0} (g : List FreeSection → Outcome B) (r : Refusal) → c ≡ number.Refused r → refused r ≡ andThen (ofRun O run n) g
+    taken-refused g r h = refused-alike (ofRun O run n) space _ _ g (ap numberOutcome (sym h) ∙ e)
+
+    pub taken-is : (sum : ℕ) → c ≡ number.Is sum → Accepted sum
+    unfolding ofRun
+    taken-is sum h = answered (ofRun O run n) space sum (ap numberOutcome (sym h) ∙ e) accept
+      where
+        accept : (l : List FreeSection) → ofRun O run n ≡ answer l → sum ≡ space l → Accepted sum
+        accept l i s =
+            let q = first-answers _ (decode n run) l i in
+            let v = and-true (leb 1 O) (leb O 8) (not-false (validWidth O) (q .0 .0)) in
+            let r = or-false (not (eqb (length run % 2) 0)) (ltb (length run / 2) n) (q .0 .1 .0) in
+            let m : n ≤ length run / 2 = ltb-false (length run / 2) n (r .1) in
+            record {
+              low = leb-true 1 O (v .0);
+              high = leb-true O 8 (v .1);
+              room = omega arith;
+              is-sum = s ∙ ap space (sym (q .1));
+              is = i ∙ ap (λ (k : List FreeSection). answer k) (sym (q .1));
+            }
+
+pub accepted-then : {B : Type 0} (O : ℕ) (run : List ℕ) (n sum : ℕ) → Accepted O run n sum → (g : List FreeSection → Outcome B) → g (decode n run) ≡ andThen (ofRun O run n) g
+unfolding andThen
+accepted-then O run n sum h g = rw (h .is)
+
+-- ---- addresses that do not fit
+
+pub wide-is : (o a : ℕ) → a < 2 ^ 64 → 1 ≤ o → ltb o (encSize a) ≡ wide o a
+wide-is o a h k = ⊎-elim big small (le-or-lt (256 ^ o) a)
+  where
+    big : 256 ^ o ≤ a → ltb o (encSize a) ≡ wide o a
+    big q =
+        let z : 0 < 256 = omega arith in
+        rw (le-leb (256 ^ o) a q)
+        (⊎-elim (λ (p : encSize a ≤ o). absurd (omega (arith, encSize-least a h .holds, pow-le-pow-right z p)))
+        (λ (p : o < encSize a). lt-ltb o (encSize a) p) (le-or-lt (encSize a) o))
+
+    small : a < 256 ^ o → ltb o (encSize a) ≡ wide o a
+    small q = rw (lt-leb (256 ^ o) a q) (le-ltb o (encSize a) (encSize-least a h .least o k q))
+
+module _ (o n : ℕ) (run : List ℕ) (room : 2 * n ≤ length run) (i : ℕ) (h : i < n) where
+  opens : drop i (decode n run) ≡ pairAt run i ∷ drop (i + 1) (decode n run)
+  opens = rw (add-one i) (drop-cons (decode n run) i (section 0 0) (omega (arith, length-decode n run room)) ∙ rw (decode-at n i run (section 0 0) h room))
+
+  pub wide-found : (t : Bool) → t ≡ wide o (getD run (2 * i) 0) → t ≡ true → anyWide o (drop i (decode n run)) ≡ anyWide o (decode n run) → true ≡ anyWide o (decode n run)
+  unfolding anyWide
+  wide-found t e f p = sym (sym p ∙ rw (opens, ← e, f))
+
+  pub wide-turn : (t : Bool) → t ≡ wide o (getD run (2 * i) 0) → t ≡ false → anyWide o (drop i (decode n run)) ≡ anyWide o (decode n run)
+      → anyWide o (drop (i + 1) (decode n run)) ≡ anyWide o (decode n run)
+  unfolding anyWide
+  wide-turn t e f p = sym (ap (anyWide o) opens ∙ rw (← e, f)) ∙ p
+
+pub wide-none : (o n i : ℕ) (run : List ℕ) → 2 * n ≤ length run → n ≤ i → anyWide o (drop i (decode n run)) ≡ anyWide o (decode n run) → false ≡ anyWide o (decode n run)
+unfolding anyWide
+wide-none o n i run room h p = ap (anyWide o) (sym (drop-of-length-le (decode n run) {i = i} (omega (arith, length-decode n run room)))) ∙ p
+
+-- ---- lengths
+
+distinct-few : (l : List FreeSection) → distinct l ≤ length l
+unfolding distinct
+distinct-few [] = omega arith
+distinct-few (x ∷ l) = pick (eqb (ofSize (x .size) l) 0) (distinct-few l)
+  where
+    pick : (t : Bool) → distinct l ≤ length l → cond t 1 0 + distinct l ≤ suc (length l)
+    pick true h = omega arith
+    pick false h = omega arith
+
+module _ (o n : ℕ) (run : List ℕ) (low : 1 ≤ o) (room : 2 * n ≤ length run) (d cw : ℕ) (de : d ≡ distinct (sectionsOf (chainsOf (plainSource n) run run run))) (ce : cw ≡ encSize n) where
+  pub used-run : 9 + o + d * (cw + 8) + n * (o + 1) ≡ fsseUsed o (startingSet o) (decode n run)
+  used-run =
+      let e : length (decode n run) ≡ n = length-decode n run room in
+      sym (ap (λ (v : Widths). fsseSize v o (decode n run)) (widths-are o (length (decode n run)) low)
+      ∙ rw (e, ← plain-all n run, ← de, ← ce))
+
+  pub few-sizes : d ≤ n
+  few-sizes = omega (arith, de, ap distinct (plain-all n run), distinct-few (decode n run), length-decode n run room)
+
+pub used-few : (o n : ℕ) (run : List ℕ) → 1 ≤ o → o ≤ 8 → 2 * n ≤ length run → n < 2 ^ 64 → fsseUsed o (startingSet o) (decode n run) ≤ 17 + 25 * n
+used-few o n run low high room fits =
+    let d = distinct (sectionsOf (chainsOf (plainSource n) run run run)) in
+    let e : 9 + o + d * (encSize n + 8) + n * (o + 1) ≡ fsseUsed o (startingSet o) (decode n run) = used-run o n run low room d (encSize n) refl refl in
+    let f : d ≤ n = few-sizes o n run low room d (encSize n) refl refl in
+    let w : encSize n + 8 ≤ 16 = omega (arith, width-small n fits) in
+    let k : o + 1 ≤ 9 = omega arith in
+    let r : n ≤ n = omega arith in
+    omega (arith, mul-le-mul f w, mul-le-mul r k)
+
+-- ---- the entries, by their branches
+
+module _ (O : ℕ) (run : List ℕ) (n sum : ℕ) (h : Accepted O run n sum) where
+  pub blocks-none : n ≡ 0 → answer 0 ≡ blocksLen O run n
+  unfolding blocksLen
+  blocks-none e =
+      let z : length (decode n run) ≡ 0 = length-decode n run (h .room) ∙ e in
+      sym (rw (eq-eqb (length (decode n run)) 0 z)) ∙ accepted-then O run n sum h (λ l. answer (cond (eqb (length l) 0) 0 (fshdSize O + fsseUsed O (startingSet O) l)))
+
+  pub blocks-some : (n ≡ 0 → ⊥) → (used : ℕ) → used ≡ fsseUsed O (startingSet O) (decode n run) → answer (74 + O + used) ≡ blocksLen O run n
+  unfolding blocksLen
+  blocks-some e used u =
+      let z : length (decode n run) ≡ 0 → ⊥ = λ q. e (sym (length-decode n run (h .room)) ∙ q) in
+      ap (λ (m : ℕ). answer (74 + O + m)) u ∙ sym (rw (ne-eqb (length (decode n run)) 0 z))
+      ∙ accepted-then O run n sum h (λ l. answer (cond (eqb (length l) 0) 0 (fshdSize O + fsseUsed O (startingSet O) l)))
+
+-- a refusal leaves the lent memory as it was
+pub left-refused : (m : List ℕ) (r : Refusal) (x : Outcome (With ℕ (List ℕ))) → refused r ≡ x → left (refused r) m ≡ leaving m x
+left-refused m r x e = ap (leaving m) e
+
+pub left-answer : (m y : List ℕ) (n : ℕ) (x : Outcome (With ℕ (List ℕ))) → answer (with n y) ≡ x → left (answer n) y ≡ leaving m x
+left-answer m y n x e = ap (leaving m) e
+
+-- two conditions behind those of the run
+module _ (O : ℕ) (run : List ℕ) (n sum : ℕ) (h : Accepted O run n sum) (t u : List FreeSection → Bool) (r : Refusal) (x : List FreeSection → With ℕ (List ℕ))
+    (need : List FreeSection → ℕ) (given : ℕ) where
+  abbrev two : List FreeSection → Outcome (With ℕ (List ℕ))
+  two l = firstOf (when (t l) r ∷ when (u l) (OverCapacity (need l) given) ∷ []) (answer (x l))
+
+  pub two-first : t (decode n run) ≡ true → refused r ≡ andThen (ofRun O run n) two
+  two-first e = sym (first-holds _ r _ _ e) ∙ accepted-then O run n sum h two
+
+  pub two-second : t (decode n run) ≡ false → u (decode n run) ≡ true → (k : ℕ) → k ≡ need (decode n run) → refused (OverCapacity k given) ≡ andThen (ofRun O run n) two
+  two-second e f k q =
+      ap (λ (m : ℕ). refused (OverCapacity m given)) q ∙ sym (first-passes _ r _ _ e ∙ first-holds _ (OverCapacity (need (decode n run)) given) _ _ f)
+      ∙ accepted-then O run n sum h two
+
+  pub two-answer : t (decode n run) ≡ false → u (decode n run) ≡ false → answer (x (decode n run)) ≡ andThen (ofRun O run n) two
+  two-answer e f =
+      sym (first-passes _ r _ _ e ∙ first-passes _ (OverCapacity (need (decode n run)) given) _ _ f ∙ first-none _)
+      ∙ accepted-then O run n sum h two
+
+-- ---- `serialize_fshd`
+module _ (O : ℕ) (run : List ℕ) (n sum : ℕ) (h : Accepted O run n sum) (fsse : ℕ) (out : List ℕ) where
+  abbrev fshdLent : List FreeSection → With ℕ (List ℕ)
+  fshdLent l = with (fshdSize O) (over 0 (fshdBytes lookup3 O (headerFor O (startingSet O) fsse l)) out)
+
+  pub fshd-wide : wide O fsse ≡ true → left (refused WideAddress) out ≡ leaving out (writtenFshd O run n fsse out)
+  unfolding writtenFshd
+  fshd-wide e =
+      left-refused out WideAddress _ (two-first O run n sum h (λ l. wide O fsse) (λ l. ltb (length out) (fshdSize O)) WideAddress fshdLent (λ l. fshdSize O) (length out) e)
+
+  pub fshd-short : wide O fsse ≡ false → length out < 74 + O → left (refused (OverCapacity (74 + O) (length out))) out ≡ leaving out (writtenFshd O run n fsse out)
+  unfolding writtenFshd
+  fshd-short e k =
+      left-refused out (OverCapacity (74 + O) (length out)) _
+      (two-second O run n sum h (λ l. wide O fsse) (λ l. ltb (length out) (fshdSize O)) WideAddress fshdLent (λ l. fshdSize O) (length out) e (lt-ltb (length out) (74 + O) k) (74 + O) refl)
+
+  pub fshd-done : wide O fsse ≡ false → 74 + O ≤ length out → (used : ℕ) → used ≡ fsseUsed O (startingSet O) (decode n run) → (y : List ℕ)
+      → y ≡ over 0 (fshdBytes lookup3 O (headerOf O (startingSet O) sum n fsse used)) out → left (answer (74 + O)) y ≡ leaving out (writtenFshd O run n fsse out)
+  unfolding writtenFshd
+  fshd-done e k used u y p =
+      let q : headerOf O (startingSet O) sum n fsse used ≡ headerFor O (startingSet O) fsse (decode n run) =
+      ap (λ (m : ℕ). headerOf O (startingSet O) m n fsse used) (h .is-sum)
+      ∙ ap (λ (m : ℕ). headerOf O (startingSet O) (space (decode n run)) m fsse used) (sym (length-decode n run (h .room)))
+      ∙ ap (λ (m : ℕ). headerOf O (startingSet O) (space (decode n run)) (length (decode n run)) fsse m) u in
+      let z : y ≡ over 0 (fshdBytes lookup3 O (headerFor O (startingSet O) fsse (decode n run))) out = p ∙ ap (λ (m : Header). over 0 (fshdBytes lookup3 O m) out) q in
+      ap (λ (m : List ℕ). left (answer (74 + O)) m) z
+      ∙ left-answer out _ (74 + O) _
+      (two-answer O run n sum h (λ l. wide O fsse) (λ l. ltb (length out) (fshdSize O)) WideAddress fshdLent (λ l. fshdSize O) (length out) e (le-ltb (length out) (74 + O) k))
+
+-- ---- `serialize_fsse`
+module _ (O : ℕ) (run : List ℕ) (n sum : ℕ) (h : Accepted O run n sum) (fshd class : ℕ) (out : List ℕ) where
+  abbrev used : List FreeSection → ℕ
+  used l = fsseUsed O (startingSet O) l
+
+  abbrev fsseLent : List FreeSection → With ℕ (List ℕ)
+  fsseLent l = with (used l) (over 0 (fsseFor O (startingSet O) lookup3 fshd class l) out)
+
+  pub fsse-wide : (wide O fshd || anyWide O (decode n run)) ≡ true → left (refused WideAddress) out ≡ leaving out (writtenFsse O run n fshd class out)
+  unfolding writtenFsse
+  fsse-wide e =
+      left-refused out WideAddress _ (two-first O run n sum h (λ l. wide O fshd || anyWide O l) (λ l. ltb (length out) (used l)) WideAddress fsseLent used (length out) e)
+
+  module _ (e : (wide O fshd || anyWide O (decode n run)) ≡ false) (m : ℕ) (u : m ≡ used (decode n run)) where
+    pub fsse-short : length out < m → left (refused (OverCapacity m (length out))) out ≡ leaving out (writtenFsse O run n fshd class out)
+    unfolding writtenFsse
+    fsse-short k =
+        left-refused out (OverCapacity m (length out)) _
+        (two-second O run n sum h (λ l. wide O fshd || anyWide O l) (λ l. ltb (length out) (used l)) WideAddress fsseLent used (length out) e
+        (lt-ltb (length out) (used (decode n run)) (omega arith)) m u)
+
+    pub fsse-done : m ≤ length out → (y : List ℕ) → y ≡ over 0 (fsseFor O (startingSet O) lookup3 fshd class (sectionsOf (chainsOf (plainSource n) run run run))) out
+        → left (answer m) y ≡ leaving out (writtenFsse O run n fshd class out)
+    unfolding writtenFsse
+    fsse-done k y p =
+        let z : y ≡ over 0 (fsseFor O (startingSet O) lookup3 fshd class (decode n run)) out = p ∙ ap (λ (l : List FreeSection). over 0 (fsseFor O (startingSet O) lookup3 fshd class l) out) (plain-all n run) in
+        ap₂ (λ (i : ℕ) (x : List ℕ). left (answer i) x) u z
+        ∙ left-answer out _ (used (decode n run)) _
+        (two-answer O run n sum h (λ l. wide O fshd || anyWide O l) (λ l. ltb (length out) (used l)) WideAddress fsseLent used (length out) e
+        (le-ltb (length out) (used (decode n run)) (omega arith)))
+
+pub or-left : (a b : Bool) → a ≡ true → (a || b) ≡ true
+or-left a b e = rw e
+
+pub or-right : (a b : Bool) → a ≡ false → b ≡ true → (a || b) ≡ true
+or-right a b e f = rw (e, f)
+
+pub or-neither : (a b : Bool) → a ≡ false → b ≡ false → (a || b) ≡ false
+or-neither a b e f = rw (e, f)
+
+-- what the list's writer asks, of a run of sections
+pub run-asked : (O : ℕ) (run : List ℕ) (n sum : ℕ) → Accepted O run n sum → ((i : ℕ) → getD run i 0 < 2 ^ 64) → (m : ℕ) → m ≡ fsseUsed O (startingSet O) (decode n run) → (k : ℕ) → m ≤ k
+    → (s : Source) → s ≡ plainSource n
+    → Given s run run run
+    × (Numbers (sectionsOf (chainsOf s run run run))
+    × (((1 ≤ O) × (O ≤ 8))
+    × ((n ≡ length (sectionsOf (chainsOf s run run run)))
+    × ((m ≡ fsseUsed O (startingSet O) (sectionsOf (chainsOf s run run run))) × (m ≤ k)))))
+run-asked O run n sum h numbers m u k f s e =
+    rw e
+    (rw (plain-all n run)
+    (plain-given n run (h .room), (run-numbers n run numbers, ((h .low, h .high), (sym (length-decode n run (h .room)), (u, f))))))

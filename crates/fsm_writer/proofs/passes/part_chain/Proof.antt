@@ -1,0 +1,100 @@
+use native.Mathlib.Omega.{arith}
+use Prim.Native.Nat.{_-_}
+use native.Mathlib.Nat.{div-mul-le-self}
+use Rattle.fsm_sections.proofs.SourceLaws.{head-chain, pages-chain, tail-chain, whole-chain, pages-end, tail-end}
+use borrow.Author.Needs.{needs}
+use Rattle.fsm_writer.proofs.passes.part_chain.Statement.{statement}
+use Rattle.fsm_writer.proofs.passes.part_chain.Tie as tie
+
+enum-told : tie.Need-enum-told
+enum-told c = search needs
+
+head-size-requires : tie.Need-head-size-requires
+head-size-requires c κs = search needs
+
+one-chain-requires : tie.Need-one-chain-requires
+one-chain-requires c κs = search needs
+
+enum-told-2 : tie.Need-enum-told-2
+enum-told-2 c = search needs
+
+head-size-requires-2 : tie.Need-head-size-requires-2
+head-size-requires-2 c κs = search needs
+
+add-t11 : tie.Need-add-t11
+add-t11 c = omega (arith, c .head-size2 .ensures, pages-end (c .before .before .before .args .part) 0 (c .before .before .before .args .addr) (c .before .before .before .args .size) (c .before .enum-told2 .given .1) (c .before .before .before .pre .1))
+
+sub-t12 : tie.Need-sub-t12
+sub-t12 c = search needs
+
+div-t13 : tie.Need-div-t13
+div-t13 c = search needs
+
+enum-told-3 : tie.Need-enum-told-3
+enum-told-3 c = search needs
+
+head-size-requires-3 : tie.Need-head-size-requires-3
+head-size-requires-3 c κs = search needs
+
+sub-body : tie.Need-sub-body
+sub-body c = search needs
+
+div-pages : tie.Need-div-pages
+div-pages c = search needs
+
+add-one-chain : tie.Need-add-one-chain
+add-one-chain c = omega (arith, c .head-size3 .ensures, tail-end (c .before .before .before .args .part) 0 (c .before .before .before .args .addr) (c .before .before .before .args .size) (c .before .enum-told3 .given .1) (c .before .before .before .pre .1), div-mul-le-self (c .before .before .before .args .size - c .head-size3 .result) (c .before .before .before .args .page))
+
+mul-one-chain : tie.Need-mul-one-chain
+mul-one-chain c = omega (arith, c .head-size3 .ensures, tail-end (c .before .before .before .args .part) 0 (c .before .before .before .args .addr) (c .before .before .before .args .size) (c .before .enum-told3 .given .1) (c .before .before .before .pre .1), div-mul-le-self (c .before .before .before .args .size - c .head-size3 .result) (c .before .before .before .args .page))
+
+add-one-chain-2 : tie.Need-add-one-chain-2
+add-one-chain-2 c = omega (arith, c .head-size3 .ensures, tail-end (c .before .before .before .args .part) 0 (c .before .before .before .args .addr) (c .before .before .before .args .size) (c .before .enum-told3 .given .1) (c .before .before .before .pre .1), div-mul-le-self (c .before .before .before .args .size - c .head-size3 .result) (c .before .before .before .args .page))
+
+rem-one-chain : tie.Need-rem-one-chain
+rem-one-chain c = search needs
+
+one-chain-requires-2 : tie.Need-one-chain-requires-2
+one-chain-requires-2 c κs = search needs
+
+enum-told-4 : tie.Need-enum-told-4
+enum-told-4 c = search needs
+
+returns : tie.Need-returns
+returns c = head-chain (c .before .before .before .before .args .part) (c .before .before .before .before .args .page) (c .before .before .before .before .args .addr) (c .before .before .before .before .args .size) _ _ (c .before .before .enum-told .given .1) (c .before .head-size .ensures) (c .one-chain .ensures)
+
+returns-2 : tie.Need-returns-2
+returns-2 c = pages-chain (c .before .before .before .args .part) (c .before .before .before .args .page) (c .before .before .before .args .addr) (c .before .before .before .args .size) _ (c .before .enum-told2 .given .1) (c .head-size2 .ensures)
+
+returns-3 : tie.Need-returns-3
+returns-3 c = tail-chain (c .before .before .before .before .args .part) (c .before .before .before .before .args .page) (c .before .before .before .before .args .addr) (c .before .before .before .before .args .size) _ _ (c .before .before .enum-told3 .given .1) (c .before .head-size3 .ensures) (c .one-chain2 .ensures)
+
+returns-4 : tie.Need-returns-4
+returns-4 c = whole-chain (c .before .before .args .part) (c .before .before .args .page) (c .before .before .args .addr) (c .before .before .args .size) (c .enum-told4 .given .1)
+
+pub part-chain-spec : {M : Type 1} → statement M
+part-chain-spec =
+    tie.close
+    (tie.spec
+    enum-told
+    head-size-requires
+    one-chain-requires
+    enum-told-2
+    head-size-requires-2
+    add-t11
+    sub-t12
+    div-t13
+    enum-told-3
+    head-size-requires-3
+    sub-body
+    div-pages
+    add-one-chain
+    mul-one-chain
+    add-one-chain-2
+    rem-one-chain
+    one-chain-requires-2
+    enum-told-4
+    returns
+    returns-2
+    returns-3
+    returns-4)

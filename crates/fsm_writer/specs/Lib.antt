@@ -1,0 +1,2 @@
+pub mod Serializing
+pub mod Writing

@@ -1,0 +1,429 @@
+// Passes over the sections that a source gives, with no work memory: each takes the source's chains one by one.
+ghost use mathlib.Core.Path.{_≡_};
+ghost use Prim.Native.Nat.{_+_, _*_, _<_, _≤_, _^_, min};
+ghost use mathlib.Core.Bool.{cond, _&&_, not};
+ghost use lib.Dec.{ltb, eqb};
+ghost use lib.ListN.{length};
+ghost use Rattle.error.specs.Answers.{numberOutcome};
+ghost use Rattle.fsm_sections.specs.Sections.{section, times, ofSize, distinct};
+ghost use Rattle.fsm_sections.specs.Chains.{link, chain, sectionsOf, ChainFits};
+ghost use Rattle.fsm_sections.specs.Sources.{pad, one, partOf, chainsOf, rest, chainCount, PartFits, Given, Within, Taking, Chosen, ChosenOfTwo};
+ghost use Rattle.fsm_sections.specs.Passes.{leastSize, leastAddr, spaceOf};
+use error::Number;
+use error::Refusal;
+use fsm_sections::Chain;
+use fsm_sections::Part;
+use fsm_sections::Source;
+use fsm_sections::Taken;
+
+// One section, or none where it would be empty.
+fn one_chain(addr: u64, size: u64) -> Chain
+    ensures { λ r. ⌜ r ≡ one addr size ⌝ }
+{
+    if size == 0 {
+        return Chain {
+            addr: addr,
+            size: size,
+            count: 0,
+        };
+    }
+    Chain {
+        addr: addr,
+        size: size,
+        count: 1,
+    }
+}
+
+// How many of `size` bytes from `addr` on stand before the first page multiple.
+fn head_size(page: u64, addr: u64, size: u64) -> u64
+    requires { ⌜ 0 < page ⌝ }
+    ensures { λ r. ⌜ r ≡ min size (pad page addr) ⌝ }
+{
+    let over = addr % page;
+    if over == 0 {
+        return 0;
+    }
+    let pad = page - over;
+    if size < pad {
+        return size;
+    }
+    pad
+}
+
+// A part of a region.
+fn part_chain(part: Part, page: u64, addr: u64, size: u64) -> Chain
+    requires { ⌜ (0 < page) × PartFits part (section addr size) ⌝ }
+    ensures { λ r. ⌜ r ≡ partOf part page (section addr size) ⌝ }
+{
+    match part {
+        Part::Head => one_chain(addr, head_size(page, addr, size)),
+        Part::Pages => {
+            let head = head_size(page, addr, size);
+            Chain {
+                addr: addr + head,
+                size: page,
+                count: (size - head) / page,
+            }
+        }
+        Part::Tail => {
+            let head = head_size(page, addr, size);
+            let body = size - head;
+            let pages = body / page;
+            one_chain(addr + head + pages * page, body % page)
+        }
+        Part::Whole => Chain {
+            addr: addr,
+            size: size,
+            count: 1,
+        },
+    }
+}
+
+// Which of two runs has the region with the lower address, the first on a tie: 1 or 2, or 0 where both are done.
+fn first_of_two(b: &[u64], c: &[u64], s: Source, j: usize, k: usize) -> u8
+    requires { ⌜ (2 * s .nb ≤ length (now b)) × (2 * s .nc ≤ length (now c)) ⌝ }
+    ensures { λ r. ⌜ ChosenOfTwo s j k r ⌝ }
+{
+    if s.nb <= j {
+        if s.nc <= k {
+            return 0;
+        }
+        return 2;
+    }
+    if s.nc <= k {
+        return 1;
+    }
+    if c[2 * k] < b[2 * j] {
+        return 2;
+    }
+    1
+}
+
+// The run with the region of the lowest address, the earlier run on a tie: 0, 1 or 2. Lists by address are gone through by address
+// that way. The sections do not depend on it, only how fast they are written.
+fn first_of(a: &[u64], b: &[u64], c: &[u64], s: Source, i: usize, j: usize, k: usize) -> u8
+    requires rooms { ⌜ (2 * s .na ≤ length (now a)) × (2 * s .nb ≤ length (now b)) × (2 * s .nc ≤ length (now c)) ⌝ }
+    requires left { ⌜ i + (j + k) < chainCount s ⌝ }
+    requires within { ⌜ Within s i j k ⌝ }
+    ensures { λ r. ⌜ Chosen s i j k r ⌝ }
+{
+    let w = first_of_two(b, c, s, j, k);
+    if w == 0 {
+        return 0;
+    }
+    if s.na <= i {
+        return w;
+    }
+    if w == 1 {
+        if b[2 * j] < a[2 * i] {
+            return 1;
+        }
+        return 0;
+    }
+    if c[2 * k] < a[2 * i] {
+        return 2;
+    }
+    0
+}
+
+// A chain of what is left.
+pub(crate) fn next_chain(
+    a: &[u64],
+    b: &[u64],
+    c: &[u64],
+    s: Source,
+    i: usize,
+    j: usize,
+    k: usize,
+) -> Taken
+    requires given { ⌜ Given s (now a) (now b) (now c) ⌝ }
+    requires left { ⌜ i + (j + k) < chainCount s ⌝ }
+    requires within { ⌜ Within s i j k ⌝ }
+    ensures { λ t. ⌜ Taking s (now (a .entry)) (now (b .entry)) (now (c .entry)) i j k t ⌝ }
+{
+    let page = s.page;
+    let w = first_of(a, b, c, s, i, j, k);
+    if w == 0 {
+        let p = s.pa;
+        let r = part_chain(p, page, a[2 * i], a[2 * i + 1]);
+        return Taken {
+            addr: r.addr,
+            size: r.size,
+            count: r.count,
+            i: i + 1,
+            j: j,
+            k: k,
+        };
+    }
+    if w == 1 {
+        let p = s.pb;
+        let r = part_chain(p, page, b[2 * j], b[2 * j + 1]);
+        return Taken {
+            addr: r.addr,
+            size: r.size,
+            count: r.count,
+            i: i,
+            j: j + 1,
+            k: k,
+        };
+    }
+    let p = s.pc;
+    let r = part_chain(p, page, c[2 * k], c[2 * k + 1]);
+    Taken {
+        addr: r.addr,
+        size: r.size,
+        count: r.count,
+        i: i,
+        j: j,
+        k: k + 1,
+    }
+}
+
+// The sum of the sizes.
+pub(crate) fn space_of(a: &[u64], b: &[u64], c: &[u64], s: Source) -> Number
+    requires { ⌜ Given s (now a) (now b) (now c) ⌝ }
+    ensures { λ r. ⌜ numberOutcome r ≡ spaceOf (sectionsOf (chainsOf s (now (a .entry)) (now (b .entry)) (now (c .entry)))) ⌝ }
+{
+    let total = s.na + s.nb + s.nc;
+    let mut n: u64 = 0;
+    let mut i = 0;
+    let mut j = 0;
+    let mut k = 0;
+    while i + j + k < total {
+        let t = next_chain(a, b, c, s, i, j, k);
+        let more = t.count * t.size;
+        if 18446744073709551615 - n < more {
+            return Number::Refused(Refusal::Overflow);
+        }
+        n = n + more;
+        i = t.i;
+        j = t.j;
+        k = t.k;
+    }
+    Number::Is(n)
+}
+
+// How many sections there are.
+pub(crate) fn section_count(a: &[u64], b: &[u64], c: &[u64], s: Source) -> u64
+    requires given { ⌜ Given s (now a) (now b) (now c) ⌝ }
+    requires few { ⌜ length (sectionsOf (chainsOf s (now a) (now b) (now c))) < 2 ^ 64 ⌝ }
+    ensures { λ r. ⌜ r ≡ length (sectionsOf (chainsOf s (now (a .entry)) (now (b .entry)) (now (c .entry)))) ⌝ }
+{
+    let total = s.na + s.nb + s.nc;
+    let mut n: u64 = 0;
+    let mut i = 0;
+    let mut j = 0;
+    let mut k = 0;
+    while i + j + k < total {
+        let t = next_chain(a, b, c, s, i, j, k);
+        n = n + t.count;
+        i = t.i;
+        j = t.j;
+        k = t.k;
+    }
+    n
+}
+
+// How many of a chain's sections have size z.
+pub(crate) fn matching(size: u64, count: u64, z: u64) -> u64
+    ensures { λ r. ⌜ r ≡ cond (eqb z size) count 0 ⌝ }
+{
+    if z == size { count } else { 0 }
+}
+
+// Whether a section of what is left has size z.
+fn size_left(
+    a: &[u64],
+    b: &[u64],
+    c: &[u64],
+    s: Source,
+    i0: usize,
+    j0: usize,
+    k0: usize,
+    z: u64,
+) -> bool
+    requires given { ⌜ Given s (now a) (now b) (now c) ⌝ }
+    requires within { ⌜ Within s i0 j0 k0 ⌝ }
+    ensures { λ r. ⌜ r ≡ ltb 0 (ofSize z (rest s (now (a .entry)) (now (b .entry)) (now (c .entry)) i0 j0 k0)) ⌝ }
+{
+    let total = s.na + s.nb + s.nc;
+    let mut i = i0;
+    let mut j = j0;
+    let mut k = k0;
+    while i + j + k < total {
+        let t = next_chain(a, b, c, s, i, j, k);
+        if 0 < matching(t.size, t.count, z) {
+            return true;
+        }
+        i = t.i;
+        j = t.j;
+        k = t.k;
+    }
+    false
+}
+
+// 1 for a chain that is not empty and whose size comes no more, else 0.
+fn new_size(count: u64, left: bool) -> u64
+    ensures { λ r. ⌜ r ≡ cond (ltb 0 count && not left) 1 0 ⌝ }
+{
+    if count == 0 {
+        return 0;
+    }
+    if left {
+        return 0;
+    }
+    1
+}
+
+// How many sizes there are.
+pub(crate) fn size_count(a: &[u64], b: &[u64], c: &[u64], s: Source) -> u64
+    requires { ⌜ Given s (now a) (now b) (now c) ⌝ }
+    ensures { λ r. ⌜ r ≡ distinct (sectionsOf (chainsOf s (now (a .entry)) (now (b .entry)) (now (c .entry)))) ⌝ }
+{
+    let total = s.na + s.nb + s.nc;
+    let mut n: u64 = 0;
+    let mut i = 0;
+    let mut j = 0;
+    let mut k = 0;
+    while i + j + k < total {
+        let t = next_chain(a, b, c, s, i, j, k);
+        let left = size_left(a, b, c, s, t.i, t.j, t.k, t.size);
+        n = n + new_size(t.count, left);
+        i = t.i;
+        j = t.j;
+        k = t.k;
+    }
+    n
+}
+
+// The lesser of a size and a chain's, where that is at least `from`.
+pub(crate) fn lesser_size(best: u64, from: u64, size: u64, count: u64) -> u64
+    ensures { λ r. ⌜ r ≡ min best (leastSize from (chain 0 size count)) ⌝ }
+{
+    if count == 0 {
+        return best;
+    }
+    if size < from {
+        return best;
+    }
+    if best < size {
+        return best;
+    }
+    size
+}
+
+// The least size at or above `from`.
+pub(crate) fn least_size(a: &[u64], b: &[u64], c: &[u64], s: Source, from: u64) -> u64
+    requires { ⌜ Given s (now a) (now b) (now c) ⌝ }
+    ensures { λ r. ⌜ r ≡ leastSize from (sectionsOf (chainsOf s (now (a .entry)) (now (b .entry)) (now (c .entry)))) ⌝ }
+{
+    let total = s.na + s.nb + s.nc;
+    let mut best: u64 = 18446744073709551615;
+    let mut i = 0;
+    let mut j = 0;
+    let mut k = 0;
+    while i + j + k < total {
+        let t = next_chain(a, b, c, s, i, j, k);
+        best = lesser_size(best, from, t.size, t.count);
+        i = t.i;
+        j = t.j;
+        k = t.k;
+    }
+    best
+}
+
+// The lesser of two numbers.
+fn lesser(x: u64, y: u64) -> u64
+    ensures { λ r. ⌜ r ≡ min x y ⌝ }
+{
+    if x <= y { x } else { y }
+}
+
+// The least address at or above `from` of a chain's sections, if they have size z.
+fn first_from(addr: u64, size: u64, count: u64, z: u64, from: u64) -> u64
+    requires { ⌜ ChainFits (link addr size count) ⌝ }
+    ensures { λ r. ⌜ r ≡ leastAddr z from (chain addr size count) ⌝ }
+{
+    if count == 0 {
+        return 18446744073709551615;
+    }
+    if z != size {
+        return 18446744073709551615;
+    }
+    if from <= addr {
+        return addr;
+    }
+    if size == 0 {
+        return 18446744073709551615;
+    }
+    let q = (from - addr - 1) / size;
+    if count - 1 <= q {
+        return 18446744073709551615;
+    }
+    addr + (q + 1) * size
+}
+
+// The least address at or above `from` of the sections of size z.
+pub(crate) fn least_addr(a: &[u64], b: &[u64], c: &[u64], s: Source, z: u64, from: u64) -> u64
+    requires { ⌜ Given s (now a) (now b) (now c) ⌝ }
+    ensures { λ r. ⌜ r ≡ leastAddr z from (sectionsOf (chainsOf s (now (a .entry)) (now (b .entry)) (now (c .entry)))) ⌝ }
+{
+    let total = s.na + s.nb + s.nc;
+    let mut best: u64 = 18446744073709551615;
+    let mut i = 0;
+    let mut j = 0;
+    let mut k = 0;
+    while i + j + k < total {
+        let t = next_chain(a, b, c, s, i, j, k);
+        best = lesser(best, first_from(t.addr, t.size, t.count, z, from));
+        i = t.i;
+        j = t.j;
+        k = t.k;
+    }
+    best
+}
+
+// How often a section stands in a chain.
+fn copies_in(first: u64, step: u64, count: u64, addr: u64, size: u64) -> u64
+    ensures { λ r. ⌜ r ≡ times (section addr size) (chain first step count) ⌝ }
+{
+    if size == step {
+        if addr < first {
+            return 0;
+        }
+        let d = addr - first;
+        if step == 0 {
+            if d == 0 {
+                return count;
+            }
+            return 0;
+        }
+        if d % step == 0 {
+            if d / step < count {
+                return 1;
+            }
+        }
+    }
+    0
+}
+
+// How often a section is there.
+pub(crate) fn copies_of(a: &[u64], b: &[u64], c: &[u64], s: Source, addr: u64, size: u64) -> u64
+    requires given { ⌜ Given s (now a) (now b) (now c) ⌝ }
+    requires few { ⌜ ofSize size (sectionsOf (chainsOf s (now a) (now b) (now c))) < 2 ^ 64 ⌝ }
+    ensures { λ r. ⌜ r ≡ times (section addr size) (sectionsOf (chainsOf s (now (a .entry)) (now (b .entry)) (now (c .entry)))) ⌝ }
+{
+    let total = s.na + s.nb + s.nc;
+    let mut n: u64 = 0;
+    let mut i = 0;
+    let mut j = 0;
+    let mut k = 0;
+    while i + j + k < total {
+        let t = next_chain(a, b, c, s, i, j, k);
+        n = n + copies_in(t.addr, t.size, t.count, addr, size);
+        i = t.i;
+        j = t.j;
+        k = t.k;
+    }
+    n
+}

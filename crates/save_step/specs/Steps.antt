@@ -1,0 +1,95 @@
+-- A step of a save, which makes one store, and steps in a row. Assumes nothing.
+--   Progress      what a step says: that it made a store, with the record after it, or finished
+--   stepOutcome   the outcome that an answer of the code stands for
+--   stores        how many stores a save with L block bytes has, L + 126
+--   allMade       all stores of the record's save are made
+--   leaves        message or blocks of the record leave an image of a length, or a scratch of a length lacks bytes of them
+--   Inside        what it means that they do not
+--   nextStore     the store that a step makes: number `done` of the save whose blocks are the first bytes of the scratch and whose message stands behind them
+--   counted       the record with one store more
+--   stepped       a step: after the last store it says finished and changes nothing; before, it is refusal 13 where places leave, and else makes one store
+--   Saving        a save's record and image, as the beginning or the last step left them
+--   recordAfter   the record that a step leaves
+--   goOn          record and image that a step leaves; after a refusal they are as before
+--   stepOn        record and image after one step
+--   steps         record and image after k steps in a row
+use Prim.Native.Nat.{ℕ, zero, suc, _+_, _≤_, _<_}
+use mathlib.Core.Bool.{Bool, cond, _&&_, _||_}
+use mathlib.Core.List.{List, [], _∷_}
+use lib.Dec.{ltb, leb}
+use lib.ListN.{length, getD, take}
+use Rattle.error.specs.declared.Refusal.the-variants.{Place}
+use Rattle.error.specs.Outcome.{Outcome, answer, nothing, refuse, refused, when, firstOf}
+use Rattle.error.specs.Lent.{With, with}
+use Rattle.fields.specs.Layout.{window}
+use Rattle.save_step.specs.declared.Save.{Save}
+use Rattle.save_step.specs.declared.Step.{Step}
+use Rattle.save_step.specs.declared.Step.the-variants as step
+use Rattle.save_step.specs.declared.Store.{Store}
+use Rattle.save_step.specs.Stores.{noStore, make, saveStores, messageLen}
+
+-- ---- one step
+
+pub data Progress : Type 0 where
+  stored : Save → Progress
+  finished : Progress
+
+abbrev pub stepOutcome : Step → Outcome Progress
+stepOutcome (step.Stored s) = answer (stored s)
+stepOutcome step.Finished = answer finished
+stepOutcome (step.Refused r) = refused r
+
+abbrev pub stores : ℕ → ℕ
+stores L = L + 126
+
+abbrev pub allMade : Save → Bool
+allMade s = leb (stores (s .len)) (s .done)
+
+abbrev pub leaves : Save → ℕ → ℕ → Bool
+leaves s image scratch =
+    ltb image (s .place + messageLen)
+    || (ltb scratch (s .len + messageLen)
+    || (ltb 0 (s .len) && ltb image (s .start + s .len)))
+
+pub record Inside (s : Save) (image scratch : ℕ) : Type 0 where
+  pub message-in : s .place + messageLen ≤ image
+  pub blocks-in : 0 < s .len → s .start + s .len ≤ image
+  pub both-lent : s .len + messageLen ≤ scratch
+
+unfoldable pub nextStore : Save → List ℕ → Store
+nextStore s scratch =
+    getD (saveStores (s .place) (s .start) (take (s .len) scratch) (window (s .len) messageLen scratch)) (s .done) noStore
+
+abbrev pub counted : Save → Save
+counted s = record { start = s .start; place = s .place; len = s .len; done = s .done + 1 }
+
+unfoldable pub stepped : Save → List ℕ → List ℕ → Outcome (With Progress (List ℕ))
+stepped s image scratch =
+    cond (allMade s) (answer (with finished image))
+    (firstOf (when (leaves s (length image) (length scratch)) Place ∷ [])
+    (answer (with (stored (counted s)) (make (nextStore s scratch) image))))
+
+-- ---- steps in a row
+
+pub record Saving : Type 0 where
+  pub save : Save
+  pub image : List ℕ
+
+abbrev pub saving : Save → List ℕ → Saving
+saving s i = record { save = s; image = i }
+
+abbrev pub recordAfter : Save → Progress → Save
+recordAfter s (stored t) = t
+recordAfter s finished = s
+
+abbrev pub goOn : Saving → Outcome (With Progress (List ℕ)) → Saving
+goOn x (answer a) = saving (recordAfter (x .save) (a .value)) (a .memory)
+goOn x nothing = x
+goOn x (refuse n vs) = x
+
+abbrev pub stepOn : List ℕ → Saving → Saving
+stepOn scratch x = goOn x (stepped (x .save) (x .image) scratch)
+
+unfoldable pub steps : ℕ → List ℕ → Saving → Saving
+steps zero scratch x = x
+steps (suc k) scratch x = stepOn scratch (steps k scratch x)
