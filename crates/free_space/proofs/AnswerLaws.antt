@@ -1,8 +1,8 @@
 -- The cases of what each call answers. Assumes nothing.
 use mathlib.Core.Path.{_≡_, refl, sym, ap, ap₂, _∙_}
-use mathlib.Core.List.{List, [], _∷_}
+use mathlib.Core.List.{List, []}
 use mathlib.Core.Bool.{Bool, true, false, cond, _&&_, not}
-use Prim.Native.Nat.{ℕ, suc, _+_, _-_, _*_, _%_, _≤_, _<_}
+use Prim.Native.Nat.{ℕ, suc, _+_, _-_, _*_, _≤_, _<_}
 use native.Mathlib.Numerals.{add-one}
 use native.Mathlib.Omega.{arith}
 use borrow.Author.Tests.{lt-ltb, le-ltb, eq-eqb, ne-eqb}
@@ -16,8 +16,8 @@ use Rattle.fields.specs.Ranges.{top}
 use Rattle.free_space.specs.declared.region.FreeRegion.{FreeRegion}
 use Rattle.free_space.specs.declared.list.FreeList.{FreeList}
 use Rattle.free_space.specs.declared.decide.Decision.the-variants.{Refused, Nothing}
-use Rattle.free_space.specs.Regions.{region, end, around, spliced, shares, insert, cutAll, Found, none, at, best}
-use Rattle.free_space.specs.Runs.{regionAt, decode, regions, isList}
+use Rattle.free_space.specs.Regions.{region, end, around, spliced, shares, insert, cutAll, Found, at, best}
+use Rattle.free_space.specs.Runs.{regionAt, regions, isList}
 use Rattle.free_space.specs.Units.{interiorStart, interiorSpan}
 use Rattle.free_space.specs.Calls.{Gave, giving, placed, taken, serve, keeping, freedRegions, leftRegions, allocated, allocatedUnits, freed, rangeTaken, trailingTaken}
 use Rattle.free_space.specs.Decisions.{partUnit, ifList, givenBy, keptBy}

@@ -1,9 +1,9 @@
 -- Laws of the best fit: a pass upwards finds what the definition says, and what is found suffices. Assumes nothing.
 use mathlib.Core.Path.{_≡_, refl, sym, ap, ap₂, _∙_, subst⁻¹}
 use mathlib.Core.List.{List, [], _∷_}
-use mathlib.Core.Logic.{⊎-elim, inl, inr}
+use mathlib.Core.Logic.{⊎-elim}
 use mathlib.Core.Bool.{Bool, true, false, cond, _&&_}
-use Prim.Native.Nat.{ℕ, zero, suc, _+_, _-_, _*_, _%_, _^_, _≤_, _<_}
+use Prim.Native.Nat.{ℕ, suc, _+_, _-_, _*_, _%_, _^_, _≤_, _<_}
 use native.Mathlib.Numerals.{add-one}
 use native.Mathlib.Omega.{arith}
 use borrow.Author.Tests.{le-leb, lt-leb, lt-ltb, le-ltb, leb-true, leb-false}
@@ -17,7 +17,7 @@ use Rattle.free_space.specs.declared.fit.Search.the-variants.{Nothing, A
 use Rattle.free_space.specs.declared.fit.Best.{Best}
 use Rattle.free_space.specs.Regions.{region, Found, none, at, better, best}
 use Rattle.free_space.specs.Runs.{regionAt, decode, regions, isList}
-use Rattle.free_space.specs.Searches.{oneAt, lower, soFar, OneOf, answered, Finds}
+use Rattle.free_space.specs.Searches.{oneAt, lower, soFar, answered, Finds}
 use Rattle.free_space.proofs.DecodeLaws.{decode-drop, decode-at, decode-end, length-decode}
 use Rattle.free_space.proofs.OkLaws.{listed}
 
@@ -93,23 +93,23 @@ fit-end span len i n xs b l room = ap (λ (q : List FreeRegion). lower (soFar le
 
 -- ---- the bytes left over
 
-module _ (len i span slack : ℕ) (r : FreeRegion) (b : Best) (some : 0 < len) (l : len < 2 ^ 64) (s : span < 2 ^ 64) (f : slack < 2 ^ 64) (wraps : (slack + len) % 2 ^ 64 ≡ span) where
-  pub better-new : slack < b .slack → soFar len (record { index = i; region = r; slack = slack }) ≡ lower (soFar len b) (oneAt len i span)
+module _ (len i span slack : ℕ) (b : Best) (some : 0 < len) (l : len < 2 ^ 64) (s : span < 2 ^ 64) (f : slack < 2 ^ 64) (wraps : (slack + len) % 2 ^ 64 ≡ span) where
+  pub better-new : slack < b .slack → soFar len (record { index = i; slack = slack }) ≡ lower (soFar len b) (oneAt len i span)
   better-new h = ⊎-elim enough lacks (le-or-lt len span)
     where
-      enough : len ≤ span → soFar len (record { index = i; region = r; slack = slack }) ≡ lower (soFar len b) (oneAt len i span)
+      enough : len ≤ span → soFar len (record { index = i; slack = slack }) ≡ lower (soFar len b) (oneAt len i span)
       enough k =
           let e : slack + len ≡ span = omega arith in
-          so-far-at len (record { index = i; region = r; slack = slack }) (omega arith) ∙ ap (at i) e ∙ sym (rw (le-leb len span k) (go (ltb (b .slack) (2 ^ 64 - len))))
+          so-far-at len (record { index = i; slack = slack }) (omega arith) ∙ ap (at i) e ∙ sym (rw (le-leb len span k) (go (ltb (b .slack) (2 ^ 64 - len))))
         where
           go : (t : Bool) → lower (cond t (at (b .index) (b .slack + len)) none) (at i span) ≡ at i span
           go true = rw (lt-leb (b .slack + len) span (omega arith))
           go false = refl
 
-      lacks : span < len → soFar len (record { index = i; region = r; slack = slack }) ≡ lower (soFar len b) (oneAt len i span)
+      lacks : span < len → soFar len (record { index = i; slack = slack }) ≡ lower (soFar len b) (oneAt len i span)
       lacks k =
           let o : oneAt len i span ≡ none = rw (lt-leb len span k) in
-          so-far-none len (record { index = i; region = r; slack = slack }) (omega arith) ∙ sym (ap₂ lower (so-far-none len b (omega arith)) o)
+          so-far-none len (record { index = i; slack = slack }) (omega arith) ∙ sym (ap₂ lower (so-far-none len b (omega arith)) o)
 
   pub better-old : b .slack ≤ slack → soFar len b ≡ lower (soFar len b) (oneAt len i span)
   better-old h = ⊎-elim enough lacks (le-or-lt len span)
@@ -126,22 +126,11 @@ module _ (len i span slack : ℕ) (r : FreeRegion) (b : Best) (some : 0 < len) (
           let o : oneAt len i span ≡ none = rw (lt-leb len span k) in
           sym (ap (lower (soFar len b)) o ∙ lower-none (soFar len b))
 
-pub found-at : (len : ℕ) (b : Best) → b .slack < 2 ^ 64 - len → At (b .index) (b .region) ≡ answered len b
+pub found-at : (len : ℕ) (b : Best) → b .slack < 2 ^ 64 - len → At (b .index) ≡ answered len b
 found-at len b h = rw (lt-ltb (b .slack) (2 ^ 64 - len) h)
 
 pub found-none : (len : ℕ) (b : Best) → 2 ^ 64 - len ≤ b .slack → Nothing ≡ answered len b
 found-none len b h = rw (le-ltb (b .slack) (2 ^ 64 - len) h)
-
--- the region that is kept is the one at its place
-abbrev pub Reads : List ℕ → ℕ → Best → Type 0
-Reads xs len b = b .slack < 2 ^ 64 - len → b .region ≡ regionAt xs (b .index)
-
-pub reads-none : (xs : List ℕ) (len : ℕ) (b : Best) → 2 ^ 64 - len ≤ b .slack → Reads xs len b
-reads-none xs len b h k = absurd (omega arith)
-
-pub reads-turn : (xs : List ℕ) (len : ℕ) (b n : Best) (i : ℕ) (r : FreeRegion) → Reads xs len b → r ≡ regionAt xs i → OneOf b i r n → Reads xs len n
-reads-turn xs len b n i r h got (inl e) = subst⁻¹ (Reads xs len) e h
-reads-turn xs len b n i r h got (inr e) = λ k. e .1 ∙ got ∙ ap (regionAt xs) (sym (e .0))
 
 -- ---- what is found suffices, and is the span of the region at that place
 
@@ -186,8 +175,8 @@ module _ (span : FreeRegion → ℕ) (len j s : ℕ) (d : FreeRegion) where
 
 -- the answer, where the pass came to the end of a list
 pub finds : (measure : FreeRegion → ℕ) (xs : List ℕ) (l : FreeList) (len : ℕ) (b : Best) (s : Search) → isList xs l ≡ true
-    → best measure len 0 (regions xs l) ≡ soFar len b → Reads xs len b → s ≡ answered len b → Finds measure xs l len s
-finds measure xs l len b s ok e reads is = ⊎-elim none-left served (le-or-lt (2 ^ 64 - len) (b .slack))
+    → best measure len 0 (regions xs l) ≡ soFar len b → s ≡ answered len b → Finds measure xs l len s
+finds measure xs l len b s ok e is = ⊎-elim none-left served (le-or-lt (2 ^ 64 - len) (b .slack))
   where
     none-left : 2 ^ 64 - len ≤ b .slack → Finds measure xs l len s
     none-left h = subst⁻¹ (Finds measure xs l len) (is ∙ sym (found-none len b h)) (ok, e ∙ so-far-none len b h)
@@ -202,6 +191,6 @@ finds measure xs l len b s ok e reads is = ⊎-elim none-left served (le-or-lt (
         let t = best-at measure len i (b .slack + len) d 0 (decode n xs) found in
         let below : i < n = omega (arith, t .place, t .below, length-decode n xs room) in
         let q : t .rel ≡ i = omega (arith, t .place) in
-        let g : getD (decode n xs) (t .rel) d ≡ b .region = ap (λ (k : ℕ). getD (decode n xs) k d) q ∙ decode-at n i xs d below room ∙ sym (reads h) in
+        let g : getD (decode n xs) (t .rel) d ≡ regionAt xs i = ap (λ (k : ℕ). getD (decode n xs) k d) q ∙ decode-at n i xs d below room in
         subst⁻¹ (Finds measure xs l len) (is ∙ sym (found-at len b h))
-        (record { list = ok; room = room; below = below; got = reads h; suffices = omega (arith, t .suffices, t .spans, ap measure g); span = b .slack + len; is = found })
+        (record { list = ok; room = room; below = below; suffices = omega (arith, t .suffices, t .spans, ap measure g); span = b .slack + len; is = found })

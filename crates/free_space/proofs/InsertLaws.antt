@@ -3,7 +3,7 @@ use mathlib.Core.Path.{_≡_, refl, sym, ap, ap₂, _∙_}
 use mathlib.Core.List.{List, [], _∷_, _++_}
 use mathlib.Core.Logic.{_⊎_, inl, inr}
 use mathlib.Core.Bool.{Bool, true, false, cond, _||_}
-use Prim.Native.Nat.{ℕ, zero, suc, _+_, _-_, _*_, _≤_, _<_, min, max}
+use Prim.Native.Nat.{ℕ, zero, suc, _+_, _-_, _≤_, _<_, min, max}
 use native.Mathlib.Nat.{not-suc-le-zero, le-of-suc-le-suc}
 use native.Mathlib.Omega.{arith}
 use borrow.Author.Tests.{le-leb, lt-leb, lt-ltb, le-ltb}
@@ -13,7 +13,7 @@ use Rattle.fields.specs.Ranges.{top}
 use Rattle.free_space.specs.declared.region.FreeRegion.{FreeRegion}
 use Rattle.free_space.specs.declared.list.FreeList.{FreeList}
 use Rattle.free_space.specs.Regions.{region, end, meets, shares, join, absorb, insert}
-use Rattle.free_space.specs.Runs.{regionAt, decode, regions, isList}
+use Rattle.free_space.specs.Runs.{regionAt, regions, isList}
 use Rattle.free_space.specs.Splices.{Apart}
 use Rattle.free_space.proofs.DecodeLaws.{decode-at, decode-drop, decode-end, length-decode}
 use Rattle.free_space.proofs.OkLaws.{Within, listed, region-fits}

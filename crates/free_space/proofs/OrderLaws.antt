@@ -1,6 +1,6 @@
 -- Regions of a list in order, by their places. Assumes nothing.
 --   EndBefore   regions that are not empty and end below a place
-use mathlib.Core.Path.{_≡_, refl, sym, ap, _∙_, subst}
+use mathlib.Core.Path.{_≡_, refl, ap, _∙_, subst}
 use mathlib.Core.List.{List, [], _∷_, _++_}
 use Prim.Native.Nat.{ℕ, zero, suc, _+_, _-_, _*_, _≤_, _<_}
 use native.Mathlib.Nat.{not-suc-le-zero, le-of-suc-le-suc}
@@ -11,7 +11,7 @@ use Rattle.fields.specs.Ranges.{top}
 use Rattle.free_space.specs.declared.region.FreeRegion.{FreeRegion}
 use Rattle.free_space.specs.declared.list.FreeList.{FreeList}
 use Rattle.free_space.specs.Regions.{region, end}
-use Rattle.free_space.specs.Runs.{regionAt, decode, regions, isList}
+use Rattle.free_space.specs.Runs.{regionAt, regions, isList}
 use Rattle.free_space.proofs.DecodeLaws.{decode-at, length-decode}
 use Rattle.free_space.proofs.OkLaws.{Within, listed, ok-prop, region-fits}
 

@@ -5,7 +5,10 @@
 --   givenBy    the outcome of a decision, for a call that gives an address out
 --   keptBy     the same for one that gives nothing out
 --   Apt        a decision that can be carried out
+--   Gives      a decision with this outcome that can be carried out, for a call that gives an address out
+--   Keeps      the same for one that gives nothing out
 use Prim.Native.Nat.{ℕ, _+_, _-_, _*_, _%_, _≤_}
+use mathlib.Core.Path.{_≡_}
 use mathlib.Core.Bool.{Bool, cond, _&&_, not}
 use mathlib.Core.List.{List}
 use lib.Dec.{ltb, eqb}
@@ -53,3 +56,9 @@ Apt xs l (Refused r) = Unit {0}
 Apt xs l Nothing = Unit {0}
 Apt xs l (Change a lo hi p) =
     (lo ≤ hi) × (hi ≤ l .count) × (2 * l .count ≤ length xs) × (2 * (lo + length (patch p) + (l .count - hi)) ≤ length xs)
+
+abbrev pub Gives : List ℕ → FreeList → Outcome (With Gave (List ℕ)) → Decision → Type 0
+Gives xs l o d = (givenBy xs l d ≡ o) × Apt xs l d
+
+abbrev pub Keeps : List ℕ → FreeList → Outcome (With FreeList (List ℕ)) → Decision → Type 0
+Keeps xs l o d = (keptBy xs l d ≡ o) × Apt xs l d

@@ -1,14 +1,12 @@
 -- What a pass for the best fit finds on its way, and what its answer says. Assumes nothing.
 --   oneAt      what a region at a place finds by itself
 --   lower      the better of what was found lower and what was found above it, the lower on a tie
---   soFar      what was found so far, as the pass keeps it: a place, its region and the bytes left over
---   OneOf      what is kept is what was kept before, or a region at a place
+--   soFar      what was found so far, as the pass keeps it: a place and the bytes left over
 --   answered   the answer from what is kept at the end
 --   Serves     a place of a list at which the best fit lies
 --   Finds      what an answer says
 use Prim.Native.Nat.{ℕ, _+_, _-_, _*_, _^_, _≤_, _<_}
 use mathlib.Core.Path.{_≡_}
-use mathlib.Core.Logic.{_⊎_}
 use mathlib.Core.Bool.{true, false, cond}
 use mathlib.Core.List.{List}
 use lib.Dec.{leb, ltb}
@@ -32,22 +30,18 @@ lower (at i s) (at j t) = cond (leb s t) (at i s) (at j t)
 abbrev pub soFar : ℕ → Best → Found
 soFar len b = cond (ltb (b .slack) (2 ^ 64 - len)) (at (b .index) (b .slack + len)) none
 
-abbrev pub OneOf : Best → ℕ → FreeRegion → Best → Type 0
-OneOf b i r n = (n ≡ b) ⊎ ((n .index ≡ i) × (n .region ≡ r))
-
 abbrev pub answered : ℕ → Best → Search
-answered len b = cond (ltb (b .slack) (2 ^ 64 - len)) (At (b .index) (b .region)) Nothing
+answered len b = cond (ltb (b .slack) (2 ^ 64 - len)) (At (b .index)) Nothing
 
-pub record Serves (measure : FreeRegion → ℕ) (xs : List ℕ) (l : FreeList) (len i : ℕ) (r : FreeRegion) : Type 0 where
+pub record Serves (measure : FreeRegion → ℕ) (xs : List ℕ) (l : FreeList) (len i : ℕ) : Type 0 where
   pub list : isList xs l ≡ true
   pub room : 2 * l .count ≤ length xs
   pub below : i < l .count
-  pub got : r ≡ regionAt xs i
-  pub suffices : len ≤ measure r
+  pub suffices : len ≤ measure (regionAt xs i)
   pub span : ℕ
   pub is : best measure len 0 (regions xs l) ≡ at i span
 
 abbrev pub Finds : (FreeRegion → ℕ) → List ℕ → FreeList → ℕ → Search → Type 0
 Finds measure xs l len Bad = isList xs l ≡ false
 Finds measure xs l len Nothing = (isList xs l ≡ true) × (best measure len 0 (regions xs l) ≡ none)
-Finds measure xs l len (At i r) = Serves measure xs l len i r
+Finds measure xs l len (At i) = Serves measure xs l len i

@@ -9,7 +9,7 @@ ghost use Rattle.free_space.specs.Runs.{capacity, regionAt, regions, isL
 ghost use Rattle.free_space.specs.Units.{interiorStart, interiorSpan};
 ghost use Rattle.free_space.specs.Calls.{placed, keeping, giving, taken, allocated, allocatedUnits, freed, rangeTaken, trailingTaken};
 ghost use Rattle.free_space.specs.Splices.{Apart, patch};
-ghost use Rattle.free_space.specs.Decisions.{fitted, partUnit, ifList, givenBy, keptBy, Apt};
+ghost use Rattle.free_space.specs.Decisions.{fitted, partUnit, ifList, Apt, Gives, Keeps};
 use crate::check::is_list;
 use crate::fit::Search;
 use crate::fit::best_fit;
@@ -25,6 +25,7 @@ use crate::units::best_units;
 use crate::units::whole_units;
 use error::Refusal;
 
+// What is known before anything changes. The calls carry it out, or several of them together.
 pub(crate) enum Decision {
     Refused(Refusal),
     // The list stays as it is, and no address is given out.
@@ -114,7 +115,7 @@ fn edges(addr: u64, a: u64, e: u64, last: u64) -> Patch
 // Takes the `len` bytes from `start` on out of the region `r` at `i`.
 fn take_part(run: &[u64], list: FreeList, i: usize, r: FreeRegion, start: u64, len: u64) -> Decision
     requires { ⌜ (isList (now run) list ≡ true) × (i < list .count) × (r ≡ regionAt (now run) i) × (start + len ≤ end r) ⌝ }
-    ensures { λ d. ⌜ (givenBy (now (run .entry)) list d ≡ placed (giving start) (now (run .entry)) list (taken (regions (now (run .entry)) list) i start len)) × Apt (now (run .entry)) list d ⌝ }
+    ensures { λ d. ⌜ Gives (now (run .entry)) list (placed (giving start) (now (run .entry)) list (taken (regions (now (run .entry)) list) i start len)) d ⌝ }
 {
     change(
         run,
@@ -126,8 +127,18 @@ fn take_part(run: &[u64], list: FreeList, i: usize, r: FreeRegion, start: u64, l
     )
 }
 
+// The same from the front of the whole units of the region.
+fn take_units(run: &[u64], list: FreeList, i: usize, r: FreeRegion, len: u64, unit: u64) -> Decision
+    requires { ⌜ (isList (now run) list ≡ true) × (i < list .count) × (r ≡ regionAt (now run) i) × (0 < len) × (len ≤ interiorSpan unit r) ⌝ }
+    ensures { λ d. ⌜ Gives (now (run .entry)) list (placed (giving (interiorStart unit r)) (now (run .entry)) list (taken (regions (now (run .entry)) list) i (interiorStart unit r) len)) d ⌝ }
+{
+    let w = whole_units(r, unit);
+    take_part(run, list, i, r, w.start, len)
+}
+
+// `alloc`: the smallest region that is long enough serves.
 pub(crate) fn decide_alloc(run: &[u64], list: FreeList, len: u64) -> Decision
-    ensures { λ d. ⌜ (givenBy (now (run .entry)) list d ≡ allocated (now (run .entry)) list len) × Apt (now (run .entry)) list d ⌝ }
+    ensures { λ d. ⌜ Gives (now (run .entry)) list (allocated (now (run .entry)) list len) d ⌝ }
 {
     if len == 0 {
         return if_list(run, list, Decision::Nothing);
@@ -136,17 +147,11 @@ pub(crate) fn decide_alloc(run: &[u64], list: FreeList, len: u64) -> Decision
     match s {
         Search::Bad => Decision::Refused(Refusal::NotAList),
         Search::Nothing => Decision::Nothing,
-        Search::At { index, region } => take_part(run, list, index, region, region.addr, len),
+        Search::At(i) => {
+            let r = region_at(run, i);
+            take_part(run, list, i, r, r.addr, len)
+        }
     }
-}
-
-// The same from the front of the whole units of the region.
-fn take_units(run: &[u64], list: FreeList, i: usize, r: FreeRegion, len: u64, unit: u64) -> Decision
-    requires { ⌜ (isList (now run) list ≡ true) × (i < list .count) × (r ≡ regionAt (now run) i) × (0 < len) × (len ≤ interiorSpan unit r) ⌝ }
-    ensures { λ d. ⌜ (givenBy (now (run .entry)) list d ≡ placed (giving (interiorStart unit r)) (now (run .entry)) list (taken (regions (now (run .entry)) list) i (interiorStart unit r) len)) × Apt (now (run .entry)) list d ⌝ }
-{
-    let w = whole_units(r, unit);
-    take_part(run, list, i, r, w.start, len)
 }
 
 // Whether `len` is no multiple of a unit that is not 0.
@@ -159,8 +164,9 @@ fn is_part(len: u64, unit: u64) -> bool
     len % unit != 0
 }
 
+// `alloc_whole_units`: the region with the least whole units that suffice serves.
 pub(crate) fn decide_whole_units(run: &[u64], list: FreeList, len: u64, unit: u64) -> Decision
-    ensures { λ d. ⌜ (givenBy (now (run .entry)) list d ≡ allocatedUnits (now (run .entry)) list len unit) × Apt (now (run .entry)) list d ⌝ }
+    ensures { λ d. ⌜ Gives (now (run .entry)) list (allocatedUnits (now (run .entry)) list len unit) d ⌝ }
 {
     if is_part(len, unit) {
         return if_list(run, list, Decision::Refused(Refusal::PartUnit));
@@ -172,14 +178,17 @@ pub(crate) fn decide_whole_units(run: &[u64], list: FreeList, len: u64, unit: u6
     match s {
         Search::Bad => Decision::Refused(Refusal::NotAList),
         Search::Nothing => Decision::Nothing,
-        Search::At { index, region } => take_units(run, list, index, region, len, unit),
+        Search::At(i) => {
+            let r = region_at(run, i);
+            take_units(run, list, i, r, len, unit)
+        }
     }
 }
 
 // Cuts the range from `a` up to `e` out of the regions that share a byte with it.
 fn cut_between(run: &[u64], list: FreeList, lo: usize, hi: usize, a: u64, e: u64) -> Decision
     requires { ⌜ Apart (now run) list a e lo hi × (a ≤ e) ⌝ }
-    ensures { λ d. ⌜ (keptBy (now (run .entry)) list d ≡ placed keeping (now (run .entry)) list (cutAll a e (regions (now (run .entry)) list))) × Apt (now (run .entry)) list d ⌝ }
+    ensures { λ d. ⌜ Keeps (now (run .entry)) list (placed keeping (now (run .entry)) list (cutAll a e (regions (now (run .entry)) list))) d ⌝ }
 {
     if lo == hi {
         return Decision::Nothing;
@@ -196,8 +205,9 @@ fn cut_between(run: &[u64], list: FreeList, lo: usize, hi: usize, a: u64, e: u64
     )
 }
 
+// `free`: bytes that are free already are refused.
 pub(crate) fn decide_free(run: &[u64], list: FreeList, addr: u64, len: u64) -> Decision
-    ensures { λ d. ⌜ (keptBy (now (run .entry)) list d ≡ freed (now (run .entry)) list addr len) × Apt (now (run .entry)) list d ⌝ }
+    ensures { λ d. ⌜ Keeps (now (run .entry)) list (freed (now (run .entry)) list addr len) d ⌝ }
 {
     if 18446744073709551615 - len < addr {
         return if_list(run, list, Decision::Refused(Refusal::Overflow));
@@ -225,8 +235,9 @@ pub(crate) fn decide_free(run: &[u64], list: FreeList, addr: u64, len: u64) -> D
     }
 }
 
+// `take_range`: the free bytes of the range go.
 pub(crate) fn decide_range(run: &[u64], list: FreeList, addr: u64, len: u64) -> Decision
-    ensures { λ d. ⌜ (keptBy (now (run .entry)) list d ≡ rangeTaken (now (run .entry)) list addr len) × Apt (now (run .entry)) list d ⌝ }
+    ensures { λ d. ⌜ Keeps (now (run .entry)) list (rangeTaken (now (run .entry)) list addr len) d ⌝ }
 {
     if 18446744073709551615 - len < addr {
         return if_list(run, list, Decision::Refused(Refusal::Overflow));
@@ -241,8 +252,9 @@ pub(crate) fn decide_range(run: &[u64], list: FreeList, addr: u64, len: u64) -> 
     }
 }
 
+// `take_trailing`: the last region goes, if it ends at `eof`.
 pub(crate) fn decide_trailing(run: &[u64], list: FreeList, eof: u64) -> Decision
-    ensures { λ d. ⌜ (givenBy (now (run .entry)) list d ≡ trailingTaken (now (run .entry)) list eof) × Apt (now (run .entry)) list d ⌝ }
+    ensures { λ d. ⌜ Gives (now (run .entry)) list (trailingTaken (now (run .entry)) list eof) d ⌝ }
 {
     if !is_list(run, list) {
         return Decision::Refused(Refusal::NotAList);

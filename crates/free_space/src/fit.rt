@@ -2,7 +2,7 @@
 ghost use mathlib.Core.Path.{_≡_};
 ghost use Prim.Native.Nat.{_-_, _^_, _<_, _≤_};
 ghost use Rattle.free_space.specs.Splices.{Stands};
-ghost use Rattle.free_space.specs.Searches.{oneAt, lower, soFar, OneOf, answered, Finds};
+ghost use Rattle.free_space.specs.Searches.{oneAt, lower, soFar, answered, Finds};
 use crate::check::Head;
 use crate::check::first_region;
 use crate::check::follows;
@@ -10,18 +10,17 @@ use crate::list::FreeList;
 use crate::region::FreeRegion;
 use crate::run::region_at;
 
-// How a pass ends: no list, no region that suffices, or the one that serves and its place.
+// How a pass ends: no list, no region that suffices, or the place of the one that serves.
 pub(crate) enum Search {
     Bad,
     Nothing,
-    At { index: usize, region: FreeRegion },
+    At(usize),
 }
 
 // The best of the regions passed, and the bytes that it has beyond the length asked for. The bytes that lack wrap, and
 // so stand above all that are left over: one comparison tests both, that a region suffices and that it is better.
 pub(crate) struct Best {
     pub(crate) index: usize,
-    pub(crate) region: FreeRegion,
     pub(crate) slack: u64,
 }
 
@@ -31,21 +30,19 @@ pub(crate) fn none_yet(len: u64) -> Best
 {
     Best {
         index: 0,
-        region: FreeRegion { addr: 0, len: 0 },
         slack: 18446744073709551615 - (len - 1),
     }
 }
 
-// The better of `b` and the region `r` at `i`, above it, of which `span` bytes can serve.
-pub(crate) fn better_of(b: Best, i: usize, r: FreeRegion, span: u64, len: u64) -> Best
+// The better of `b` and the region at `i`, above it, of which `span` bytes can serve.
+pub(crate) fn better_of(b: Best, i: usize, span: u64, len: u64) -> Best
     requires { ⌜ 0 < len ⌝ }
-    ensures { λ n. ⌜ (soFar len n ≡ lower (soFar len b) (oneAt len i span)) × OneOf b i r n ⌝ }
+    ensures { λ r. ⌜ soFar len r ≡ lower (soFar len b) (oneAt len i span) ⌝ }
 {
     let slack = std::num::wrapping_sub_u64(span, len);
     if slack < b.slack {
         return Best {
             index: i,
-            region: r,
             slack: slack,
         };
     }
@@ -57,11 +54,7 @@ pub(crate) fn found(b: Best, len: u64) -> Search
     ensures { λ s. ⌜ s ≡ answered len b ⌝ }
 {
     if b.slack <= 18446744073709551615 - len {
-        let region = b.region;
-        Search::At {
-            index: b.index,
-            region: region,
-        }
+        Search::At(b.index)
     } else {
         Search::Nothing
     }
@@ -72,7 +65,7 @@ fn best_after(run: &[u64], list: FreeList, first: FreeRegion, len: u64) -> Searc
     ensures { λ s. ⌜ Finds (λ r. r .len) (now (run .entry)) list len s ⌝ }
 {
     let count = list.count;
-    let mut b = better_of(none_yet(len), 0, first, first.len, len);
+    let mut b = better_of(none_yet(len), 0, first.len, len);
     let mut prev = first.addr + first.len;
     let mut i = 1;
     while i < count {
@@ -80,7 +73,7 @@ fn best_after(run: &[u64], list: FreeList, first: FreeRegion, len: u64) -> Searc
         if !follows(prev, r) {
             return Search::Bad;
         }
-        b = better_of(b, i, r, r.len, len);
+        b = better_of(b, i, r.len, len);
         prev = r.addr + r.len;
         i += 1;
     }

@@ -9,7 +9,7 @@ ghost use Rattle.free_space.specs.Regions.{end, absorb, insert};
 ghost use Rattle.free_space.specs.Runs.{regionAt, regions, isList};
 ghost use Rattle.free_space.specs.Calls.{placed, keeping};
 ghost use Rattle.free_space.specs.Splices.{Apart};
-ghost use Rattle.free_space.specs.Decisions.{keptBy, Apt};
+ghost use Rattle.free_space.specs.Decisions.{Keeps};
 use crate::decide::Decision;
 use crate::decide::change;
 use crate::list::FreeList;
@@ -72,7 +72,7 @@ fn join_above(run: &[u64], list: FreeList, i: usize, new: FreeRegion) -> Joined
 // Frees `new`, which shares no byte with the regions and stands before that at `i`.
 pub(crate) fn put_between(run: &[u64], list: FreeList, i: usize, new: FreeRegion) -> Decision
     requires { ⌜ Apart (now run) list (new .addr) (end new) i i × (0 < new .len) × (end new ≤ top) ⌝ }
-    ensures { λ d. ⌜ (keptBy (now (run .entry)) list d ≡ placed keeping (now (run .entry)) list (insert new (regions (now (run .entry)) list))) × Apt (now (run .entry)) list d ⌝ }
+    ensures { λ d. ⌜ Keeps (now (run .entry)) list (placed keeping (now (run .entry)) list (insert new (regions (now (run .entry)) list))) d ⌝ }
 {
     let low = join_below(run, list, i, new);
     let with_low = low.region;

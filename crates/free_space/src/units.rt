@@ -62,7 +62,7 @@ fn units_after(run: &[u64], list: FreeList, first: FreeRegion, len: u64, unit: u
 {
     let count = list.count;
     let w = whole_units(first, unit);
-    let mut b = better_of(none_yet(len), 0, first, w.span, len);
+    let mut b = better_of(none_yet(len), 0, w.span, len);
     let mut prev = first.addr + first.len;
     let mut i = 1;
     while i < count {
@@ -71,7 +71,7 @@ fn units_after(run: &[u64], list: FreeList, first: FreeRegion, len: u64, unit: u
             return Search::Bad;
         }
         let w = whole_units(r, unit);
-        b = better_of(b, i, r, w.span, len);
+        b = better_of(b, i, w.span, len);
         prev = r.addr + r.len;
         i += 1;
     }

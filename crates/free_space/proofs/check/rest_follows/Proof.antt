@@ -1,12 +1,9 @@
-use Prim.Native.Nat.{suc, _+_, _*_, _-_, _≤_}
-use mathlib.Core.Path.{_≡_, refl, sym, ap, _∙_}
-use mathlib.Core.List.{List}
-use mathlib.Core.Bool.{Bool}
+use Prim.Native.Nat.{suc, _-_}
+use mathlib.Core.Path.{_≡_, refl, sym, _∙_}
 use native.Mathlib.Omega.{arith}
 use borrow.Author.Needs.{needs}
-use lib.ListN.{length, drop}
+use lib.ListN.{drop}
 use denote.Ref.{now}
-use Rattle.free_space.specs.declared.region.FreeRegion.{FreeRegion}
 use Rattle.free_space.specs.Regions.{okFrom}
 use Rattle.free_space.specs.Runs.{decode}
 use Rattle.free_space.proofs.CheckLaws.{pass-stops, pass-fits, pass-goes, pass-ends}

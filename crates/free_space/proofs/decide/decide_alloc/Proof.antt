@@ -2,6 +2,7 @@ use mathlib.Core.Path.{sym, ap, _∙_, subst}
 use native.Mathlib.Omega.{arith}
 use borrow.Author.Needs.{needs}
 use denote.Ref.{now}
+use Rattle.free_space.specs.declared.region.FreeRegion.{FreeRegion}
 use Rattle.free_space.specs.Calls.{serve}
 use Rattle.free_space.specs.Searches.{Finds}
 use Rattle.free_space.specs.Decisions.{givenBy}
@@ -30,11 +31,18 @@ enum-told-2 c = search needs
 enum-known-s : tie.Need-enum-known-s
 enum-known-s c = search needs
 
-take-part-requires : tie.Need-take-part-requires
-take-part-requires c κs =
+region-at-requires : tie.Need-region-at-requires
+region-at-requires c κs =
     let a = c .before .before .before .before .before .before .args in
     let f = subst (Finds (λ r. r .len) (now (a .run)) (a .list) (a .len)) (c .before .s .given .1) (c .before .before .before .best-fit .ensures) in
-    (f .list, f .below, f .got, omega (arith, f .suffices))
+    omega (arith, f .below, f .room)
+
+take-part-requires : tie.Need-take-part-requires
+take-part-requires c κs =
+    let a = c .before .before .before .before .before .before .before .args in
+    let g = c .region-at in
+    let f = subst (Finds (λ r. r .len) (now (a .run)) (a .list) (a .len)) (c .before .before .s .given .1) (c .before .before .before .before .best-fit .ensures) in
+    (f .list, f .below, g .ensures, omega (arith, f .suffices, ap (λ (r : FreeRegion). r .len) (g .ensures)))
 
 returns-2 : tie.Need-returns-2
 returns-2 c =
@@ -51,12 +59,13 @@ returns-3 c =
 
 returns-4 : tie.Need-returns-4
 returns-4 c =
-    let a = c .before .before .before .before .before .before .before .args in
+    let a = c .before .before .before .before .before .before .before .before .args in
     let xs = now (a .run) in
-    let f = subst (Finds (λ r. r .len) xs (a .list) (a .len)) (c .before .before .s .given .1) (c .before .before .before .before .best-fit .ensures) in (
+    let g = c .before .region-at in
+    let f = subst (Finds (λ r. r .len) xs (a .list) (a .len)) (c .before .before .before .s .given .1) (c .before .before .before .before .before .best-fit .ensures) in (
       c .take-part .ensures .0
-          ∙ serve-at (λ r. r .addr) xs (a .list) (a .len) _ (f .span) _ _ (f .below) (f .room) (f .got) (f .is)
-          ∙ alloc-else xs (a .list) (a .len) (f .list) (c .before .before .before .before .before .if1 .left),
+          ∙ serve-at (λ r. r .addr) xs (a .list) (a .len) _ (f .span) _ (g .result) (f .below) (f .room) (g .ensures) (f .is)
+          ∙ alloc-else xs (a .list) (a .len) (f .list) (c .before .before .before .before .before .before .if1 .left),
       c .take-part .ensures .1,
     )
 
@@ -70,6 +79,7 @@ decide-alloc-spec =
     enum-told
     enum-told-2
     enum-known-s
+    region-at-requires
     take-part-requires
     returns-2
     returns-3

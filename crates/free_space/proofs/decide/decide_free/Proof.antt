@@ -1,10 +1,10 @@
-use mathlib.Core.Path.{_≡_, ap, _∙_, subst}
-use Prim.Native.Nat.{ℕ, _+_, _<_}
+use mathlib.Core.Path.{ap, _∙_, subst}
+use Prim.Native.Nat.{_+_}
 use native.Mathlib.Omega.{arith}
 use borrow.Author.Needs.{needs}
 use denote.Ref.{now}
 use Rattle.free_space.specs.Regions.{region}
-use Rattle.free_space.specs.Splices.{Apart, Meets}
+use Rattle.free_space.specs.Splices.{Meets}
 use Rattle.free_space.specs.Decisions.{keptBy}
 use Rattle.free_space.proofs.MeetLaws.{one-place}
 use Rattle.free_space.proofs.InsertLaws.{shares-some, shares-none}

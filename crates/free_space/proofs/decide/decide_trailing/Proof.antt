@@ -1,10 +1,9 @@
-use mathlib.Core.Path.{_≡_, sym, ap, _∙_}
+use mathlib.Core.Path.{sym, ap, _∙_}
 use Prim.Native.Nat.{_-_}
 use native.Mathlib.Omega.{arith}
 use borrow.Author.Needs.{needs}
 use borrow.Author.Tests.{not-true, not-false}
 use denote.Ref.{now}
-use Rattle.free_space.specs.declared.decide.Decision.{Decision}
 use Rattle.free_space.specs.declared.run.Patch.the-variants.{Empty}
 use Rattle.free_space.specs.Decisions.{givenBy}
 use Rattle.free_space.proofs.OkLaws.{listed}

@@ -48,11 +48,18 @@ enum-told-2 c = search needs
 enum-known-s : tie.Need-enum-known-s
 enum-known-s c = search needs
 
-take-units-requires : tie.Need-take-units-requires
-take-units-requires c κs =
+region-at-requires : tie.Need-region-at-requires
+region-at-requires c κs =
     let a = c .before .before .before .before .before .before .before .before .args in
     let f = subst (Finds (interiorSpan (a .unit)) (now (a .run)) (a .list) (a .len)) (c .before .s .given .1) (c .before .before .before .best-units .ensures) in
-    (f .list, f .below, f .got, omega (arith, c .before .before .before .before .if2 .left), f .suffices)
+    omega (arith, f .below, f .room)
+
+take-units-requires : tie.Need-take-units-requires
+take-units-requires c κs =
+    let a = c .before .before .before .before .before .before .before .before .before .args in
+    let g = c .region-at in
+    let f = subst (Finds (interiorSpan (a .unit)) (now (a .run)) (a .list) (a .len)) (c .before .before .s .given .1) (c .before .before .before .before .best-units .ensures) in
+    (f .list, f .below, g .ensures, omega (arith, c .before .before .before .before .before .if2 .left), omega (arith, f .suffices, ap (interiorSpan (a .unit)) (g .ensures)))
 
 returns-3 : tie.Need-returns-3
 returns-3 c =
@@ -72,12 +79,13 @@ returns-4 c =
 
 returns-5 : tie.Need-returns-5
 returns-5 c =
-    let a = c .before .before .before .before .before .before .before .before .before .args in
+    let a = c .before .before .before .before .before .before .before .before .before .before .args in
     let xs = now (a .run) in
-    let f = subst (Finds (interiorSpan (a .unit)) xs (a .list) (a .len)) (c .before .before .s .given .1) (c .before .before .before .before .best-units .ensures) in (
+    let g = c .before .region-at in
+    let f = subst (Finds (interiorSpan (a .unit)) xs (a .list) (a .len)) (c .before .before .before .s .given .1) (c .before .before .before .before .before .best-units .ensures) in (
       c .take-units .ensures .0
-          ∙ serve-at (interiorStart (a .unit)) xs (a .list) (a .len) _ (f .span) _ _ (f .below) (f .room) (f .got) (f .is)
-          ∙ units-else xs (a .list) (a .len) (a .unit) (sym (c .before .before .before .before .before .before .before .is-part .ensures) ∙ c .before .before .before .before .before .before .if1 .left) (f .list) (c .before .before .before .before .before .if2 .left),
+          ∙ serve-at (interiorStart (a .unit)) xs (a .list) (a .len) _ (f .span) _ (g .result) (f .below) (f .room) (g .ensures) (f .is)
+          ∙ units-else xs (a .list) (a .len) (a .unit) (sym (c .before .before .before .before .before .before .before .before .is-part .ensures) ∙ c .before .before .before .before .before .before .before .if1 .left) (f .list) (c .before .before .before .before .before .before .if2 .left),
       c .take-units .ensures .1,
     )
 
@@ -94,6 +102,7 @@ decide-whole-units-spec =
     enum-told
     enum-told-2
     enum-known-s
+    region-at-requires
     take-units-requires
     returns-3
     returns-4

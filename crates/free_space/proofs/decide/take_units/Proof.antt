@@ -1,6 +1,5 @@
 use mathlib.Core.Path.{ap, _∙_}
 use Prim.Native.Nat.{ℕ}
-use borrow.Author.Needs.{needs}
 use denote.Ref.{now}
 use Rattle.free_space.specs.Runs.{regions}
 use Rattle.free_space.specs.Calls.{placed, giving, taken}

@@ -1,14 +1,14 @@
-use Prim.Native.Nat.{suc, _*_, _-_, _≤_}
-use mathlib.Core.Path.{_≡_, refl, sym, ap, _∙_}
+use Prim.Native.Nat.{suc, _-_}
+use mathlib.Core.Path.{_≡_, refl, sym, _∙_}
 use native.Mathlib.Omega.{arith}
 use borrow.Author.Needs.{needs}
-use lib.ListN.{length, drop}
+use lib.ListN.{drop}
 use denote.Ref.{now}
 use Rattle.free_space.specs.Regions.{okFrom, best}
 use Rattle.free_space.specs.Runs.{decode}
 use Rattle.free_space.specs.Searches.{lower, soFar}
 use Rattle.free_space.proofs.CheckLaws.{pass-stops, pass-fits, pass-goes, pass-ends}
-use Rattle.free_space.proofs.FitLaws.{fit-first, fit-turn, fit-end, Reads, reads-none, reads-turn, finds}
+use Rattle.free_space.proofs.FitLaws.{fit-first, fit-turn, fit-end, finds}
 use Rattle.free_space.proofs.fit.best_after.Statement.{statement}
 use Rattle.free_space.proofs.fit.best_after.Tie as tie
 
@@ -16,7 +16,6 @@ abbrev Inv-loop : tie.InvT-loop
 Inv-loop run len count b₀ prev₀ i₀ b prev i =
     (okFrom (suc prev₀) (drop i₀ (decode count run)) ≡ okFrom (suc prev) (drop i (decode count run)))
     × (lower (soFar len b₀) (best (λ r. r .len) len i₀ (drop i₀ (decode count run))) ≡ lower (soFar len b) (best (λ r. r .len) len i (drop i (decode count run))))
-    × (Reads run len b₀ → Reads run len b)
 
 abbrev μ-loop : tie.MeasureT-loop
 μ-loop run len count b₀ prev₀ i₀ b prev i = count - i
@@ -31,7 +30,7 @@ add-prev : tie.Need-add-prev Inv-loop μ-loop
 add-prev c = search needs
 
 loop-holds : tie.Need-loop-holds Inv-loop μ-loop
-loop-holds c = (refl, refl, λ h. h)
+loop-holds c = (refl, refl)
 
 region-at-requires : tie.Need-region-at-requires Inv-loop μ-loop
 region-at-requires c κs = search needs
@@ -78,8 +77,7 @@ loop-again c =
     let g = c .before .before .before .before .region-at in
     let b = c .before .better-of2 in (
       l .inv .0 ∙ pass-goes n (l .i) (l .prev) xs (omega arith) room (g .result) (g .ensures) (t .result) (t .ensures) (c .before .before .if1 .left),
-      l .inv .1 ∙ fit-turn (λ r. r .len) (a .len) (l .i) n xs (l .b) (b .result) (g .result) (omega arith) room (g .ensures) (b .ensures .0),
-      λ h. reads-turn xs (a .len) (l .b) (b .result) (l .i) (g .result) (l .inv .2 h) (g .ensures) (b .ensures .1),
+      l .inv .1 ∙ fit-turn (λ r. r .len) (a .len) (l .i) n xs (l .b) (b .result) (g .result) (omega arith) room (g .ensures) (b .ensures),
     )
 
 found-requires : tie.Need-found-requires Inv-loop μ-loop
@@ -96,9 +94,8 @@ returns-2 c =
     let none = c .before .before .before .before .before .none-yet in
     finds (λ r. r .len) xs (a .list) (a .len) (l .b) _
     (first .rest ∙ l .inv .0 ∙ pass-ends n (l .i) (l .prev) xs (omega arith) (first .room))
-    (fit-first (λ r. r .len) (a .len) n xs (none .result) (one .result) (a .first) (first .below) (first .room) (first .is) (none .ensures) (one .ensures .0)
+    (fit-first (λ r. r .len) (a .len) n xs (none .result) (one .result) (a .first) (first .below) (first .room) (first .is) (none .ensures) (one .ensures)
     ∙ l .inv .1 ∙ fit-end (λ r. r .len) (a .len) (l .i) n xs (l .b) (omega arith) (first .room))
-    (l .inv .2 (reads-turn xs (a .len) (none .result) (one .result) 0 (a .first) (reads-none xs (a .len) (none .result) (none .ensures)) (first .is) (one .ensures .1)))
     (c .found .ensures)
 
 pub best-after-spec : {M : Type 1} → statement M

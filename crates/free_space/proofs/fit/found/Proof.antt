@@ -8,7 +8,7 @@ sub-if1 : tie.Need-sub-if1
 sub-if1 c = search needs
 
 returns : tie.Need-returns
-returns c = let a = c .before .before .before .args in found-at (a .len) (a .b) (omega arith)
+returns c = let a = c .before .before .args in found-at (a .len) (a .b) (omega arith)
 
 returns-2 : tie.Need-returns-2
 returns-2 c = let a = c .before .before .args in found-none (a .len) (a .b) (omega arith)

@@ -1,15 +1,15 @@
-use Prim.Native.Nat.{ℕ, suc, _*_, _-_, _≤_}
+use Prim.Native.Nat.{ℕ, suc, _-_}
 use mathlib.Core.Path.{_≡_, refl, sym, ap, _∙_}
 use native.Mathlib.Omega.{arith}
 use borrow.Author.Needs.{needs}
-use lib.ListN.{length, drop}
+use lib.ListN.{drop}
 use denote.Ref.{now}
 use Rattle.free_space.specs.Regions.{okFrom, best}
 use Rattle.free_space.specs.Runs.{decode}
 use Rattle.free_space.specs.Units.{interiorSpan}
 use Rattle.free_space.specs.Searches.{oneAt, lower, soFar}
 use Rattle.free_space.proofs.CheckLaws.{pass-stops, pass-fits, pass-goes, pass-ends}
-use Rattle.free_space.proofs.FitLaws.{fit-first, fit-turn, fit-end, Reads, reads-none, reads-turn, finds}
+use Rattle.free_space.proofs.FitLaws.{fit-first, fit-turn, fit-end, finds}
 use Rattle.free_space.proofs.units.units_after.Statement.{statement}
 use Rattle.free_space.proofs.units.units_after.Tie as tie
 
@@ -17,7 +17,6 @@ abbrev Inv-loop : tie.InvT-loop
 Inv-loop run len unit count b₀ prev₀ i₀ b prev i =
     (okFrom (suc prev₀) (drop i₀ (decode count run)) ≡ okFrom (suc prev) (drop i (decode count run)))
     × (lower (soFar len b₀) (best (interiorSpan unit) len i₀ (drop i₀ (decode count run))) ≡ lower (soFar len b) (best (interiorSpan unit) len i (drop i (decode count run))))
-    × (Reads run len b₀ → Reads run len b)
 
 abbrev μ-loop : tie.MeasureT-loop
 μ-loop run len unit count b₀ prev₀ i₀ b prev i = count - i
@@ -35,7 +34,7 @@ add-prev : tie.Need-add-prev Inv-loop μ-loop
 add-prev c = search needs
 
 loop-holds : tie.Need-loop-holds Inv-loop μ-loop
-loop-holds c = (refl, refl, λ h. h)
+loop-holds c = (refl, refl)
 
 region-at-requires : tie.Need-region-at-requires Inv-loop μ-loop
 region-at-requires c κs = search needs
@@ -74,7 +73,7 @@ add-prev-2 c =
     omega arith
 
 add-i : tie.Need-add-i Inv-loop μ-loop
-add-i c = let room = c .before .before .before .before .before .before .before .before .before .before .before .before .before .pre .0 .room in omega (arith, c .before .before .before .before .before .before .loop-test .taken, room, c .before .before .before .before .before .before .before .before .before .before .before .before .before .good .0)
+add-i c = omega (arith, c .before .before .before .before .before .before .loop-test .taken, c .before .before .before .before .before .before .before .before .before .before .before .before .before .pre .0 .room, c .before .before .before .before .before .before .before .before .before .before .before .before .before .good)
 
 loop-less : tie.Need-loop-less Inv-loop μ-loop
 loop-less c = search needs
@@ -93,8 +92,7 @@ loop-again c =
       l .inv .0 ∙ pass-goes n (l .i) (l .prev) xs (omega arith) room (g .result) (g .ensures) (t .result) (t .ensures) (c .before .before .before .if1 .left),
       l .inv .1
           ∙ fit-turn (interiorSpan (a .unit)) (a .len) (l .i) n xs (l .b) (b .result) (g .result) (omega arith) room (g .ensures)
-          (b .ensures .0 ∙ ap (λ (s : ℕ). lower (soFar (a .len) (l .b)) (oneAt (a .len) (l .i) s)) (w .ensures .0)),
-      λ h. reads-turn xs (a .len) (l .b) (b .result) (l .i) (g .result) (l .inv .2 h) (g .ensures) (b .ensures .1),
+          (b .ensures ∙ ap (λ (s : ℕ). lower (soFar (a .len) (l .b)) (oneAt (a .len) (l .i) s)) (w .ensures .0)),
     )
 
 found-requires : tie.Need-found-requires Inv-loop μ-loop
@@ -112,9 +110,8 @@ returns-2 c =
     let w = c .before .before .before .before .before .before .whole-units in
     finds (interiorSpan (a .unit)) xs (a .list) (a .len) (l .b) _
     (first .rest ∙ l .inv .0 ∙ pass-ends n (l .i) (l .prev) xs (omega arith) (first .room))
-    (fit-first (interiorSpan (a .unit)) (a .len) n xs (none .result) (one .result) (a .first) (first .below) (first .room) (first .is) (none .ensures) (one .ensures .0 ∙ ap (λ (s : ℕ). lower (soFar (a .len) (none .result)) (oneAt (a .len) 0 s)) (w .ensures .0))
+    (fit-first (interiorSpan (a .unit)) (a .len) n xs (none .result) (one .result) (a .first) (first .below) (first .room) (first .is) (none .ensures) (one .ensures ∙ ap (λ (s : ℕ). lower (soFar (a .len) (none .result)) (oneAt (a .len) 0 s)) (w .ensures .0))
     ∙ l .inv .1 ∙ fit-end (interiorSpan (a .unit)) (a .len) (l .i) n xs (l .b) (omega arith) (first .room))
-    (l .inv .2 (reads-turn xs (a .len) (none .result) (one .result) 0 (a .first) (reads-none xs (a .len) (none .result) (none .ensures)) (first .is) (one .ensures .1)))
     (c .found .ensures)
 
 pub units-after-spec : {M : Type 1} → statement M
