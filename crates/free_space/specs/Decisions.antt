@@ -1,4 +1,4 @@
--- What a decision stands for: a call decides first, and then carries its decision out. Assumes nothing.
+-- What a decision stands for: a call decides first, and then carries its decision out. No public contract cites this file. Assumes nothing.
 --   fitted     a change, where the run has room for the regions that it leaves; else refusal 14
 --   partUnit   a length that is no multiple of its nonzero unit
 --   ifList     a decision, or refusal 3 where the test for it fails

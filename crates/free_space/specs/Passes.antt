@@ -1,4 +1,4 @@
--- What the contracts of the questions' private functions say. Assumes nothing.
+-- What the contracts of the questions' private functions say. No public contract cites this file. Assumes nothing.
 --   measureOf     what counts of a region: its length, or that of its aligned interior
 --   greatestOf    the greatest measure of the regions of a list; refusal 3
 --   apart         refusals 3 and 5 of three lists that are given together

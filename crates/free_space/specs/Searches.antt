@@ -1,4 +1,4 @@
--- What a pass for the best fit finds on its way, and what its answer says. Assumes nothing.
+-- What a pass for the best fit finds on its way, and what its answer says. No public contract cites this file. Assumes nothing.
 --   oneAt      what a region at a place finds by itself
 --   lower      the better of what was found lower and what was found above it, the lower on a tie
 --   soFar      what was found so far, as the pass keeps it: a place and the bytes left over
