@@ -1,0 +1,90 @@
+use Prim.Native.Nat.{_-_}
+use denote.Ref.{now}
+use borrow.Author.Needs.{needs}
+use Rattle.fsm_pages.proofs.RunLaws.{fits-at}
+use Rattle.fsm_pages.proofs.SplitLaws.{Putting, put-start, put-room, put-step, put-end}
+use Rattle.fsm_pages.proofs.pages.put_split.Statement.{statement}
+use Rattle.fsm_pages.proofs.pages.put_split.Tie as tie
+
+abbrev Inv-loop : tie.InvT-loop
+Inv-loop sections count page out₀ k₀ i₀ out k i = Putting page count sections out₀ out k i
+
+abbrev μ-loop : tie.MeasureT-loop
+μ-loop sections count page out₀ k₀ i₀ out k i = count - i
+
+loop-holds : tie.Need-loop-holds Inv-loop μ-loop
+loop-holds c = let s = c .before .before in put-start (s .args .page) (s .args .count) (now (s .args .sections)) (s .pre .1 .0) (now (s .args .out)) (s .pre .1 .1 .0) (s .pre .1 .1 .1)
+
+mul-put-pieces : tie.Need-mul-put-pieces Inv-loop μ-loop
+mul-put-pieces c = search needs
+
+mul-put-pieces-2 : tie.Need-mul-put-pieces-2 Inv-loop μ-loop
+mul-put-pieces-2 c = search needs
+
+shared-slice-read-put-pieces : tie.Need-shared-slice-read-put-pieces Inv-loop μ-loop
+shared-slice-read-put-pieces c = search needs
+
+mul-put-pieces-3 : tie.Need-mul-put-pieces-3 Inv-loop μ-loop
+mul-put-pieces-3 c = search needs
+
+add-put-pieces : tie.Need-add-put-pieces Inv-loop μ-loop
+add-put-pieces c = search needs
+
+mul-put-pieces-4 : tie.Need-mul-put-pieces-4 Inv-loop μ-loop
+mul-put-pieces-4 c = search needs
+
+shared-slice-read-put-pieces-2 : tie.Need-shared-slice-read-put-pieces-2 Inv-loop μ-loop
+shared-slice-read-put-pieces-2 c = search needs
+
+put-pieces-requires : tie.Need-put-pieces-requires Inv-loop μ-loop
+put-pieces-requires c κs =
+    let s = c .before .before .before .before .before .before .before in
+    let l = c .before .before .before .before .loop in
+    let h = c .before .before .before .loop-test .taken in (
+      (s .pre .0, fits-at (s .args .count) (now (s .args .sections)) (s .pre .1 .0) (l .i) h (l .inv .fits) .0),
+      put-room (s .args .page) (s .args .count) (now (s .args .sections)) (s .pre .1 .0) (now (s .args .out)) (l .out) (l .k) (l .i) (l .inv) h,
+    )
+
+add-i : tie.Need-add-i Inv-loop μ-loop
+add-i c = search needs
+
+loop-less : tie.Need-loop-less Inv-loop μ-loop
+loop-less c = search needs
+
+loop-again : tie.Need-loop-again Inv-loop μ-loop
+loop-again c =
+    let p = c .before .before in
+    let s = p .before .before .before .before .before .before .before .before in
+    let l = p .before .before .before .before .before .loop in
+    put-step (s .args .page) (s .args .count) (now (s .args .sections)) (s .pre .1 .0) (now (s .args .out)) (l .out) (l .k) (l .i) (l .inv) (p .before .before .before .before .loop-test .taken)
+    _ _ (p .put-pieces .ensures .0) (p .put-pieces .ensures .1)
+
+same-length : tie.Need-same-length Inv-loop μ-loop
+same-length c = c .before .loop .inv .same-length
+
+returns : tie.Need-returns Inv-loop μ-loop
+returns c =
+    let s = c .before .before .before .before in
+    let l = c .before .loop in
+    put-end (s .args .page) (s .args .count) (now (s .args .sections)) (s .pre .1 .0) (now (s .args .out)) (l .out) (l .k) (l .i) (l .inv) (c .loop-test .left)
+
+pub put-split-spec : {M : Type 1} → statement M
+put-split-spec =
+    tie.close
+    (tie.spec
+    Inv-loop
+    μ-loop
+    loop-holds
+    mul-put-pieces
+    mul-put-pieces-2
+    shared-slice-read-put-pieces
+    mul-put-pieces-3
+    add-put-pieces
+    mul-put-pieces-4
+    shared-slice-read-put-pieces-2
+    put-pieces-requires
+    add-i
+    loop-less
+    loop-again
+    same-length
+    returns)

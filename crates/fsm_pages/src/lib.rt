@@ -1,0 +1,2 @@
+// Free space cut at page boundaries.
+pub mod pages;
