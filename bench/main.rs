@@ -1,15 +1,23 @@
 //! Times each function of this library beside the Rust's, on the same input, in turns within one run.
 #![allow(dead_code)]
 
+extern crate alloc;
+
+mod address;
+mod blocks;
+mod bytes;
 mod checksum;
+mod convert;
 mod error;
 mod figures;
+mod file_space_info;
 mod free_space;
+mod free_space_manager;
 mod lists;
 mod stubs;
 
 use figures::Figures;
-use stubs::message_type;
+use stubs::{message_type, source};
 
 mod c {
     unsafe extern "C" {
@@ -39,4 +47,5 @@ fn main() {
     let figures = Figures::begin(std::env::args().nth(1).unwrap_or_default());
     lookup3(&figures);
     lists::run(&figures);
+    blocks::run(&figures);
 }

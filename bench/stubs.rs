@@ -10,3 +10,9 @@ pub mod message_type {
         }
     }
 }
+
+pub mod source {
+    pub trait Source {
+        fn read_exact_at(&self, at: u64, len: usize) -> Result<Vec<u8>, crate::error::FormatError>;
+    }
+}

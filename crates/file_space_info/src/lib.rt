@@ -15,6 +15,7 @@ use error::Number;
 use error::Refusal;
 use fields::bytes::read_uint_le;
 use fields::bytes::write_uint_le;
+use fields::width::is_width;
 
 // The default free-space section threshold of the C library.
 pub const DEFAULT_THRESHOLD: u64 = 1;
@@ -259,12 +260,6 @@ fn write_addrs(addrs: &[u64], out: &mut [u8])
 enum FixedPart {
     Is(FileSpaceInfo),
     Refused(Refusal),
-}
-
-fn is_width(size: u8) -> bool
-    ensures { λ r. ⌜ r ≡ validWidth size ⌝ }
-{
-    1 <= size && size <= 8
 }
 
 fn are_widths(offset_size: u8, length_size: u8) -> bool

@@ -23,8 +23,8 @@ use Rattle.free_space.specs.declared.list.FreeList.{FreeList}
 use Rattle.free_space.specs.declared.questions.Cursors.{Cursors}
 use Rattle.free_space.specs.Regions.{region, end, fitsFrom, okFrom, meets, shares, shareBytes}
 use Rattle.free_space.specs.Runs.{regionAt, decode, isList}
-use Rattle.free_space.specs.Questions.{falling, walk, sharedAmong, runStart}
-use Rattle.free_space.specs.Passes.{apart, together, InOrder, AllInOrder, remaining}
+use Rattle.free_space.specs.Questions.{falling, walk, sharedAmong, apart, together, runStart}
+use Rattle.free_space.specs.Passes.{InOrder, AllInOrder, remaining}
 use Rattle.free_space.proofs.DecodeLaws.{length-decode, decode-at, decode-end}
 use Rattle.free_space.proofs.QuestionLaws.{denied, held, here}
 use Rattle.free_space.proofs.OkLaws.{Fit, fit, fit-back, ok-at, listed}

@@ -1,8 +1,6 @@
 -- What the contracts of the questions' private functions say. No public contract cites this file. Assumes nothing.
 --   measureOf     what counts of a region: its length, or that of its aligned interior
 --   greatestOf    the greatest measure of the regions of a list; refusal 3
---   apart         refusals 3 and 5 of three lists that are given together
---   together      the outcome of testing for these refusals alone
 --   InOrder       the first n pairs of a run are regions in order, each after the end of the one before with a gap
 --   AllInOrder    the same of three runs
 --   remaining     the regions that the walk has not come to
@@ -11,11 +9,10 @@
 --   Onward        what the code reached: the next region, or none remains
 use Prim.Native.Nat.{ℕ, zero, suc, _+_, _*_, _≤_, _<_}
 use mathlib.Core.Path.{_≡_}
-use mathlib.Core.Bool.{true, _&&_, not}
+use mathlib.Core.Bool.{true}
 use mathlib.Core.List.{List, [], _∷_, _++_}
 use lib.ListN.{length}
-use Rattle.error.specs.declared.Refusal.the-variants.{NotAList, SharedAddress}
-use Rattle.error.specs.Outcome.{Outcome, answer, Condition, when, firstOf}
+use Rattle.error.specs.Outcome.{Outcome, answer, firstOf}
 use Rattle.fields.specs.Ranges.{top}
 use Rattle.free_space.specs.declared.list.FreeList.{FreeList}
 use Rattle.free_space.specs.declared.region.FreeRegion.{FreeRegion}
@@ -25,10 +22,10 @@ use Rattle.free_space.specs.declared.questions.Cursors.{Cursors}
 use Rattle.free_space.specs.declared.questions.Reached.{Reached}
 use Rattle.free_space.specs.declared.questions.Reached.the-variants.{At, Nothing}
 use Rattle.free_space.specs.Regions.{end, okFrom}
-use Rattle.free_space.specs.Runs.{regionAt, decode, regions, isList}
+use Rattle.free_space.specs.Runs.{regionAt, decode, regions}
 use Rattle.free_space.specs.Units.{interiorSpan}
 use Rattle.free_space.specs.Calls.{notList}
-use Rattle.free_space.specs.Questions.{greatest, falling, sharedAmong}
+use Rattle.free_space.specs.Questions.{greatest, falling}
 
 abbrev pub measureOf : Measure → FreeRegion → ℕ
 measureOf Length = λ r. r .len
@@ -38,15 +35,6 @@ abbrev pub greatestOf : Measure → List ℕ → FreeList → Outcome ℕ
 greatestOf what xs l = firstOf (notList xs l ∷ []) (answer (greatest (measureOf what) (regions xs l)))
 
 -- ---- three lists
-
-abbrev pub apart : List ℕ → FreeList → List ℕ → FreeList → List ℕ → FreeList → List Condition
-apart xs k ys l zs m =
-    when (not (isList xs k && (isList ys l && isList zs m))) NotAList
-    ∷ when (sharedAmong (regions xs k) (regions ys l) (regions zs m)) SharedAddress
-    ∷ []
-
-abbrev pub together : List ℕ → FreeList → List ℕ → FreeList → List ℕ → FreeList → Outcome (Unit {0})
-together xs k ys l zs m = firstOf (apart xs k ys l zs m) (answer tt)
 
 pub record InOrder (xs : List ℕ) (n : ℕ) : Type 0 where
   pub room : 2 * n ≤ length xs

@@ -4,7 +4,10 @@
 --   largestUnitsOf     `largest_whole_units`: the longest aligned interior
 --   falling            regions by falling address
 --   walk               from a start, down regions by falling address: stop at one that ends below the start reached, else lower the start to its address if less
---   runStart           `trailing_run_start` over three lists: refusal 3 where one is no list, refusal 5 where two share a byte
+--   sharedAmong        two of three lists share a byte
+--   apart              refusals 3 and 5 of three lists that are given together: one is no list, or two share a byte
+--   together           `check_lists`: the outcome of testing for these refusals alone
+--   runStart           `trailing_run_start` over three lists, with these refusals
 use Prim.Native.Nat.{ℕ, min, max}
 use mathlib.Core.Bool.{Bool, cond, _&&_, _||_, not}
 use mathlib.Core.List.{List, [], _∷_, _++_}
@@ -45,10 +48,16 @@ walk start (r ∷ rs) = cond (ltb (end r) start) start (walk (min start (r .addr
 abbrev pub sharedAmong : List FreeRegion → List FreeRegion → List FreeRegion → Bool
 sharedAmong m r u = shareBytes m r || (shareBytes m u || shareBytes r u)
 
+abbrev pub apart : List ℕ → FreeList → List ℕ → FreeList → List ℕ → FreeList → List Condition
+apart xs k ys l zs m =
+    when (not (isList xs k && (isList ys l && isList zs m))) NotAList
+    ∷ when (sharedAmong (regions xs k) (regions ys l) (regions zs m)) SharedAddress
+    ∷ []
+
+abbrev pub together : List ℕ → FreeList → List ℕ → FreeList → List ℕ → FreeList → Outcome (Unit {0})
+together xs k ys l zs m = firstOf (apart xs k ys l zs m) (answer tt)
+
 unfoldable pub runStart : List ℕ → FreeList → List ℕ → FreeList → List ℕ → FreeList → ℕ → Outcome ℕ
 runStart xs k ys l zs m eof =
-    firstOf
-    (when (not (isList xs k && (isList ys l && isList zs m))) NotAList
-    ∷ when (sharedAmong (regions xs k) (regions ys l) (regions zs m)) SharedAddress
-    ∷ [])
+    firstOf (apart xs k ys l zs m)
     (answer (walk eof (falling (regions xs k ++ (regions ys l ++ regions zs m)))))

@@ -6,8 +6,8 @@ ghost use Rattle.error.specs.Answers.{checkedOutcome, numberOutcome};
 ghost use Rattle.fields.specs.Ranges.{top};
 ghost use Rattle.free_space.specs.Regions.{end, shareBytes};
 ghost use Rattle.free_space.specs.Runs.{decode, isList};
-ghost use Rattle.free_space.specs.Questions.{falling, walk, sharedAmong, largestOf, largestUnitsOf, runStart};
-ghost use Rattle.free_space.specs.Passes.{measureOf, greatestOf, InOrder, AllInOrder, remaining, height, Onward, together};
+ghost use Rattle.free_space.specs.Questions.{falling, walk, sharedAmong, largestOf, largestUnitsOf, together, runStart};
+ghost use Rattle.free_space.specs.Passes.{measureOf, greatestOf, InOrder, AllInOrder, remaining, height, Onward};
 use crate::check::follows;
 use crate::check::has_room;
 use crate::check::is_list;
@@ -134,8 +134,8 @@ struct Cursors {
     unclassified: usize,
 }
 
-// Whether all three are lists.
-fn are_lists(
+// Whether all three are lists: refusal 3 alone.
+pub fn are_lists(
     meta: &[u64],
     meta_list: FreeList,
     raw: &[u64],
@@ -169,7 +169,7 @@ fn share_any(meta: &[u64], raw: &[u64], unclassified: &[u64], all: Cursors) -> b
 }
 
 // Refusals 3 and 5 of three lists that are given together.
-pub(crate) fn check_lists(
+pub fn check_lists(
     meta: &[u64],
     meta_list: FreeList,
     raw: &[u64],

@@ -14,13 +14,14 @@ use Rattle.fields.specs.Layout.{leAt}
 use Rattle.fields.specs.Width.{validWidth}
 use Rattle.fsm_blocks.specs.declared.header.FsmHeader.{FsmHeader}
 use Rattle.fsm_blocks.specs.Fshd.{Header, signed, headerAt, taken, parseFshd, parsedFshd}
-use Rattle.fsm_blocks.proofs.BytesLaws.{leAt-byte, as-read}
+use Rattle.fields.proofs.LayoutLaws.{leAt-one}
+use Rattle.fsm_blocks.proofs.BytesLaws.{as-read}
 
 -- the code compares bytes, in another order of the same tests
 pub signed-bytes : (a b c d : ℕ) (bs : List ℕ)
     → (((eqb (getD bs 0 0) a && eqb (getD bs 1 0) b) && eqb (getD bs 2 0) c) && eqb (getD bs 3 0) d) ≡ signed a b c d bs
 signed-bytes a b c d bs =
-    rw (leAt-byte bs 0, leAt-byte bs 1, leAt-byte bs 2, leAt-byte bs 3)
+    rw (leAt-one 0 bs, leAt-one 1 bs, leAt-one 2 bs, leAt-one 3 bs)
     (assoc (eqb (getD bs 0 0) a) (eqb (getD bs 1 0) b) (eqb (getD bs 2 0) c) (eqb (getD bs 3 0) d))
   where
     assoc : (p q r s : Bool) → (((p && q) && r) && s) ≡ (p && (q && (r && s)))

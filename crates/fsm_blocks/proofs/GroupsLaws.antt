@@ -16,7 +16,7 @@ use Rattle.fsm_sections.specs.declared.FreeSection.{FreeSection}
 use Rattle.fsm_sections.specs.Sections.{bySizeThenAddr, Group, addrs, count, push, groupsOf, withSize, ungroup, All}
 use Rattle.fsm_sections.proofs.SectionsLaws.{all-sorted, length-sorted, ungroup-groupsOf, length-withSize}
 use Rattle.fsm_blocks.specs.Groups.{Widths, SectionFits, entryBytes, groupBytes, entrySize, headSize, behind, readEntries, readMore, readGroups, parseGroups}
-use Rattle.fsm_blocks.proofs.BytesLaws.{leAt-le}
+use Rattle.fields.proofs.LayoutLaws.{leAt-le}
 use Rattle.fsm_blocks.proofs.ScanLaws.{readGroups-zero, readGroups-suc}
 
 drop-past : (n : ℕ) (p : List ℕ) (x : ℕ) (q : List ℕ) → length p ≡ n → drop (suc n) (p ++ x ∷ q) ≡ q

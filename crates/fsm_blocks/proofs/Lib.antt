@@ -11,7 +11,6 @@ pub mod ParseLaws
 pub mod NamedLaws
 pub mod SlotsLaws
 pub mod ReadLaws
-pub mod DistinctLaws
 pub mod WrittenLaws
 pub mod ImageLaws
 pub mod Cases

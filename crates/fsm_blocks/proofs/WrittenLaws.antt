@@ -17,12 +17,13 @@ use Rattle.fsm_sections.specs.declared.FreeSection.{FreeSection}
 use Rattle.fsm_sections.specs.Sections.{bySizeThenAddr, groupsOf, distinct, All}
 use Rattle.fsm_sections.proofs.AllLaws.{all-getD}
 use Rattle.fsm_sections.proofs.SectionsLaws.{length-sorted, ungroup-groupsOf}
+use Rattle.fsm_sections.proofs.SizesLaws.{groups-of-sizes}
 use Rattle.fsm_blocks.specs.Groups.{Widths, SectionFits, groupBytes, parseGroups}
 use Rattle.fsm_blocks.specs.Fshd.{Header, fshdRow, sealed, fshdBytes, fshdSize, signed, headerAt, parseFshd}
 use Rattle.fsm_blocks.specs.Fsse.{widthsOf, fsseHead, fsseBytes, fsseSize, parseFsse}
-use Rattle.fsm_blocks.proofs.BytesLaws.{window-at, leAt-le, length-layout, field-at}
+use Rattle.fields.proofs.LayoutLaws.{window-at, leAt-le, length-layout}
+use Rattle.fsm_blocks.proofs.BytesLaws.{field-at}
 use Rattle.fsm_blocks.proofs.GroupsLaws.{length-groups, parse-written}
-use Rattle.fsm_blocks.proofs.DistinctLaws.{distinct-groups}
 use Rattle.fsm_blocks.proofs.FsseLaws.{fsse-groups}
 
 -- ---- the checksum: it stands in the last four bytes, behind what it is the checksum of
@@ -76,7 +77,7 @@ module _ (sum : List ℕ → ℕ) (O : ℕ) (h : Header) where
       long : fshdSize O ≤ length bs
       long = simp (length-append, length-layout, length-le) (omega arith)
 
-      at : (i : ℕ) → i < 18 → (p w : ℕ) → span (widths (take i fs)) ≡ p → getD fs i (field 0 0) .width ≡ w → leAt p w bs ≡ getD fs i (field 0 0) .value
+      at : (i : ℕ) → i < 18 → (p w : ℕ) → span (take i (widths fs)) ≡ p → getD (widths fs) i 0 ≡ w → leAt p w bs ≡ getD fs i (field 0 0) .value
       at i l p w ep ew = field-at fs i (leBytes 4 (sum (layout fs)) ++ rest) l (all-getD FieldFits fs i (field 0 0) l fits) p w ep ew
 
       same : headerAt O bs ≡ h
@@ -111,7 +112,7 @@ module _ (sum : List ℕ → ℕ) (w : Widths) (O back class : ℕ) (l : List Fr
   unfolding fsseBytes
   length-fsse =
       let n = length-groups w class (groupsOf (bySizeThenAddr l)) in
-      let g : length (groupsOf (bySizeThenAddr l)) ≡ distinct l = distinct-groups l in
+      let g : length (groupsOf (bySizeThenAddr l)) ≡ distinct l = groups-of-sizes l in
       let u = ap length (ungroup-groupsOf (bySizeThenAddr l)) ∙ length-sorted l in
       simp (length-append, length-le, length-layout) (rw (n, g, u) (omega arith))
 
@@ -141,7 +142,7 @@ module _ (sum : List ℕ → ℕ) (w : Widths) (O back class : ℕ) (l : List Fr
       len : length bs ≡ 9 + O + length G
       len = simp (length-append, length-layout, four) (omega arith)
 
-      at : (i : ℕ) → i < 6 → FieldFits (getD (fsseHead O back) i (field 0 0)) → (p w : ℕ) → span (widths (take i (fsseHead O back))) ≡ p → getD (fsseHead O back) i (field 0 0) .width ≡ w
+      at : (i : ℕ) → i < 6 → FieldFits (getD (fsseHead O back) i (field 0 0)) → (p w : ℕ) → span (take i (widths (fsseHead O back))) ≡ p → getD (widths (fsseHead O back)) i 0 ≡ w
           → leAt p w bs ≡ getD (fsseHead O back) i (field 0 0) .value
       at i h v p w ep ew = field-at (fsseHead O back) i (G ++ C) h v p w ep ew
 

@@ -15,9 +15,9 @@ use crate::groups::put_groups;
 use crate::groups::widths_of;
 use crate::header::FsmHeader;
 use crate::header::is_signed;
-use crate::header::is_width;
 use error::Number;
 use error::Refusal;
+use fields::width::is_width;
 
 // How many sections were read into the lent run.
 pub enum SectionsAnswer {

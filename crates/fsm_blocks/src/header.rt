@@ -3,11 +3,11 @@ ghost use mathlib.Core.Path.{_≡_};
 ghost use Prim.Native.Nat.{_≤_};
 ghost use lib.ListN.{length};
 ghost use Rattle.error.specs.Outcome.{answer, andThen};
-ghost use Rattle.fields.specs.Width.{validWidth};
 ghost use Rattle.fsm_blocks.specs.Answers.{headerOutcome};
 ghost use Rattle.fsm_blocks.specs.Fshd.{signed, taken, parsedFshd};
 use error::Refusal;
 use fields::bytes::read_uint_le;
+use fields::width::is_width;
 
 // What the reader takes from a header: the Rust's six fields.
 pub struct FsmHeader {
@@ -62,13 +62,6 @@ impl FsmHeader {
             fsse_used: read_uint_le(bytes, 54 + o, 8),
         })
     }
-}
-
-// Whether an offset size is within 1 to 8.
-pub(crate) fn is_width(offset_size: u8) -> bool
-    ensures { λ r. ⌜ r ≡ validWidth «offset_size» ⌝ }
-{
-    (1 <= offset_size) & (offset_size <= 8)
 }
 
 // Whether `bytes` begin with the letters F, S and the two given.

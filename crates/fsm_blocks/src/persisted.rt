@@ -18,10 +18,10 @@ use crate::fsse::fsse_count;
 use crate::fsse::put_fsse;
 use crate::header::FsmHeader;
 use crate::header::HeaderAnswer;
-use crate::header::is_width;
 use error::Number;
 use error::Refusal;
 use fields::address::BaseAddress;
+use fields::width::is_width;
 
 // Where a manager's section list stands, with the header that names it.
 pub(crate) enum Named {

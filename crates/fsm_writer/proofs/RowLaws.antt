@@ -24,7 +24,7 @@ use Rattle.fsm_writer.specs.Writing.{written, headerOf}
 use Rattle.fsm_writer.proofs.WriterLaws.{groups-length}
 
 -- what is put behind what stands at the front
-over-behind : (u v d : List ℕ) → over (length u) v (over 0 u d) ≡ over 0 (u ++ v) d
+pub over-behind : (u v d : List ℕ) → over (length u) v (over 0 u d) ≡ over 0 (u ++ v) d
 over-behind u v d = let e : length u ≡ 0 + length u = omega arith in ap (λ (n : ℕ). over n v (over 0 u d)) e ∙ over-right 0 u v d
 
 -- ---- rows

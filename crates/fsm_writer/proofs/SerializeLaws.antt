@@ -36,7 +36,7 @@ use Rattle.fsm_blocks.specs.Fshd.{Header, fshdBytes, fshdSize}
 use Rattle.fsm_blocks.specs.Fsse.{fsseSize}
 use Rattle.fsm_blocks.specs.Groups.{Widths}
 use Rattle.fsm_blocks.specs.Managers.{startingSet, headerFor, fsseUsed, fsseFor}
-use Rattle.fsm_writer.specs.Serializing.{ofRun, wide, anyWide, blocksLen, writtenFshd, writtenFsse}
+use Rattle.fsm_writer.specs.Serializing.{ofRun, wide, anyOf, anyWide, blocksSize, blocksLen, writtenFshd, writtenFsse}
 use Rattle.fsm_writer.specs.Writing.{headerOf}
 use Rattle.fsm_writer.proofs.RowLaws.{widths-are, width-small}
 
@@ -172,22 +172,24 @@ wide-is o a h k = ⊎-elim big small (le-or-lt (256 ^ o) a)
     small : a < 256 ^ o → ltb o (encSize a) ≡ wide o a
     small q = rw (lt-leb (256 ^ o) a q) (le-ltb o (encSize a) (encSize-least a h .least o k q))
 
-module _ (o n : ℕ) (run : List ℕ) (room : 2 * n ≤ length run) (i : ℕ) (h : i < n) where
+-- ---- a test of each section, one by one
+
+module _ (test : FreeSection → Bool) (n : ℕ) (run : List ℕ) (room : 2 * n ≤ length run) (i : ℕ) (h : i < n) where
   opens : drop i (decode n run) ≡ pairAt run i ∷ drop (i + 1) (decode n run)
   opens = rw (add-one i) (drop-cons (decode n run) i (section 0 0) (omega (arith, length-decode n run room)) ∙ rw (decode-at n i run (section 0 0) h room))
 
-  pub wide-found : (t : Bool) → t ≡ wide o (getD run (2 * i) 0) → t ≡ true → anyWide o (drop i (decode n run)) ≡ anyWide o (decode n run) → true ≡ anyWide o (decode n run)
-  unfolding anyWide
-  wide-found t e f p = sym (sym p ∙ rw (opens, ← e, f))
+  pub any-found : (t : Bool) → t ≡ test (pairAt run i) → t ≡ true → anyOf test (drop i (decode n run)) ≡ anyOf test (decode n run) → true ≡ anyOf test (decode n run)
+  unfolding anyOf
+  any-found t e f p = sym (sym p ∙ rw (opens, ← e, f))
 
-  pub wide-turn : (t : Bool) → t ≡ wide o (getD run (2 * i) 0) → t ≡ false → anyWide o (drop i (decode n run)) ≡ anyWide o (decode n run)
-      → anyWide o (drop (i + 1) (decode n run)) ≡ anyWide o (decode n run)
-  unfolding anyWide
-  wide-turn t e f p = sym (ap (anyWide o) opens ∙ rw (← e, f)) ∙ p
+  pub any-turn : (t : Bool) → t ≡ test (pairAt run i) → t ≡ false → anyOf test (drop i (decode n run)) ≡ anyOf test (decode n run)
+      → anyOf test (drop (i + 1) (decode n run)) ≡ anyOf test (decode n run)
+  unfolding anyOf
+  any-turn t e f p = sym (ap (anyOf test) opens ∙ rw (← e, f)) ∙ p
 
-pub wide-none : (o n i : ℕ) (run : List ℕ) → 2 * n ≤ length run → n ≤ i → anyWide o (drop i (decode n run)) ≡ anyWide o (decode n run) → false ≡ anyWide o (decode n run)
-unfolding anyWide
-wide-none o n i run room h p = ap (anyWide o) (sym (drop-of-length-le (decode n run) {i = i} (omega (arith, length-decode n run room)))) ∙ p
+pub any-none : (test : FreeSection → Bool) (n i : ℕ) (run : List ℕ) → 2 * n ≤ length run → n ≤ i → anyOf test (drop i (decode n run)) ≡ anyOf test (decode n run) → false ≡ anyOf test (decode n run)
+unfolding anyOf
+any-none test n i run room h p = ap (anyOf test) (sym (drop-of-length-le (decode n run) {i = i} (omega (arith, length-decode n run room)))) ∙ p
 
 -- ---- lengths
 
@@ -227,14 +229,14 @@ module _ (O : ℕ) (run : List ℕ) (n sum : ℕ) (h : Accepted O run n sum) whe
   unfolding blocksLen
   blocks-none e =
       let z : length (decode n run) ≡ 0 = length-decode n run (h .room) ∙ e in
-      sym (rw (eq-eqb (length (decode n run)) 0 z)) ∙ accepted-then O run n sum h (λ l. answer (cond (eqb (length l) 0) 0 (fshdSize O + fsseUsed O (startingSet O) l)))
+      sym (rw (eq-eqb (length (decode n run)) 0 z)) ∙ accepted-then O run n sum h (λ l. answer (blocksSize O l))
 
   pub blocks-some : (n ≡ 0 → ⊥) → (used : ℕ) → used ≡ fsseUsed O (startingSet O) (decode n run) → answer (74 + O + used) ≡ blocksLen O run n
   unfolding blocksLen
   blocks-some e used u =
       let z : length (decode n run) ≡ 0 → ⊥ = λ q. e (sym (length-decode n run (h .room)) ∙ q) in
       ap (λ (m : ℕ). answer (74 + O + m)) u ∙ sym (rw (ne-eqb (length (decode n run)) 0 z))
-      ∙ accepted-then O run n sum h (λ l. answer (cond (eqb (length l) 0) 0 (fshdSize O + fsseUsed O (startingSet O) l)))
+      ∙ accepted-then O run n sum h (λ l. answer (blocksSize O l))
 
 -- a refusal leaves the lent memory as it was
 pub left-refused : (m : List ℕ) (r : Refusal) (x : Outcome (With ℕ (List ℕ))) → refused r ≡ x → left (refused r) m ≡ leaving m x

@@ -1,2 +1,3 @@
 pub mod Serializing
 pub mod Writing
+pub mod Slots

@@ -2,8 +2,10 @@
 --   writtenOutcome   the outcome that an answer of the code stands for
 --   ofRun            a run of sections and its count: refusals 1, 3 (odd length, or a count above the capacity), 4 (the sum of sizes)
 --   wide             an address does not fit O bytes
+--   anyOf            a test holds of some section
 --   anyWide          some section's address does not
---   blocksLen        `file_fsm_blocks_len`: both blocks' lengths, 0 without sections
+--   blocksSize       both blocks' lengths, 0 without sections
+--   blocksLen        `file_fsm_blocks_len`: that length
 --   writtenFshd      `serialize_fshd`: the header at the front of the lent bytes; refusals 12, 14
 --   writtenFsse      `serialize_fsse`: the section list at the front of the lent bytes; refusals 12, 14
 use Prim.Native.Nat.{ℕ, _+_, _/_, _%_, _^_}
@@ -40,12 +42,18 @@ ofRun O run n =
 abbrev pub wide : ℕ → ℕ → Bool
 wide O a = leb (256 ^ O) a
 
-unfoldable pub anyWide : ℕ → List FreeSection → Bool
-anyWide O [] = false
-anyWide O (s ∷ l) = wide O (s .addr) || anyWide O l
+unfoldable pub anyOf : (FreeSection → Bool) → List FreeSection → Bool
+anyOf test [] = false
+anyOf test (s ∷ l) = test s || anyOf test l
+
+abbrev pub anyWide : ℕ → List FreeSection → Bool
+anyWide O l = anyOf (λ s. wide O (s .addr)) l
+
+abbrev pub blocksSize : ℕ → List FreeSection → ℕ
+blocksSize O l = cond (eqb (length l) 0) 0 (fshdSize O + fsseUsed O (startingSet O) l)
 
 unfoldable pub blocksLen : ℕ → List ℕ → ℕ → Outcome ℕ
-blocksLen O run n = andThen (ofRun O run n) (λ l. answer (cond (eqb (length l) 0) 0 (fshdSize O + fsseUsed O (startingSet O) l)))
+blocksLen O run n = andThen (ofRun O run n) (λ l. answer (blocksSize O l))
 
 unfoldable pub writtenFshd : ℕ → List ℕ → ℕ → ℕ → List ℕ → Outcome (With ℕ (List ℕ))
 writtenFshd O run n fsse out =

@@ -1,3 +1,4 @@
-// The writer of a manager's blocks: ordered passes over sections, and the two serializers.
+// The writer of a manager's blocks: ordered passes over sections, the two serializers, and the blocks of a paged file's slots.
 mod passes;
+pub mod slots;
 pub mod writer;

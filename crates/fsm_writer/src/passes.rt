@@ -9,6 +9,7 @@ ghost use Rattle.fsm_sections.specs.Sections.{section, times, ofSize, distinct}
 ghost use Rattle.fsm_sections.specs.Chains.{link, chain, sectionsOf, ChainFits};
 ghost use Rattle.fsm_sections.specs.Sources.{pad, one, partOf, chainsOf, rest, chainCount, PartFits, Given, Within, Taking, Chosen, ChosenOfTwo};
 ghost use Rattle.fsm_sections.specs.Passes.{leastSize, leastAddr, spaceOf};
+ghost use Rattle.fsm_writer.specs.Writing.{storable};
 use error::Number;
 use error::Refusal;
 use fsm_sections::Chain;
@@ -204,10 +205,9 @@ pub(crate) fn space_of(a: &[u64], b: &[u64], c: &[u64], s: Source) -> Number
 }
 
 // How many sections there are.
-pub(crate) fn section_count(a: &[u64], b: &[u64], c: &[u64], s: Source) -> u64
-    requires given { ⌜ Given s (now a) (now b) (now c) ⌝ }
-    requires few { ⌜ length (sectionsOf (chainsOf s (now a) (now b) (now c))) < 2 ^ 64 ⌝ }
-    ensures { λ r. ⌜ r ≡ length (sectionsOf (chainsOf s (now (a .entry)) (now (b .entry)) (now (c .entry)))) ⌝ }
+pub(crate) fn section_count(a: &[u64], b: &[u64], c: &[u64], s: Source) -> Number
+    requires { ⌜ Given s (now a) (now b) (now c) ⌝ }
+    ensures { λ r. ⌜ numberOutcome r ≡ storable (length (sectionsOf (chainsOf s (now (a .entry)) (now (b .entry)) (now (c .entry))))) ⌝ }
 {
     let total = s.na + s.nb + s.nc;
     let mut n: u64 = 0;
@@ -216,12 +216,15 @@ pub(crate) fn section_count(a: &[u64], b: &[u64], c: &[u64], s: Source) -> u64
     let mut k = 0;
     while i + j + k < total {
         let t = next_chain(a, b, c, s, i, j, k);
+        if 18446744073709551615 - n < t.count {
+            return Number::Refused(Refusal::Overflow);
+        }
         n = n + t.count;
         i = t.i;
         j = t.j;
         k = t.k;
     }
-    n
+    Number::Is(n)
 }
 
 // How many of a chain's sections have size z.

@@ -4,7 +4,8 @@ use native.Mathlib.Omega.{arith}
 use denote.Ref.{now}
 use lib.ListN.{length}
 use Rattle.fields.specs.Layout.{leAt}
-use Rattle.fsm_blocks.proofs.BytesLaws.{as-read, leAt-byte, leAt-two}
+use Rattle.fields.proofs.LayoutLaws.{leAt-one}
+use Rattle.fsm_blocks.proofs.BytesLaws.{as-read, leAt-two}
 use borrow.Author.Needs.{needs}
 use Rattle.fsm_blocks.proofs.groups.field_at.Statement.{statement}
 use Rattle.fsm_blocks.proofs.groups.field_at.Tie as tie
@@ -24,7 +25,7 @@ wide-requires c κs = search needs
 returns-2 : tie.Need-returns-2
 returns-2 c =
     let s = c .before .before .before .before .before in
-    c .wide .ensures .0 ∙ sym (leAt-byte (now (s .args .bytes)) (s .args .at)) ∙ ap (λ (n : ℕ). leAt (s .args .at) n (now (s .args .bytes))) (sym (c .before .before .if2 .taken))
+    c .wide .ensures .0 ∙ sym (leAt-one (s .args .at) (now (s .args .bytes))) ∙ ap (λ (n : ℕ). leAt (s .args .at) n (now (s .args .bytes))) (sym (c .before .before .if2 .taken))
 
 shared-slice-read-wide-2 : tie.Need-shared-slice-read-wide-2
 shared-slice-read-wide-2 c = search needs

@@ -2,7 +2,7 @@ use mathlib.Core.Path.{sym, ap, _∙_, subst}
 use mathlib.Core.Bool.{not}
 use Prim.Native.Nat.{ℕ, _<_, _^_}
 use denote.Ref.{now}
-use Rattle.fsm_blocks.proofs.BytesLaws.{leAt-lt}
+use Rattle.fields.proofs.LayoutLaws.{leAt-lt}
 use Rattle.fsm_blocks.proofs.FshdLaws.{parse-width, parse-short, parse-unsigned, parse-fields}
 use borrow.Author.Needs.{needs}
 use Rattle.fsm_blocks.proofs.header.FsmHeader.parse.Statement.{statement}

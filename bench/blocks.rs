@@ -1,0 +1,88 @@
+//! The managers' blocks, written and read, at 16, 1,000 and 10,000 sections by address, all of one size and each of its own; and
+//! sections cut at pages.
+
+use crate::address::BaseAddress;
+use crate::figures::Figures;
+use crate::free_space_manager::{FreeSection, read_persisted_sections, serialize_file_fsm, split_at_pages};
+
+mod c {
+    unsafe extern "C" {
+        pub fn bench_serialize_fshd(sections: *const u64, len: usize, count: usize, fsse_addr: u64, out: *mut u8, room: usize) -> u64;
+        pub fn bench_serialize_fsse(
+            sections: *const u64,
+            len: usize,
+            count: usize,
+            fshd_addr: u64,
+            class: u8,
+            out: *mut u8,
+            room: usize,
+        ) -> u64;
+        pub fn bench_read_sections(bytes: *const u8, len: usize, slots: *const u64, slot_count: usize, out: *mut u64, room: usize) -> u64;
+        pub fn bench_split_at_pages(sections: *const u64, len: usize, count: usize, page: u64, out: *mut u64, room: usize) -> usize;
+    }
+}
+
+const FSHD_LEN: u64 = 82;
+const PAGE: u64 = 4096;
+
+fn pairs(sections: &[FreeSection]) -> Vec<u64> {
+    sections.iter().flat_map(|s| [s.addr, s.size]).collect()
+}
+
+/// Writes both blocks, FSHD at 0 and FSSE behind it, and gives their length.
+fn write(pairs: &[u64], out: &mut [u8]) -> u64 {
+    unsafe {
+        let header = c::bench_serialize_fshd(pairs.as_ptr(), pairs.len(), pairs.len() / 2, FSHD_LEN, out.as_mut_ptr(), out.len());
+        let (_, rest) = out.split_at_mut(header as usize);
+        header + c::bench_serialize_fsse(pairs.as_ptr(), pairs.len(), pairs.len() / 2, 0, 0, rest.as_mut_ptr(), rest.len())
+    }
+}
+
+fn blocks(figures: &Figures, name: &str, sections: &[FreeSection]) {
+    let pairs = pairs(sections);
+    let (mut bytes, list) = serialize_file_fsm(sections, 0, FSHD_LEN, 8, 0);
+    bytes.extend(list);
+    let mut out = vec![0u8; bytes.len()];
+    assert_eq!(write(&pairs, &mut out), bytes.len() as u64);
+    assert_eq!(out, bytes, "{name}");
+    figures.compare(
+        &format!("write {name}"),
+        || write(&pairs, &mut out) as usize,
+        || {
+            let (header, list) = serialize_file_fsm(sections, 0, FSHD_LEN, 8, 0);
+            header.len() + list.len()
+        },
+    );
+    let mut read = vec![0u64; pairs.len()];
+    figures.compare(
+        &format!("read {name}"),
+        || unsafe { c::bench_read_sections(bytes.as_ptr(), bytes.len(), [0].as_ptr(), 1, read.as_mut_ptr(), read.len()) as usize },
+        || read_persisted_sections(&bytes, &[0], BaseAddress::new(0), 8).unwrap().len(),
+    );
+}
+
+fn split(figures: &Figures, name: &str, sections: &[FreeSection]) {
+    let pairs = pairs(sections);
+    let mut out = vec![0u64; 2 * split_at_pages(sections, PAGE).len()];
+    figures.compare(
+        &format!("cut at pages, {name}"),
+        || unsafe { c::bench_split_at_pages(pairs.as_ptr(), pairs.len(), pairs.len() / 2, PAGE, out.as_mut_ptr(), out.len()) },
+        || split_at_pages(sections, PAGE).len(),
+    );
+}
+
+fn regions(count: u64, step: u64, size: impl Fn(u64) -> u64) -> Vec<FreeSection> {
+    (0..count).map(|i| FreeSection { addr: i * step, size: size(i) }).collect()
+}
+
+pub fn run(figures: &Figures) {
+    for count in [16, 1000, 10_000] {
+        blocks(figures, &format!("{count} equal sizes"), &regions(count, 1 << 20, |_| 512));
+        // 7919 is prime, so that the sizes come in no order
+        blocks(figures, &format!("{count} distinct sizes"), &regions(count, 1 << 20, |i| 1 + i * 7919 % 10_007));
+        blocks(figures, &format!("{count} of 100 sizes"), &regions(count, 1 << 20, |i| 1 + i * 7919 % 100));
+    }
+    split(figures, "1,000 of a tenth of a page", &regions(1000, 8192, |_| PAGE / 10));
+    split(figures, "1,000 of three pages and a half", &regions(1000, 32_768 + 100, |_| 7 * PAGE / 2));
+    split(figures, "1 of 10,000 pages", &regions(1, 1, |_| 10_000 * PAGE));
+}

@@ -1,0 +1,25 @@
+use mathlib.Core.Path.{ap, _∙_}
+use Prim.Native.Nat.{ℕ}
+use borrow.Author.Needs.{needs}
+use Rattle.error.specs.Lent.{with}
+use Rattle.bench_blocks.specs.Numbers.{leftOrTop}
+use Rattle.bench_blocks.proofs.bench_read_sections.Statement.{statement}
+use Rattle.bench_blocks.proofs.bench_read_sections.Tie as tie
+
+read-persisted-sections-requires : tie.Need-read-persisted-sections-requires
+read-persisted-sections-requires c κs = search needs
+
+read-count-requires : tie.Need-read-count-requires
+read-count-requires c κs = search needs
+
+same-length : tie.Need-same-length
+same-length c = search needs
+
+returns : tie.Need-returns
+returns c =
+    let d = c .before .before .before .read-persisted-sections in
+    ap (λ (n : ℕ). with n (d .last .1 .1 .1 .1 .0)) (c .read-count .ensures) ∙ ap leftOrTop (d .ensures)
+
+pub bench-read-sections-spec : {M : Type 1} → statement M
+bench-read-sections-spec =
+    tie.close (tie.spec read-persisted-sections-requires read-count-requires same-length returns)

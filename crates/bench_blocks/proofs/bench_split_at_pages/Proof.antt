@@ -1,0 +1,25 @@
+use mathlib.Core.Path.{ap, _∙_}
+use Prim.Native.Nat.{ℕ}
+use borrow.Author.Needs.{needs}
+use Rattle.error.specs.Lent.{with}
+use Rattle.bench_blocks.specs.Numbers.{leftOrTop}
+use Rattle.bench_blocks.proofs.bench_split_at_pages.Statement.{statement}
+use Rattle.bench_blocks.proofs.bench_split_at_pages.Tie as tie
+
+split-at-pages-requires : tie.Need-split-at-pages-requires
+split-at-pages-requires c κs = search needs
+
+piece-count-requires : tie.Need-piece-count-requires
+piece-count-requires c κs = search needs
+
+same-length : tie.Need-same-length
+same-length c = search needs
+
+returns : tie.Need-returns
+returns c =
+    let d = c .before .before .before .split-at-pages in
+    ap (λ (n : ℕ). with n (d .last .1 .1 .1 .0)) (c .piece-count .ensures) ∙ ap leftOrTop (d .ensures)
+
+pub bench-split-at-pages-spec : {M : Type 1} → statement M
+bench-split-at-pages-spec =
+    tie.close (tie.spec split-at-pages-requires piece-count-requires same-length returns)

@@ -1,0 +1,5 @@
+pub mod EncodingLaws
+pub mod CallLaws
+pub mod CutLaws
+pub mod DemandedLaws
+pub mod Cases

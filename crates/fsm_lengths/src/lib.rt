@@ -1,0 +1,90 @@
+// The length of a section list by the sizes of its sections alone.
+ghost use mathlib.Core.Path.{_≡_};
+ghost use mathlib.Core.Bool.{cond};
+ghost use Prim.Native.Nat.{_≤_};
+ghost use lib.Dec.{ltb};
+ghost use lib.ListN.{length, drop};
+ghost use Rattle.error.specs.Answers.{numberOutcome};
+ghost use Rattle.fields.specs.Ranges.{top};
+ghost use Rattle.fsm_sections.specs.Sections.{space, ofSize, distinct};
+ghost use Rattle.fsm_blocks.specs.Managers.{startingSet, fsseUsed};
+ghost use Rattle.fsm_lengths.specs.Lengths.{unplaced, fsseLen};
+use error::Number;
+use error::Refusal;
+use fields::width::enc_size;
+use fields::width::is_width;
+
+// Whether the sizes add up above 2^64 - 1.
+fn sum_overflows(sizes: &[u64]) -> bool
+    ensures { λ r. ⌜ r ≡ ltb top (space (unplaced (now (sizes .entry)))) ⌝ }
+{
+    let mut n: u64 = 0;
+    let mut i = 0;
+    while i < sizes.len() {
+        if 18446744073709551615 - n < sizes[i] {
+            return true;
+        }
+        n = n + sizes[i];
+        i += 1;
+    }
+    false
+}
+
+// Whether a size stands at `from` or behind it.
+fn comes(sizes: &[u64], from: usize, z: u64) -> bool
+    requires { ⌜ from ≤ length (now sizes) ⌝ }
+    ensures { λ r. ⌜ r ≡ ltb 0 (ofSize z (unplaced (drop from (now (sizes .entry))))) ⌝ }
+{
+    let mut i = from;
+    while i < sizes.len() {
+        if z == sizes[i] {
+            return true;
+        }
+        i += 1;
+    }
+    false
+}
+
+// 1 for a size that does not come again.
+fn last_one(again: bool) -> u64
+    ensures { λ r. ⌜ r ≡ cond again 0 1 ⌝ }
+{
+    if again { 0 } else { 1 }
+}
+
+// How many sizes there are, each counted where it stands last.
+fn size_count(sizes: &[u64]) -> u64
+    ensures { λ r. ⌜ r ≡ distinct (unplaced (now (sizes .entry))) ⌝ }
+{
+    let mut n: u64 = 0;
+    let mut i = 0;
+    while i < sizes.len() {
+        n = n + last_one(comes(sizes, i + 1, sizes[i]));
+        i += 1;
+    }
+    n
+}
+
+// Document 01's formula: 9 + O + distinct sizes * (count width + 8) + sections * (O + 1).
+fn length_of(sizes: &[u64], o: u64) -> u64
+    requires { ⌜ (1 ≤ o) × (o ≤ 8) × (space (unplaced (now sizes)) ≤ top) ⌝ }
+    ensures { λ r. ⌜ r ≡ fsseUsed o (startingSet o) (unplaced (now (sizes .entry))) ⌝ }
+{
+    let n = sizes.len() as u64;
+    let d = size_count(sizes);
+    let cw = enc_size(n) as u64;
+    9 + o + d * (cw + 8) + n * (o + 1)
+}
+
+// The length of the section list of sections of these sizes, which does not depend on where they stand.
+pub fn fsse_len(sizes: &[u64], offset_size: u8) -> Number
+    ensures { λ r. ⌜ numberOutcome r ≡ fsseLen «offset_size» (now (sizes .entry)) ⌝ }
+{
+    if !is_width(offset_size) {
+        return Number::Refused(Refusal::Width);
+    }
+    if sum_overflows(sizes) {
+        return Number::Refused(Refusal::Overflow);
+    }
+    Number::Is(length_of(sizes, offset_size as u64))
+}

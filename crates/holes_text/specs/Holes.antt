@@ -1,0 +1,44 @@
+-- The text that the program `holes` prints for an image that begins with its message. Assumes nothing.
+--   imageLimit     the bytes of the longest image that is read
+--   sectionLimit   the sections that are listed at the most
+--   textLimit      the bytes of the longest text: 18 of names and 45 for each section listed (the law `text-fits`)
+--   atMost         each slot's sections, if there are no more than that; else refusal 14
+--   holesRead      each slot's sections: refusal 14 for a longer image first, then the refusals of its reading, then 14 for more sections
+--   textOf         the text of an outcome: the listing, or the refusal; Nothing, which `read_image` cannot answer, has none
+--   holesText      the text for an image
+use Prim.Native.Nat.{ℕ, _+_, _*_}
+use mathlib.Core.List.{List, [], _∷_}
+use lib.Dec.{ltb}
+use lib.ListN.{length}
+use Rattle.error.specs.declared.Refusal.the-variants.{OverCapacity}
+use Rattle.error.specs.Outcome.{Outcome, answer, nothing, refuse, when, firstOf, andThen, sat}
+use Rattle.fsm_sections.specs.declared.FreeSection.{FreeSection}
+use Rattle.fsm_blocks.specs.Reading.{joined}
+use Rattle.image.specs.Reading.{readImage}
+use Rattle.listing.specs.Listing.{listingText, refusedText}
+
+abbrev pub imageLimit : ℕ
+imageLimit = 65536
+
+abbrev pub sectionLimit : ℕ
+sectionLimit = 2048
+
+abbrev pub textLimit : ℕ
+textLimit = 18 + 45 * sectionLimit
+
+abbrev pub atMost : ℕ → List (List FreeSection) → Outcome (List (List FreeSection))
+atMost limit ls =
+    firstOf (when (ltb limit (length (joined ls))) (OverCapacity (sat (length (joined ls))) limit) ∷ []) (answer ls)
+
+unfoldable pub holesRead : List ℕ → Outcome (List (List FreeSection))
+holesRead image =
+    firstOf (when (ltb imageLimit (length image)) (OverCapacity (length image) imageLimit) ∷ [])
+    (andThen (readImage 0 image) (atMost sectionLimit))
+
+abbrev pub textOf : Outcome (List (List FreeSection)) → List ℕ
+textOf (answer ls) = listingText ls
+textOf nothing = []
+textOf (refuse n vs) = refusedText n
+
+abbrev pub holesText : List ℕ → List ℕ
+holesText image = textOf (holesRead image)

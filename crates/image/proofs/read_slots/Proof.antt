@@ -1,0 +1,61 @@
+use mathlib.Core.Path.{refl}
+use denote.Ref.{now}
+use Rattle.image.proofs.CountLaws.{counts-are}
+use Rattle.image.proofs.ImageLaws.{slots-refused, slots-accepted, slots-read, refused-as}
+use borrow.Author.Needs.{needs}
+use Rattle.image.proofs.read_slots.Statement.{statement}
+use Rattle.image.proofs.read_slots.Tie as tie
+
+read-persisted-sections-requires : tie.Need-read-persisted-sections-requires
+read-persisted-sections-requires c κs = search needs
+
+enum-known-answer : tie.Need-enum-known-answer
+enum-known-answer c = search needs
+
+refused-requires : tie.Need-refused-requires
+refused-requires c κs = search needs
+
+enum-told : tie.Need-enum-told
+enum-told c = search needs
+
+slot-counts-requires : tie.Need-slot-counts-requires
+slot-counts-requires c κs = search needs
+
+same-length : tie.Need-same-length
+same-length c = search needs
+
+returns : tie.Need-returns
+returns c =
+    let p = c .before .before .before .before .before .before in
+    let a = p .before .before .before .before .before .args in
+    refused-as _ _ _ (c .refused .ensures)
+    (slots-refused (now (a .out)) (now (a .slots)) (now (a .image)) _ _ (p .read-persisted-sections .ensures) _ (c .before .before .answer .given .1))
+
+same-length-2 : tie.Need-same-length-2
+same-length-2 c = search needs
+
+returns-2 : tie.Need-returns-2
+returns-2 c =
+    let p = c .before .before .before .before .before in
+    let s = p .before .before .before .before .before in
+    let told = c .before .enum-told .given .1 in
+    let read = p .read-persisted-sections .ensures in
+    let accepted = slots-accepted (now (s .args .out)) (now (s .args .slots)) (now (s .args .image)) _ _ read _ told in (
+      slots-read (now (s .args .out)) (now (s .args .slots)) (now (s .args .image)) _ _ read _ told _
+          (counts-are (now (s .args .image)) (now (s .args .slots)) _ (s .pre) accepted (c .slot-counts .ensures)),
+      refl,
+    )
+
+pub read-slots-spec : {M : Type 1} → statement M
+read-slots-spec =
+    tie.close
+    (tie.spec
+    read-persisted-sections-requires
+    enum-known-answer
+    refused-requires
+    enum-told
+    slot-counts-requires
+    same-length
+    returns
+    same-length-2
+    returns-2)

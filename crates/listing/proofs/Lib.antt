@@ -1,0 +1,4 @@
+pub mod TextLaws
+pub mod ListingLaws
+pub mod SizeLaws
+pub mod Cases

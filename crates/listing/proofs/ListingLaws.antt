@@ -1,0 +1,109 @@
+-- Laws of a listing: what stands next in a run of pairs, and in the runs of slots. Assumes nothing.
+use mathlib.Core.Path.{_≡_, sym, ap, ap₂, _∙_, subst}
+use mathlib.Core.List.{List, [], _∷_, _++_}
+use mathlib.Core.Logic.{⊎-elim}
+use Prim.Native.Nat.{ℕ, zero, suc, _+_, _-_, _*_, _/_, _≤_, _<_, min}
+use native.Mathlib.Nat.{zero-min, min-zero, min-eq-left, sub-zero}
+use native.Mathlib.Numerals.{add-one}
+use native.Mathlib.Omega.{arith}
+use borrow.Rule.Slice.PartAt.{part-to-end}
+use lib.ListN.{length, take, drop, getD, drop-of-length-le}
+use lib.Seq.{drop-cons, drop-drop}
+use Rattle.error.specs.Lent.{With, with}
+use Rattle.error.proofs.TestLaws.{le-or-lt}
+use Rattle.fsm_sections.specs.declared.FreeSection.{FreeSection}
+use Rattle.fsm_sections.specs.Sections.{section, decode}
+use Rattle.listing.specs.Text.{written}
+use Rattle.listing.specs.Listing.{rowText, slotText, slotsText, slotsOf}
+use Rattle.listing.proofs.TextLaws.{Printing, piece, printed}
+
+-- ---- pairs
+
+-- no more pairs are read than there are
+decode-least : (n : ℕ) (xs : List ℕ) → decode n xs ≡ decode (min n (length xs / 2)) xs
+decode-least zero xs = ap (λ (k : ℕ). decode k xs) (sym (zero-min (length xs / 2)))
+decode-least (suc n) [] = ap (λ (k : ℕ). decode k []) (sym (min-zero (suc n)))
+decode-least (suc n) (a ∷ []) = ap (λ (k : ℕ). decode k (a ∷ [])) (sym (min-zero (suc n)))
+decode-least (suc n) (a ∷ s ∷ xs) =
+    let e : min (suc n) (suc (suc (length xs)) / 2) ≡ suc (min n (length xs / 2)) = omega arith in
+    ap (λ (l : List FreeSection). section a s ∷ l) (decode-least n xs) ∙ ap (λ (k : ℕ). decode k (a ∷ s ∷ xs)) (sym e)
+
+-- the next pair
+decode-at : (n i : ℕ) (run : List ℕ) → i < n → 2 * i + 1 < length run
+    → decode (n - i) (drop (2 * i) run) ≡ section (getD run (2 * i) 0) (getD run (2 * i + 1) 0) ∷ decode (n - (i + 1)) (drop (2 * (i + 1)) run)
+decode-at n i run h l =
+    let k : n - i ≡ suc (n - (i + 1)) = omega arith in
+    let p : suc (2 * i) ≡ 2 * i + 1 = omega arith in
+    let q : suc (2 * i + 1) ≡ 2 * (i + 1) = omega arith in
+    let d : drop (2 * i) run ≡ getD run (2 * i) 0 ∷ getD run (2 * i + 1) 0 ∷ drop (2 * (i + 1)) run =
+    drop-cons run (2 * i) 0 (omega arith)
+    ∙ ap (λ (m : ℕ). getD run (2 * i) 0 ∷ drop m run) p
+    ∙ ap (λ (m : List ℕ). getD run (2 * i) 0 ∷ m) (drop-cons run (2 * i + 1) 0 l ∙ ap (λ (m : ℕ). getD run (2 * i + 1) 0 ∷ drop m run) q) in
+    ap₂ decode k d
+
+-- ---- the loop that writes a slot's lines: those of the first i sections are written
+
+module _ (slot n : ℕ) (run : List ℕ) where
+  abbrev pub linesFrom : ℕ → List ℕ
+  linesFrom i = slotText slot (decode (n - i) (drop (2 * i) run))
+
+  pub lines-start : (count at : ℕ) (out : List ℕ) → at ≤ length out → n ≡ min count (length run / 2) → Printing (written at (slotText slot (decode count run)) out) at (linesFrom 0) out
+  lines-start count at out h e =
+      let d : decode count run ≡ decode (n - 0) run = decode-least count run ∙ ap (λ (k : ℕ). decode k run) (sym e ∙ sym (sub-zero n)) in
+      record { inside = h; same = ap (λ (l : List FreeSection). written at (slotText slot l) out) (sym d) }
+
+  lines-next : (i : ℕ) → i < n → 2 * i + 1 < length run → linesFrom i ≡ rowText slot (section (getD run (2 * i) 0) (getD run (2 * i + 1) 0)) ++ linesFrom (i + 1)
+  unfolding slotText
+  lines-next i h l = ap (slotText slot) (decode-at n i run h l)
+
+  pub lines-turn : {whole : With ℕ (List ℕ)} (i to : ℕ) (out : List ℕ) {r : ℕ} {m : List ℕ} → i < n → 2 * i + 1 < length run → Printing whole to (linesFrom i) out
+      → with r m ≡ written to (rowText slot (section (getD run (2 * i) 0) (getD run (2 * i + 1) 0))) out → Printing whole r (linesFrom (i + 1)) m
+  lines-turn {whole} i to out h l p e =
+      piece to (rowText slot (section (getD run (2 * i) 0) (getD run (2 * i + 1) 0))) (linesFrom (i + 1)) out
+      (subst (λ (t : List ℕ). Printing whole to t out) (lines-next i h l) p) e
+
+  pub lines-end : {whole : With ℕ (List ℕ)} (i to : ℕ) (out : List ℕ) → n ≤ i → Printing whole to (linesFrom i) out → with to out ≡ whole
+  unfolding slotText
+  lines-end {whole} i to out h p =
+      let z : n - i ≡ 0 = omega arith in
+      printed to out (subst (λ (k : ℕ). Printing whole to (slotText slot (decode k (drop (2 * i) run))) out) z p)
+
+-- ---- the loop that writes the slots: those before slot i are written, and the pairs of the others begin at `from`
+
+module _ (counts run : List ℕ) where
+  abbrev pub slotsFrom : ℕ → ℕ → List ℕ
+  slotsFrom i from = slotsText i (slotsOf (drop i counts) (drop from run))
+
+  -- past its end a run has nothing
+  drop-least : (k : ℕ) → drop k run ≡ drop (min k (length run)) run
+  drop-least k =
+      ⊎-elim
+      (λ (q : k ≤ length run). ap (λ (j : ℕ). drop j run) (sym (min-eq-left q)))
+      (λ (q : length run < k).
+      let s : length run ≤ min k (length run) = omega arith in
+      let t : length run ≤ k = omega arith in
+      drop-of-length-le run t ∙ sym (drop-of-length-le run s))
+      (le-or-lt k (length run))
+
+  slots-next : (i from : ℕ) → i < length counts
+      → slotsFrom i from ≡ slotText i (decode (getD counts i 0) (drop from run)) ++ slotsFrom (i + 1) (min (from + 2 * getD counts i 0) (length run))
+  unfolding slotsText slotsOf
+  slots-next i from h =
+      let n = getD counts i 0 in
+      ap (λ (l : List ℕ). slotsText i (slotsOf l (drop from run))) (drop-cons counts i 0 h)
+      ∙ ap₂ (λ (j : ℕ) (m : List ℕ). slotText i (decode n (drop from run)) ++ slotsText j (slotsOf (drop j counts) m)) (sym (add-one i))
+      (drop-drop (2 * n) from run ∙ drop-least (from + 2 * n))
+
+  pub slots-turn : {whole : With ℕ (List ℕ)} (i from to : ℕ) (out : List ℕ) {r next : ℕ} {m : List ℕ} → i < length counts → Printing whole to (slotsFrom i from) out
+      → with r m ≡ written to (slotText i (decode (getD counts i 0) (take (length run - from) (drop from run)))) out
+      → next ≡ min (from + 2 * getD counts i 0) (length run) → Printing whole r (slotsFrom (i + 1) next) m
+  slots-turn {whole} i from to out {r} {next} {m} h p e q =
+      subst (λ (k : ℕ). Printing whole r (slotsFrom (i + 1) k) m) (sym q)
+      (piece to (slotText i (decode (getD counts i 0) (drop from run))) (slotsFrom (i + 1) (min (from + 2 * getD counts i 0) (length run))) out
+      (subst (λ (t : List ℕ). Printing whole to t out) (slots-next i from h) p)
+      (e ∙ ap (λ (t : List ℕ). written to (slotText i (decode (getD counts i 0) t)) out) (part-to-end run from)))
+
+  pub slots-end : {whole : With ℕ (List ℕ)} (i from to : ℕ) (out : List ℕ) → length counts ≤ i → Printing whole to (slotsFrom i from) out → with to out ≡ whole
+  unfolding slotsText slotsOf
+  slots-end {whole} i from to out h p =
+      printed to out (subst (λ (l : List ℕ). Printing whole to (slotsText i (slotsOf l (drop from run))) out) (drop-of-length-le counts h) p)

@@ -1,0 +1,110 @@
+use mathlib.Core.Path.{_∙_}
+use Prim.Native.Nat.{_-_, _≤_}
+use native.Mathlib.Omega.{arith}
+use borrow.Author.Needs.{needs}
+use denote.Ref.{now}
+use lib.ListN.{length}
+use Rattle.listing.specs.Text.{written}
+use Rattle.listing.specs.Listing.{header, listingText}
+use Rattle.listing.proofs.TextLaws.{Printing, whole-left, behind-inside, printing-length, then}
+use Rattle.listing.proofs.ListingLaws.{slotsFrom, slots-turn, slots-end}
+use Rattle.listing.proofs.write_listing.Statement.{statement}
+use Rattle.listing.proofs.write_listing.Tie as tie
+
+abbrev Inv-loop : tie.InvT-loop
+Inv-loop counts run out₀ to₀ from₀ slot₀ out to from slot =
+    (from ≤ length run) × Printing (written to₀ (slotsFrom counts run 0 0) out₀) to (slotsFrom counts run slot from) out
+
+abbrev μ-loop : tie.MeasureT-loop
+μ-loop counts run out₀ to₀ from₀ slot₀ out to from slot = length counts - slot
+
+slice-aggregate-write-bytes : tie.Need-slice-aggregate-write-bytes Inv-loop μ-loop
+slice-aggregate-write-bytes c = search needs
+
+write-bytes-requires : tie.Need-write-bytes-requires Inv-loop μ-loop
+write-bytes-requires c κs = search needs
+
+loop-holds : tie.Need-loop-holds Inv-loop μ-loop
+loop-holds c =
+    let w = c .before .before .write-bytes in
+    let a = c .before .before .before .before .before .before .before .before .args in
+    (omega arith, whole-left (w .result) (slotsFrom (now (a .counts)) (now (a .run)) 0 0) (w .last .0) (behind-inside 0 header (now (a .out)) (w .ensures)))
+
+mul-count : tie.Need-mul-count Inv-loop μ-loop
+mul-count c = omega arith
+
+shared-slice-read-count : tie.Need-shared-slice-read-count Inv-loop μ-loop
+shared-slice-read-count c = omega arith
+
+mul-write-slot : tie.Need-mul-write-slot Inv-loop μ-loop
+mul-write-slot c = omega arith
+
+sub-write-slot : tie.Need-sub-write-slot Inv-loop μ-loop
+sub-write-slot c = omega arith
+
+part-write-slot-start : tie.Need-part-write-slot-start Inv-loop μ-loop
+part-write-slot-start c = search needs
+
+part-write-slot-end : tie.Need-part-write-slot-end Inv-loop μ-loop
+part-write-slot-end c = search needs
+
+write-slot-requires : tie.Need-write-slot-requires Inv-loop μ-loop
+write-slot-requires c κs = c .before .before .before .before .loop .inv .1 .inside
+
+behind-pairs-requires : tie.Need-behind-pairs-requires Inv-loop μ-loop
+behind-pairs-requires c κs = c .before .before .before .before .before .before .before .loop .inv .0
+
+add-slot : tie.Need-add-slot Inv-loop μ-loop
+add-slot c = omega arith
+
+loop-less : tie.Need-loop-less Inv-loop μ-loop
+loop-less c = omega arith
+
+loop-again : tie.Need-loop-again Inv-loop μ-loop
+loop-again c =
+    let w = c .before .before .before .write-slot in
+    let b = c .before .before .before .before .before .before .before in
+    let l = b .before .loop in
+    let a = b .before .before .before .before .before .before .before .before .before .before .args in
+    let e = c .behind-pairs .ensures in
+    (omega arith, slots-turn (now (a .counts)) (now (a .run)) (l .slot) (l .from) (l .to) (l .out) (b .loop-test .taken) (l .inv .1) (w .ensures) e)
+
+same-length : tie.Need-same-length Inv-loop μ-loop
+same-length c =
+    let l = c .before .loop in
+    let b = c .before .before .before .before in
+    let a = b .before .before .before .before .before .before .args in
+    let s = slotsFrom (now (a .counts)) (now (a .run)) in
+    printing-length (b .write-bytes .result) (s 0 0) (b .write-bytes .last .0) (l .to) (s (l .slot) (l .from)) (l .out) (l .inv .1) ∙ c .before .before .before .out .given
+
+returns : tie.Need-returns Inv-loop μ-loop
+unfolding listingText
+returns c =
+    let l = c .before .loop in
+    let b = c .before .before .before .before in
+    let a = b .before .before .before .before .before .before .args in
+    then 0 header (slotsFrom (now (a .counts)) (now (a .run)) 0 0) (now (a .out)) (b .write-bytes .ensures)
+    (slots-end (now (a .counts)) (now (a .run)) (l .slot) (l .from) (l .to) (l .out) (c .loop-test .left) (l .inv .1))
+
+pub write-listing-spec : {M : Type 1} → statement M
+write-listing-spec =
+    tie.close
+    (tie.spec
+    Inv-loop
+    μ-loop
+    slice-aggregate-write-bytes
+    write-bytes-requires
+    loop-holds
+    mul-count
+    shared-slice-read-count
+    mul-write-slot
+    sub-write-slot
+    part-write-slot-start
+    part-write-slot-end
+    write-slot-requires
+    behind-pairs-requires
+    add-slot
+    loop-less
+    loop-again
+    same-length
+    returns)

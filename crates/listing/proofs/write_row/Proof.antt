@@ -1,0 +1,32 @@
+use mathlib.Core.List.{_++_}
+use borrow.Author.Needs.{needs}
+use denote.Ref.{now}
+use Rattle.listing.specs.Text.{word}
+use Rattle.listing.proofs.TextLaws.{then}
+use Rattle.listing.proofs.write_row.Statement.{statement}
+use Rattle.listing.proofs.write_row.Tie as tie
+
+write-word-requires : tie.Need-write-word-requires
+write-word-requires c κs = search needs
+
+write-word-requires-2 : tie.Need-write-word-requires-2
+write-word-requires-2 c κs = search needs
+
+write-word-requires-3 : tie.Need-write-word-requires-3
+write-word-requires-3 c κs = search needs
+
+same-length : tie.Need-same-length
+same-length c = search needs
+
+returns : tie.Need-returns
+returns c =
+    let b = c .before .before .before .before .before .before in
+    let d = b .before .before .before .before in
+    let a = d .before .before .before .args in
+    then (a .at) (word (a .slot) 32) (word (a .addr) 32 ++ word (a .size) 10) (now (a .out)) (d .write-word .ensures)
+    (then (d .write-word .result) (word (a .addr) 32) (word (a .size) 10) (d .write-word .last .0) (b .write-word2 .ensures) (c .before .before .write-word3 .ensures))
+
+pub write-row-spec : {M : Type 1} → statement M
+write-row-spec =
+    tie.close
+    (tie.spec write-word-requires write-word-requires-2 write-word-requires-3 same-length returns)

@@ -1,0 +1,97 @@
+use Prim.Native.Nat.{_+_, _-_, _*_, _≤_, _<_}
+use native.Mathlib.Omega.{arith}
+use borrow.Author.Needs.{needs}
+use denote.Ref.{now}
+use lib.ListN.{length}
+use Rattle.fsm_sections.specs.Sections.{decode}
+use Rattle.listing.specs.Text.{written}
+use Rattle.listing.specs.Listing.{slotText}
+use Rattle.listing.proofs.TextLaws.{Printing, printing-length}
+use Rattle.listing.proofs.ListingLaws.{linesFrom, lines-start, lines-turn, lines-end}
+use Rattle.listing.proofs.write_slot.Statement.{statement}
+use Rattle.listing.proofs.write_slot.Tie as tie
+
+abbrev Inv-loop : tie.InvT-loop
+Inv-loop out₀ at slot run count n to₀ i₀ out to i =
+    (i ≤ n) × Printing (written at (slotText slot (decode count run)) out₀) to (linesFrom slot n run i) out
+
+abbrev μ-loop : tie.MeasureT-loop
+μ-loop out₀ at slot run count n to₀ i₀ out to i = n - i
+
+least-requires : tie.Need-least-requires Inv-loop μ-loop
+least-requires c κs = search needs
+
+loop-holds : tie.Need-loop-holds Inv-loop μ-loop
+loop-holds c =
+    let a = c .before .before .before .args in
+    (omega arith, lines-start (a .slot) (c .least .result) (now (a .run)) (a .count) (a .at) (now (a .out)) (c .before .before .before .pre) (c .least .ensures))
+
+mul-p : tie.Need-mul-p Inv-loop μ-loop
+mul-p c = omega arith
+
+mul-write-row : tie.Need-mul-write-row Inv-loop μ-loop
+mul-write-row c = omega arith
+
+shared-slice-read-write-row : tie.Need-shared-slice-read-write-row Inv-loop μ-loop
+shared-slice-read-write-row c = omega arith
+
+add-write-row : tie.Need-add-write-row Inv-loop μ-loop
+add-write-row c = omega arith
+
+mul-write-row-2 : tie.Need-mul-write-row-2 Inv-loop μ-loop
+mul-write-row-2 c = omega arith
+
+shared-slice-read-write-row-2 : tie.Need-shared-slice-read-write-row-2 Inv-loop μ-loop
+shared-slice-read-write-row-2 c = omega arith
+
+write-row-requires : tie.Need-write-row-requires Inv-loop μ-loop
+write-row-requires c κs = search needs
+
+add-i : tie.Need-add-i Inv-loop μ-loop
+add-i c = omega arith
+
+loop-less : tie.Need-loop-less Inv-loop μ-loop
+loop-less c = omega arith
+
+loop-again : tie.Need-loop-again Inv-loop μ-loop
+loop-again c =
+    let b = c .before .before .before .before .before .before in
+    let l = b .before .loop in
+    let a = b .before .before .before .before .before .args in
+    let n = b .before .before .least .result in
+    let p : 2 * l .i + 1 < length (now (a .run)) = omega arith in
+    (omega arith, lines-turn (a .slot) n (now (a .run)) (l .i) (l .to) (l .out) (b .loop-test .taken) p (l .inv .1) (c .before .before .write-row .ensures))
+
+same-length : tie.Need-same-length Inv-loop μ-loop
+same-length c =
+    let l = c .before .loop in
+    let a = c .before .before .before .before .before .args in
+    let n = c .before .before .least .result in
+    printing-length (a .at) (slotText (a .slot) (decode (a .count) (now (a .run)))) (now (a .out)) (l .to) (linesFrom (a .slot) n (now (a .run)) (l .i)) (l .out) (l .inv .1)
+
+returns : tie.Need-returns Inv-loop μ-loop
+returns c =
+    let l = c .before .loop in
+    let a = c .before .before .before .before .before .args in
+    lines-end (a .slot) (c .before .before .least .result) (now (a .run)) (l .i) (l .to) (l .out) (c .loop-test .left) (l .inv .1)
+
+pub write-slot-spec : {M : Type 1} → statement M
+write-slot-spec =
+    tie.close
+    (tie.spec
+    Inv-loop
+    μ-loop
+    least-requires
+    loop-holds
+    mul-p
+    mul-write-row
+    shared-slice-read-write-row
+    add-write-row
+    mul-write-row-2
+    shared-slice-read-write-row-2
+    write-row-requires
+    add-i
+    loop-less
+    loop-again
+    same-length
+    returns)

@@ -1,0 +1,72 @@
+-- Document 01's marked cases, M1 to M10, as one table over the definitions that the contracts cite. Assumes nothing.
+--   of        a record with so many regions
+--   gives     an allocation's answer: the address it gives, and the record and the run that it leaves
+--   m4Lists   three lists begun empty after the calls of M4 on the first
+--   m9Lists   and after the one call of M9
+--   m10Bytes  124 bytes of a message with persist
+--   Marked    the table
+use Prim.Native.Nat.{ℕ, _+_, _-_, _^_}
+use mathlib.Core.Path.{_≡_}
+use mathlib.Core.List.{List, [], _∷_, map}
+use lib.ListN.{take, replicate}
+use Rattle.error.specs.Outcome.{Outcome, answer}
+use Rattle.error.specs.Lent.{With, with}
+use Rattle.fields.specs.Ranges.{top}
+use Rattle.fields.specs.Width.{encSize, fshdLen}
+use Rattle.free_space.specs.declared.list.FreeList.{FreeList}
+use Rattle.free_space.specs.Regions.{region}
+use Rattle.free_space.specs.Calls.{Gave, giving, allocated, allocatedUnits, rangeTaken}
+use Rattle.free_space.specs.History.{Which, metadata, raw, unclassified, free, On, Lists, regionsOf, run, begun}
+use Rattle.fsm_sections.specs.Sections.{section, bySizeThenAddr}
+use Rattle.fsm_lengths.specs.Lengths.{fsseLen}
+use Rattle.fsm_pages.specs.Split.{splitInto}
+use Rattle.file_space_info.specs.declared.FileSpaceStrategy.the-variants.{Page}
+use Rattle.file_space_info.specs.declared.WithSlots.{WithSlots}
+use Rattle.file_space_info.specs.Infos.{persistentSingleManager}
+use Rattle.file_space_info.specs.Message.{messageBytes, parsed}
+use Rattle.save_step.specs.Steps.{stores}
+use Rattle.save.specs.Saving.{small, smallRaw, large, blockLen, slotAddrs}
+
+abbrev pub of : ℕ → FreeList
+of n = record { count = n }
+
+abbrev pub gives : ℕ → ℕ → List ℕ → Outcome (With Gave (List ℕ))
+gives a n xs = answer (with (giving a (of n)) xs)
+
+-- any lent runs do, with room for what is freed
+abbrev pub lent : Which → List ℕ
+lent metadata = 7 ∷ 7 ∷ 7 ∷ 7 ∷ []
+lent raw = []
+lent unclassified = []
+
+abbrev pub freeing : ℕ → ℕ → On
+freeing a n = record { list = metadata; what = free a n }
+
+abbrev pub m4Lists : Lists
+m4Lists = run (freeing 100 50 ∷ freeing 200 50 ∷ freeing 150 50 ∷ []) (begun lent)
+
+abbrev pub m9Lists : Lists
+m9Lists = run (freeing 4000 5000 ∷ []) (begun lent)
+
+abbrev pub m10Message : WithSlots
+m10Message = persistentSingleManager Page 1 4096 20000 30000
+
+abbrev pub m10Bytes : List ℕ
+m10Bytes = take 124 (messageBytes 8 8 (m10Message .info) (m10Message .slots))
+
+pub record Marked : Type 0 where
+  pub m1 : map encSize (0 ∷ 255 ∷ 256 ∷ (2 ^ 64 - 1) ∷ []) ≡ 1 ∷ 1 ∷ 2 ∷ 8 ∷ []
+  pub m2 : map fshdLen (1 ∷ 8 ∷ []) ≡ answer 75 ∷ answer 82 ∷ []
+  pub m3 : map (fsseLen 8) ([] ∷ (16 ∷ 16 ∷ 32 ∷ []) ∷ replicate 255 16 ∷ replicate 256 16 ∷ []) ≡ answer 17 ∷ answer 62 ∷ answer 2321 ∷ answer 2331 ∷ []
+  pub m4 : regionsOf (m4Lists metadata) ≡ region 100 150 ∷ []
+  pub m5 : allocated (0 ∷ 16 ∷ 100 ∷ 16 ∷ []) (of 2) 16 ≡ gives 0 1 (100 ∷ 16 ∷ 0 ∷ 0 ∷ [])
+  pub m5-front : allocated (0 ∷ 64 ∷ 100 ∷ 16 ∷ []) (of 2) 10 ≡ gives 100 2 (0 ∷ 64 ∷ 110 ∷ 6 ∷ [])
+  pub m6 : allocatedUnits (5000 ∷ 10000 ∷ 0 ∷ 0 ∷ []) (of 1) 4096 4096 ≡ gives 8192 2 (5000 ∷ 3192 ∷ 12288 ∷ 2712 ∷ [])
+  pub m7 : rangeTaken (90 ∷ 40 ∷ 0 ∷ 0 ∷ []) (of 1) 100 10 ≡ answer (with (of 2) (90 ∷ 10 ∷ 110 ∷ 20 ∷ []))
+  pub m8 : splitInto (4000 ∷ 5000 ∷ []) 1 4096 (replicate 6 0) ≡ answer (with 3 (4000 ∷ 96 ∷ 4096 ∷ 4096 ∷ 8192 ∷ 808 ∷ []))
+  pub m9-sections : small 4096 m9Lists ∷ smallRaw 4096 m9Lists ∷ large 4096 m9Lists ∷ []
+      ≡ (section 4000 96 ∷ section 8192 808 ∷ []) ∷ [] ∷ (section 4096 4096 ∷ []) ∷ []
+  pub m9-slots : slotAddrs 4096 20000 m9Lists ≡ 20000 ∷ top ∷ top ∷ top ∷ top ∷ top ∷ 20135 ∷ top ∷ top ∷ top ∷ top ∷ top ∷ []
+  pub m9-end : 20000 + blockLen 4096 m9Lists ≡ 20252
+  pub m9-stores : stores (blockLen 4096 m9Lists) ≡ 378
+  pub m10 : parsed m10Bytes 8 8 (replicate 11 0) ≡ answer (with (record { info = m10Message .info; count = 11 }) (20000 ∷ replicate 10 top))

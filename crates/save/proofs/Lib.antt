@@ -1,0 +1,12 @@
+pub mod PlanLaws
+pub mod FitLaws
+pub mod BeginLaws
+pub mod ReadLaws
+pub mod HoldingLaws
+pub mod Demand3
+pub mod Cases
+pub mod TieLaws
+pub mod SumLaws
+pub mod PlaceLaws
+pub mod OrderLaws
+pub mod FillLaws

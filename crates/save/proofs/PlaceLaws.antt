@@ -1,0 +1,110 @@
+-- What refusal 13 tests of message, blocks and free regions. Assumes nothing.
+--   way     a region ends past `start` or meets the message
+--   ways    a region of a list does
+use mathlib.Core.Path.{_≡_, refl, sym, ap, _∙_}
+use mathlib.Core.Logic.{_⊎_, ⊎-elim}
+use Prim.Native.Nat.{ℕ, _+_, _-_, _*_, _≤_, _<_, min, max}
+use native.Mathlib.Omega.{arith}
+use mathlib.Core.Bool.{Bool, true, false, _||_}
+use mathlib.Core.List.{List, _∷_}
+use borrow.Author.Tests.{lt-ltb, le-ltb, le-leb, lt-leb, ltb-false}
+use lib.Dec.{ltb, leb}
+use lib.ListN.{length, drop}
+use Rattle.error.proofs.TestLaws.{le-or-lt, and-false, or-false}
+use Rattle.free_space.specs.declared.region.FreeRegion.{FreeRegion}
+use Rattle.free_space.specs.declared.list.FreeList.{FreeList}
+use Rattle.free_space.specs.Regions.{region, end, meets, shares}
+use Rattle.free_space.specs.Runs.{isList, regionAt, decode}
+use Rattle.free_space.proofs.OkLaws.{Fit, listed, region-fits}
+use Rattle.free_space.proofs.DecodeLaws.{decode-drop, decode-end}
+use Rattle.fsm_writer.proofs.RunsLaws.{or-decides, or-leaves}
+use Rattle.save.specs.Saving.{endsPast, messageIn, blocksOut}
+
+-- two comparisons that say the same
+pub same-test : (a b c d : ℕ) → (a < b → c < d) → (c < d → a < b) → ltb a b ≡ ltb c d
+same-test a b c d f g =
+    ⊎-elim (λ (h : b ≤ a). le-ltb a b h ∙ sym (⊎-elim (λ (k : d ≤ c). le-ltb c d k) (λ (k : c < d). let z : a < b = g k in absurd (omega arith)) (le-or-lt d c)))
+    (λ (h : a < b). lt-ltb a b h ∙ sym (lt-ltb c d (f h))) (le-or-lt b a)
+
+-- ---- the message in the image, and what meets it
+
+module _ (place : ℕ) (image : List ℕ) where
+  pub message-short : length image < 125 → false ≡ messageIn place image
+  message-short h = sym (lt-leb (place + 125) (length image) (omega arith))
+
+  pub message-long : 125 ≤ length image → leb place (length image - 125) ≡ messageIn place image
+  message-long h =
+      ⊎-elim
+      (λ (k : place ≤ length image - 125). le-leb place (length image - 125) k ∙ sym (le-leb (place + 125) (length image) (omega arith)))
+      (λ (k : length image - 125 < place). lt-leb place (length image - 125) k ∙ sym (lt-leb (place + 125) (length image) (omega arith)))
+      (le-or-lt place (length image - 125))
+
+module _ (a n b m : ℕ) (some : (0 < n) × (0 < m)) where
+  pub meet-not : b + m ≤ a → false ≡ meets (region a n) (region b m)
+  meet-not h = sym (le-ltb (max a b) (min (a + n) (b + m)) (omega arith))
+
+  pub meet-else : a < b + m → ltb b (a + n) ≡ meets (region a n) (region b m)
+  meet-else h = same-test b (a + n) (max a b) (min (a + n) (b + m)) (λ k. omega arith) (λ k. omega arith)
+
+module _ (len start place : ℕ) (image : List ℕ) where
+  pub out-none : len ≡ 0 → false ≡ blocksOut len start place image
+  out-none z = sym (rw (le-ltb 0 len (omega arith)))
+
+  module _ (n : len ≡ 0 → ⊥) where
+    pub out-image : length image < start + len → true ≡ blocksOut len start place image
+    out-image h = sym (rw (lt-ltb 0 len (omega arith), lt-ltb (length image) (start + len) h))
+
+    pub out-message : start + len ≤ length image → (b : Bool) → b ≡ meets (region start len) (region place 125) → b ≡ blocksOut len start place image
+    out-message h b e = e ∙ sym (rw (lt-ltb 0 len (omega arith), le-ltb (length image) (start + len) h))
+
+-- blocks that do not leave the image are no longer than it
+pub not-longer : (len start place : ℕ) (image : List ℕ) (b : Bool) → b ≡ blocksOut len start place image → b ≡ false → len ≤ length image
+not-longer len start place image b e f =
+    ⊎-elim
+    (λ (h : 1 ≤ len).
+    let q = or-false (ltb (length image) (start + len)) _ (and-false (ltb 0 len) _ (sym e ∙ f) (lt-ltb 0 len h)) in
+    let k = ltb-false (length image) (start + len) (q .0) in omega arith)
+    (λ (h : len < 1). omega arith)
+    (le-or-lt 1 len)
+
+-- ---- regions in the way
+
+module _ (xs : List ℕ) (l : FreeList) (e : isList xs l ≡ true) (i : ℕ) (h : i < l .count) where
+  pub way-asks : Fit 0 (regionAt xs i)
+  way-asks = region-fits xs l i e h
+
+  pub way-room : 2 * i + 1 < length xs
+  way-room = omega (arith, listed xs l e .room)
+
+module _ (start place : ℕ) where
+  abbrev way : FreeRegion → Bool
+  way r = ltb start (end r) || meets (region place 125) r
+
+  abbrev pub ways : List FreeRegion → Bool
+  ways rs = endsPast start rs || shares (region place 125) rs
+
+  ways-more : (r : FreeRegion) (rs : List FreeRegion) → ways (r ∷ rs) ≡ (way r || ways rs)
+  ways-more r rs = swap (ltb start (end r)) (endsPast start rs) (meets (region place 125) r) (shares (region place 125) rs)
+    where
+      swap : (a b c d : Bool) → ((a || b) || (c || d)) ≡ ((a || c) || (b || d))
+      swap true b c d = refl
+      swap false true true d = refl
+      swap false true false d = refl
+      swap false false c d = refl
+
+  module _ (xs : List ℕ) (l : FreeList) (e : isList xs l ≡ true) (i : ℕ) (inv : ways (drop i (decode (l .count) xs)) ≡ ways (decode (l .count) xs)) where
+    abbrev all : List FreeRegion
+    all = decode (l .count) xs
+
+    module _ (h : i < l .count) (t : Bool) (te : t ≡ way (regionAt xs i)) where
+      head : ways all ≡ (way (regionAt xs i) || ways (drop (i + 1) all))
+      head = sym inv ∙ ap ways (decode-drop (l .count) i xs h (listed xs l e .room)) ∙ ways-more (regionAt xs i) (drop (i + 1) all)
+
+      pub way-found : t ≡ true → true ≡ ways all
+      way-found f = or-decides t (way (regionAt xs i)) (ways (drop (i + 1) all)) te f ∙ sym head
+
+      pub way-turn : t ≡ false → ways (drop (i + 1) all) ≡ ways all
+      way-turn f = or-leaves t (way (regionAt xs i)) (ways (drop (i + 1) all)) te f ∙ sym head
+
+    pub way-none : l .count ≤ i → false ≡ ways all
+    way-none h = sym (sym inv ∙ ap ways (decode-end (l .count) i xs h (listed xs l e .room)))

@@ -1,0 +1,167 @@
+-- Refusal 4 of a beginning, by the branches of the code. Assumes nothing.
+--   Sums    what it leaves of the plan
+use mathlib.Core.Path.{_≡_, refl, sym, ap, _∙_}
+use mathlib.Core.Logic.{_⊎_, ⊎-elim}
+use Prim.Native.Nat.{ℕ, _+_, _≤_, _<_}
+use native.Mathlib.Omega.{arith}
+use mathlib.Core.Bool.{Bool, true, false, _&&_, _||_}
+use mathlib.Core.List.{List, [], _∷_}
+use borrow.Author.Tests.{lt-ltb, le-ltb, ltb-false, ltb-true}
+use lib.Dec.{ltb}
+use Rattle.error.specs.declared.Number.{Number}
+use Rattle.error.specs.declared.Number.the-variants as number
+use Rattle.error.specs.declared.Refusal.{Refusal}
+use Rattle.error.specs.declared.Refusal.the-variants.{Overflow}
+use Rattle.error.specs.Answers.{numberOutcome}
+use Rattle.error.specs.Outcome.{Outcome, answer, refused, when, firstOf}
+use Rattle.error.proofs.TestLaws.{and-true, or-false}
+use Rattle.error.proofs.OutcomeLaws.{refuses, passes}
+use Rattle.fields.specs.Ranges.{top}
+use Rattle.free_space.specs.declared.list.FreeList.{FreeList}
+use Rattle.free_space.specs.Runs.{isList}
+use Rattle.free_space.specs.History.{Lists}
+use Rattle.fsm_sections.specs.declared.FreeSection.{FreeSection}
+use Rattle.fsm_sections.specs.Sections.{space}
+use Rattle.fsm_writer.specs.declared.slots.Slot.the-variants.{Small, Large}
+use Rattle.fsm_writer.specs.Serializing.{blocksSize}
+use Rattle.fsm_writer.specs.Slots.{slotLen, lenOf}
+use Rattle.save.specs.declared.tests.Offsets.{Offsets}
+use Rattle.save.specs.Saving.{three, small, smallRaw, large, blockLen, tooLarge, areLists}
+use Rattle.save.specs.Beginning.{offsetsOf}
+use Rattle.save.proofs.TieLaws.{length-is, len-known, len-over, total, small-is, raw-is, large-is}
+
+-- ---- the four tests
+
+or-left : (a b : Bool) → a ≡ true → (a || b) ≡ true
+or-left a b e = ap (λ (t : Bool). t || b) e
+
+or-right : (a b : Bool) → b ≡ true → (a || b) ≡ true
+or-right true b e = refl
+or-right false b e = e
+
+-- ---- refusal 4
+
+module _ (page start : ℕ) (ls : Lists) where
+  abbrev S : List FreeSection
+  S = small page ls
+
+  abbrev R : List FreeSection
+  R = smallRaw page ls
+
+  abbrev G : List FreeSection
+  G = large page ls
+
+  abbrev tests : Bool
+  tests = ltb top (space G) || ltb top (start + blockLen page ls)
+
+  last-over : top < start + blockLen page ls → tooLarge page start ls ≡ true
+  last-over h =
+      or-right (ltb top (space S)) (ltb top (space R) || tests)
+      (or-right (ltb top (space R)) tests (or-right (ltb top (space G)) (ltb top (start + blockLen page ls)) (lt-ltb top (start + blockLen page ls) h)))
+
+  first-over : (top < space S) ⊎ (top < blocksSize 8 S) → tooLarge page start ls ≡ true
+  first-over h =
+      ⊎-elim (λ (k : top < space S). or-left (ltb top (space S)) (ltb top (space R) || tests) (lt-ltb top (space S) k))
+      (λ (k : top < blocksSize 8 S). last-over (omega (arith, total page ls))) h
+
+  second-over : (top < space R) ⊎ (top < blocksSize 8 R) → tooLarge page start ls ≡ true
+  second-over h =
+      ⊎-elim
+      (λ (k : top < space R). or-right (ltb top (space S)) (ltb top (space R) || tests) (or-left (ltb top (space R)) tests (lt-ltb top (space R) k)))
+      (λ (k : top < blocksSize 8 R). last-over (omega (arith, total page ls))) h
+
+  third-over : (top < space G) ⊎ (top < blocksSize 8 G) → tooLarge page start ls ≡ true
+  third-over h =
+      ⊎-elim
+      (λ (k : top < space G). or-right (ltb top (space S)) (ltb top (space R) || tests)
+      (or-right (ltb top (space R)) tests (or-left (ltb top (space G)) (ltb top (start + blockLen page ls)) (lt-ltb top (space G) k))))
+      (λ (k : top < blocksSize 8 G). last-over (omega (arith, total page ls))) h
+
+  none-over : space S ≤ top → space R ≤ top → space G ≤ top → start + blockLen page ls ≤ top → tooLarge page start ls ≡ false
+  none-over a b c d = rw (le-ltb top (space S) a, le-ltb top (space R) b, le-ltb top (space G) c, le-ltb top (start + blockLen page ls) d)
+
+  -- what the test leaves
+  pub record Sums : Type 0 where
+    pub sum0 : space S ≤ top
+    pub sum2 : space R ≤ top
+    pub sum6 : space G ≤ top
+    pub last : start + blockLen page ls ≤ top
+
+  pub sums : tooLarge page start ls ≡ false → Sums
+  sums e =
+      let p = or-false (ltb top (space S)) (ltb top (space R) || tests) e in
+      let q = or-false (ltb top (space R)) tests (p .1) in
+      let r = or-false (ltb top (space G)) (ltb top (start + blockLen page ls)) (q .1) in
+      record {
+        sum0 = ltb-false top (space S) (p .0);
+        sum2 = ltb-false top (space R) (q .0);
+        sum6 = ltb-false top (space G) (r .0);
+        last = ltb-false top (start + blockLen page ls) (r .1);
+      }
+
+-- three lists that pass refusal 3's test, each by itself
+pub each-list : (xs : List ℕ) (k : FreeList) (ys : List ℕ) (l : FreeList) (zs : List ℕ) (m : FreeList) → areLists (three xs k ys l zs m) ≡ true
+    → (isList xs k ≡ true) × (isList ys l ≡ true) × (isList zs m ≡ true)
+each-list xs k ys l zs m e =
+    let p = and-true (isList xs k) (isList ys l && isList zs m) e in
+    let q = and-true (isList ys l) (isList zs m) (p .1) in
+    (p .0, q .0, q .1)
+
+module _ (xs : List ℕ) (k : FreeList) (ys : List ℕ) (l : FreeList) (zs : List ℕ) (m : FreeList) (page start : ℕ) (some : 0 < page)
+    (lists : areLists (three xs k ys l zs m) ≡ true) where
+  abbrev ls : Lists
+  ls = three xs k ys l zs m
+
+  abbrev W : Outcome Offsets
+  W = firstOf (when (tooLarge page start ls) Overflow ∷ []) (answer (offsetsOf page ls))
+
+  first-len : slotLen Small xs (k .count) xs (k .count) xs (k .count) page 8 ≡ lenOf 8 (small page ls)
+  first-len = let v = each-list xs k ys l zs m lists .0 in length-is Small xs k xs k xs k page some v v v ∙ ap (lenOf 8) (small-is xs k ys l zs m page)
+
+  second-len : slotLen Small ys (l .count) ys (l .count) ys (l .count) page 8 ≡ lenOf 8 (smallRaw page ls)
+  second-len = let v = each-list xs k ys l zs m lists .1 in length-is Small ys l ys l ys l page some v v v ∙ ap (lenOf 8) (raw-is xs k ys l zs m page)
+
+  third-len : slotLen Large xs (k .count) ys (l .count) zs (m .count) page 8 ≡ lenOf 8 (large page ls)
+  third-len =
+      let v = each-list xs k ys l zs m lists in
+      length-is Large xs k ys l zs m page some (v .0) (v .1) (v .2) ∙ ap (lenOf 8) (large-is xs k ys l zs m page)
+
+  module _ (c : Number) (ce : numberOutcome c ≡ slotLen Small xs (k .count) xs (k .count) xs (k .count) page 8) where
+    pub first-refused : (r : Refusal) → c ≡ number.Refused r → refused Overflow ≡ W
+    first-refused r h = refuses _ Overflow _ (first-over page start ls (len-over c (small page ls) (ce ∙ first-len) r h))
+
+    module _ (x : ℕ) (cx : c ≡ number.Is x) (d : Number) (de : numberOutcome d ≡ slotLen Small ys (l .count) ys (l .count) ys (l .count) page 8) where
+      pub second-refused : (r : Refusal) → d ≡ number.Refused r → refused Overflow ≡ W
+      second-refused r h = refuses _ Overflow _ (second-over page start ls (len-over d (smallRaw page ls) (de ∙ second-len) r h))
+
+      module _ (y : ℕ) (dy : d ≡ number.Is y) (e : Number) (ee : numberOutcome e ≡ slotLen Large xs (k .count) ys (l .count) zs (m .count) page 8) where
+        pub third-refused : (r : Refusal) → e ≡ number.Refused r → refused Overflow ≡ W
+        third-refused r h = refuses _ Overflow _ (third-over page start ls (len-over e (large page ls) (ee ∙ third-len) r h))
+
+        module _ (z : ℕ) (ez : e ≡ number.Is z) (b : Bool) (be : b ≡ ltb top (start + (x + y + z))) where
+          first-is : (x ≡ blocksSize 8 (small page ls)) × (space (small page ls) ≤ top)
+          first-is = len-known c (small page ls) (ce ∙ first-len) x cx
+
+          second-is : (y ≡ blocksSize 8 (smallRaw page ls)) × (space (smallRaw page ls) ≤ top)
+          second-is = len-known d (smallRaw page ls) (de ∙ second-len) y dy
+
+          third-is : (z ≡ blocksSize 8 (large page ls)) × (space (large page ls) ≤ top)
+          third-is = len-known e (large page ls) (ee ∙ third-len) z ez
+
+          sum-is : blockLen page ls ≡ x + y + z
+          sum-is = omega (arith, total page ls, first-is .0, second-is .0, third-is .0)
+
+          pub above-refused : b ≡ true → refused Overflow ≡ W
+          above-refused t =
+              refuses _ Overflow _ (last-over page start ls (let q = ltb-true top (start + (x + y + z)) (sym be ∙ t) in omega (arith, sum-is)))
+
+          module _ (t : b ≡ false) where
+            pub sum-low : start + (x + y + z) ≤ top
+            sum-low = ltb-false top (start + (x + y + z)) (sym be ∙ t)
+
+            pub offsets-are : answer (record { raw = x; large = x + y; len = x + y + z }) ≡ W
+            offsets-are =
+                let p : record { raw = x; large = x + y; len = x + y + z } ≡ offsetsOf page ls =
+                λ i. record { raw = first-is .0 i; large = first-is .0 i + second-is .0 i; len = first-is .0 i + second-is .0 i + third-is .0 i } in
+                ap (λ (o : Offsets). answer o) p
+                ∙ passes _ Overflow _ (none-over page start ls (first-is .1) (second-is .1) (third-is .1) (omega (arith, sum-is, sum-low)))

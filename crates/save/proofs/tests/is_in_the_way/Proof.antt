@@ -1,0 +1,30 @@
+use borrow.Author.Needs.{needs}
+use Prim.Native.Nat.{_+_}
+use lib.Dec.{ltb}
+use borrow.Author.Tests.{lt-ltb, le-ltb}
+use Rattle.free_space.specs.Regions.{region, meets}
+use Rattle.fsm_writer.proofs.RunsLaws.{or-decides, or-leaves}
+use mathlib.Core.Path.{refl, _∙_}
+use Rattle.save.proofs.tests.is_in_the_way.Statement.{statement}
+use Rattle.save.proofs.tests.is_in_the_way.Tie as tie
+
+add-if1 : tie.Need-add-if1
+add-if1 c = search needs
+
+returns : tie.Need-returns
+returns c =
+    let a = c .before .args in
+    or-decides _ (ltb (a .start) (a .addr + a .len)) (meets (region (a .place) 125) (region (a .addr) (a .len))) refl
+    (lt-ltb (a .start) (a .addr + a .len) (c .if1 .taken))
+
+meet-requires : tie.Need-meet-requires
+meet-requires c κs = search needs
+
+returns-2 : tie.Need-returns-2
+returns-2 c =
+    let a = c .before .before .args in
+    c .meet .ensures ∙ or-leaves _ (ltb (a .start) (a .addr + a .len)) (meets (region (a .place) 125) (region (a .addr) (a .len))) refl
+    (le-ltb (a .start) (a .addr + a .len) (c .before .if1 .left))
+
+pub is-in-the-way-spec : {M : Type 1} → statement M
+is-in-the-way-spec = tie.close (tie.spec add-if1 returns meet-requires returns-2)

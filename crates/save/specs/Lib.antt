@@ -1,0 +1,3 @@
+pub mod Saving
+pub mod Beginning
+pub mod Demand3

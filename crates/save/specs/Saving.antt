@@ -1,0 +1,156 @@
+-- The beginning of a save: the plan of three lists, the conditions under which it is refused, and what it puts into the scratch.
+-- Offset size 8 and the starting set of the writer's settings. Assumes nothing.
+--   listsOf        the lists of metadata, raw data and unclassified space
+--   three          the same by their runs and records
+--   sectionsOf     a list's regions as sections
+--   small, smallRaw, large   the sections of slots 0, 2 and 6
+--   plan           the twelve managers of three lists
+--   blockLen       document 01's L, how many bytes all blocks of the plan are
+--   blockBytes     these bytes, from `start` on
+--   slotAddrs      the twelve slots of the message
+--   messageOf      the message: Page, persist, threshold 1, the page size, 0, `start`, the slots
+--   areLists       what refusal 3 tests, of all three lists
+--   tooLarge       refusal 4: a slot's sizes add up above 2^64 - 1, or the blocks end above it
+--   sharedByte     refusal 5: two of the lists share a byte
+--   messageIn      the 125 bytes at the place are in the image
+--   blocksOut      there are blocks, and they leave the image or overlap the message
+--   inTheWay       a free region ends past `start` or meets the message
+--   misplaced      refusal 13: message or blocks leave the image, they overlap each other, or a free region is in the way
+--   conditions     all refusals of a beginning, in their order
+--   fresh          the record of a save of which no store is made
+--   filled         the scratch with all blocks and then the message, the rest as it was
+--   begun          a beginning: the record and the scratch, where no condition holds
+--   beginOutcome   the outcome that an answer of the code stands for
+use Prim.Native.Nat.{ℕ, _+_}
+use mathlib.Core.Bool.{Bool, false, _&&_, _||_, not}
+use mathlib.Core.List.{List, [], _∷_, _++_, map}
+use lib.Dec.{leb, ltb, eqb}
+use lib.ListN.{length, getD}
+use Rattle.error.specs.declared.Refusal.the-variants as refusal
+use Rattle.error.specs.Outcome.{Outcome, answer, refused, Condition, when, firstOf}
+use Rattle.error.specs.Lent.{With, with, over}
+use Rattle.fields.specs.Ranges.{top}
+use Rattle.checksum.specs.Lookup3.{lookup3}
+use Rattle.free_space.specs.declared.region.FreeRegion.{FreeRegion}
+use Rattle.free_space.specs.declared.list.FreeList.{FreeList}
+use Rattle.free_space.specs.Regions.{region, end, meets, shares, shareBytes}
+use Rattle.free_space.specs.Runs.{isList}
+use Rattle.free_space.specs.History.{Lst, lst, Lists, regionsOf, metadata, raw, unclassified}
+use Rattle.fsm_sections.specs.declared.FreeSection.{FreeSection}
+use Rattle.fsm_sections.specs.Sections.{section, space}
+use Rattle.fsm_sections.specs.Pages.{slot0, slot2, slot6}
+use Rattle.fsm_blocks.specs.Managers.{startingSet}
+use Rattle.fsm_pages.specs.Managers.{Manager, managersOf, sizeOf, blocksFrom, slotsFrom}
+use Rattle.file_space_info.specs.declared.FileSpaceStrategy.the-variants as strategy
+use Rattle.file_space_info.specs.Message.{messageBytes}
+use Rattle.file_space_info.specs.Infos.{persistentManagers}
+use Rattle.save_step.specs.declared.Save.{Save}
+use Rattle.save_step.specs.Stores.{messageLen}
+use Rattle.save.specs.declared.Begin.{Begin}
+use Rattle.save.specs.declared.Begin.the-variants as begin
+
+abbrev pub listsOf : Lst → Lst → Lst → Lists
+listsOf m r u metadata = m
+listsOf m r u raw = r
+listsOf m r u unclassified = u
+
+abbrev pub three : List ℕ → FreeList → List ℕ → FreeList → List ℕ → FreeList → Lists
+three xs k ys l zs m = listsOf (lst xs k) (lst ys l) (lst zs m)
+
+abbrev pub sectionsOf : Lst → List FreeSection
+sectionsOf l = map (λ r. section (r .addr) (r .len)) (regionsOf l)
+
+-- ---- the plan
+
+module _ (page : ℕ) (ls : Lists) where
+  abbrev pub small : List FreeSection
+  small = slot0 page (sectionsOf (ls metadata))
+
+  abbrev pub smallRaw : List FreeSection
+  smallRaw = slot2 page (sectionsOf (ls raw))
+
+  abbrev pub large : List FreeSection
+  large = slot6 page (sectionsOf (ls metadata)) (sectionsOf (ls raw)) (sectionsOf (ls unclassified))
+
+  abbrev pub plan : List Manager
+  plan = managersOf page (sectionsOf (ls metadata)) (sectionsOf (ls raw)) (sectionsOf (ls unclassified))
+
+  abbrev pub blockLen : ℕ
+  blockLen = sizeOf 8 (startingSet 8) plan
+
+module _ (page start : ℕ) (ls : Lists) where
+  abbrev pub blockBytes : List ℕ
+  blockBytes = blocksFrom 8 (startingSet 8) lookup3 start (plan page ls)
+
+  abbrev pub slotAddrs : List ℕ
+  slotAddrs = slotsFrom 8 (startingSet 8) start (plan page ls)
+
+  abbrev pub messageOf : List ℕ
+  messageOf = let m = persistentManagers strategy.Page 1 page slotAddrs start in messageBytes 8 8 (m .info) (m .slots)
+
+  abbrev pub tooLarge : Bool
+  tooLarge =
+      ltb top (space (small page ls))
+      || (ltb top (space (smallRaw page ls)) || (ltb top (space (large page ls)) || ltb top (start + blockLen page ls)))
+
+-- ---- the conditions
+
+abbrev pub areLists : Lists → Bool
+areLists ls =
+    isList (ls metadata .run) (ls metadata .list)
+    && (isList (ls raw .run) (ls raw .list) && isList (ls unclassified .run) (ls unclassified .list))
+
+abbrev pub sharedByte : Lists → Bool
+sharedByte ls =
+    shareBytes (regionsOf (ls metadata)) (regionsOf (ls raw))
+    || (shareBytes (regionsOf (ls metadata)) (regionsOf (ls unclassified)) || shareBytes (regionsOf (ls raw)) (regionsOf (ls unclassified)))
+
+abbrev pub endsPast : ℕ → List FreeRegion → Bool
+endsPast a [] = false
+endsPast a (r ∷ rs) = ltb a (end r) || endsPast a rs
+
+abbrev pub inTheWay : ℕ → ℕ → Lst → Bool
+inTheWay start place l = endsPast start (regionsOf l) || shares (region place messageLen) (regionsOf l)
+
+abbrev pub messageIn : ℕ → List ℕ → Bool
+messageIn place image = leb (place + messageLen) (length image)
+
+-- of L block bytes
+abbrev pub blocksOut : ℕ → ℕ → ℕ → List ℕ → Bool
+blocksOut L start place image = ltb 0 L && (ltb (length image) (start + L) || meets (region start L) (region place messageLen))
+
+module _ (ls : Lists) (page start place : ℕ) where
+  abbrev pub misplaced : List ℕ → Bool
+  misplaced image =
+      not (messageIn place image)
+      || (blocksOut (blockLen page ls) start place image
+      || (inTheWay start place (ls metadata) || (inTheWay start place (ls raw) || inTheWay start place (ls unclassified))))
+
+  -- `given` is the length of the scratch
+  abbrev pub conditions : List ℕ → ℕ → List Condition
+  conditions image given =
+      let version = getD image place 0 in
+      let code = getD image (place + 1) 0 in
+      let needed = blockLen page ls + messageLen in
+      when (eqb page 0) refusal.Page
+      ∷ when (not (areLists ls)) refusal.NotAList
+      ∷ when (tooLarge page start ls) refusal.Overflow
+      ∷ when (sharedByte ls) refusal.SharedAddress
+      ∷ when (messageIn place image && not (eqb version 1)) (refusal.MessageVersion version)
+      ∷ when (messageIn place image && ltb 3 code) (refusal.Strategy code)
+      ∷ when (misplaced image) refusal.Place
+      ∷ when (ltb given needed) (refusal.OverCapacity needed given)
+      ∷ []
+
+  abbrev pub fresh : Save
+  fresh = record { start = start; place = place; len = blockLen page ls; done = 0 }
+
+  abbrev pub filled : List ℕ → List ℕ
+  filled scratch = over 0 (blockBytes page start ls ++ messageOf page start ls) scratch
+
+  unfoldable pub begun : List ℕ → List ℕ → Outcome (With Save (List ℕ))
+  begun image scratch = firstOf (conditions image (length scratch)) (answer (with fresh (filled scratch)))
+
+abbrev pub beginOutcome : Begin → Outcome Save
+beginOutcome (begin.Begun s) = answer s
+beginOutcome (begin.Refused r) = refused r
