@@ -1,7 +1,6 @@
 // The blocks and the cutting at pages through the C interface, for the benchmarks alone: offset size 8, base 0; each answers how many
 // bytes or sections it gives, all ones where it is refused.
 ghost use mathlib.Core.Path.{_≡_};
-ghost use mathlib.Core.List.{[]};
 ghost use Rattle.error.specs.Lent.{with, leaving};
 ghost use Rattle.fsm_blocks.specs.Answers.{sectionsOutcome};
 ghost use Rattle.fsm_blocks.specs.Reading.{persisted};

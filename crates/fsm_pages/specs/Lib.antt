@@ -1,2 +1,4 @@
 pub mod Split
 pub mod Managers
+pub mod Order
+pub mod Plan

@@ -1,2 +1,7 @@
-// Free space cut at page boundaries.
+// Free space cut at page boundaries, and the managers of a paged file.
+mod chains;
 pub mod pages;
+mod pieces;
+pub mod plan;
+mod put;
+mod sharing;

@@ -17,7 +17,7 @@ pub enum Split {
 }
 
 // Whether a run of pairs has even length and holds `count` of them.
-pub fn is_run(run: &[u64], count: usize) -> bool
+fn is_run(run: &[u64], count: usize) -> bool
     ensures { λ r. ⌜ r ≡ isRun (now (run .entry)) count ⌝ }
 {
     if run.len() % 2 != 0 {
@@ -42,7 +42,7 @@ fn ends_above(sections: &[u64], count: usize) -> bool
 }
 
 // The sum of two counts, at most 2^64 - 1.
-fn sum_of(a: u64, b: u64) -> u64
+pub(crate) fn sum_of(a: u64, b: u64) -> u64
     ensures { λ r. ⌜ r ≡ sat (a + b) ⌝ }
 {
     if 18446744073709551615 - a < b {
@@ -63,7 +63,7 @@ fn piece_count(page: u64, addr: u64, size: u64) -> u64
 }
 
 // How many pieces all sections have, at most 2^64 - 1.
-fn split_count(sections: &[u64], count: usize, page: u64) -> u64
+pub(crate) fn split_count(sections: &[u64], count: usize, page: u64) -> u64
     requires page { ⌜ 0 < page ⌝ }
     requires room { ⌜ 2 * count ≤ length (now sections) ⌝ }
     requires fits { ⌜ endsAbove (decode count (now sections)) ≡ false ⌝ }

@@ -28,14 +28,11 @@ use Rattle.fields.proofs.LeLaws.{length-le}
 use Rattle.fields.proofs.LayoutLaws.{length-layout}
 use Rattle.checksum.specs.Lookup3.{lookup3}
 use Rattle.fsm_sections.specs.declared.FreeSection.{FreeSection}
-use Rattle.fsm_sections.specs.declared.Source.{Source}
-use Rattle.fsm_sections.specs.declared.Taken.{Taken}
 use Rattle.fsm_sections.specs.Sections.{bySizeThenAddr, space, distinct}
-use Rattle.fsm_sections.specs.Sources.{rest, Taking}
 use Rattle.fsm_sections.specs.Passes.{spaceOf}
 use Rattle.fsm_sections.proofs.SectionsLaws.{length-sorted}
 use Rattle.fsm_sections.proofs.SizesLaws.{distinct-sorted}
-use Rattle.fsm_sections.proofs.TakeLaws.{space-sorted, take-length}
+use Rattle.fsm_sections.proofs.TakeLaws.{space-sorted}
 use Rattle.fsm_blocks.specs.Fshd.{Header, fshdRow, fshdBytes, fshdSize}
 use Rattle.fsm_blocks.specs.Groups.{Widths}
 use Rattle.fsm_blocks.specs.Fsse.{fsseBytes, fsseSize}
@@ -79,11 +76,6 @@ module _ (c : Number) (n : ℕ) (e : numberOutcome c ≡ storable n) where
 pub space-stored : (l : List FreeSection) (c : Number) → numberOutcome c ≡ spaceOf l → numberOutcome c ≡ storable (space l)
 unfolding spaceOf storable
 space-stored l c e = e
-
--- a chain more than fits
-pub count-over : (s : Source) (a b c : List ℕ) (i j k : ℕ) (t : Taken) → Taking s a b c i j k t → (n m : ℕ) → n + length (rest s a b c i j k) ≡ m → top - n < t .count → n ≤ top
-    → refused Overflow ≡ storable m
-count-over s a b c i j k t h n m p o q = too-great m (omega (arith, take-length s a b c i j k t h))
 
 module _ (from n w : ℕ) (some : 0 < w) (low : from ≤ top) where
   pub times-over : (18446744073709551615 - from) / w < n → refused Overflow ≡ storable (from + n * w)

@@ -61,6 +61,9 @@ module _ (n : ℕ) (run : List ℕ) where
   pub plain-all : sectionsOf (chainsOf (plainSource n) run run run) ≡ decode n run
   plain-all = sym (plain-runs n run run run)
 
+  pub plain-few : 2 * n ≤ length run → n < 2 ^ 64 → length (sectionsOf (chainsOf (plainSource n) run run run)) < 2 ^ 64
+  plain-few room h = rw plain-all (omega (arith, length-decode n run room))
+
 pub run-numbers : (n : ℕ) (run : List ℕ) → ((i : ℕ) → getD run i 0 < 2 ^ 64) → Numbers (decode n run)
 run-numbers zero run h = tt
 run-numbers (suc n) [] h = tt
@@ -193,7 +196,7 @@ any-none test n i run room h p = ap (anyOf test) (sym (drop-of-length-le (decode
 
 -- ---- lengths
 
-distinct-few : (l : List FreeSection) → distinct l ≤ length l
+pub distinct-few : (l : List FreeSection) → distinct l ≤ length l
 unfolding distinct
 distinct-few [] = omega arith
 distinct-few (x ∷ l) = pick (eqb (ofSize (x .size) l) 0) (distinct-few l)

@@ -1,21 +1,30 @@
-// Passes over the sections that a source gives, with no work memory: each takes the source's chains one by one.
+// Passes over the sections that a source gives, with no work memory: sums and counts run by run, the others by the address of the regions.
 ghost use mathlib.Core.Path.{_≡_};
 ghost use Prim.Native.Nat.{_+_, _*_, _<_, _≤_, _^_, min};
-ghost use mathlib.Core.Bool.{cond, _&&_, not};
-ghost use lib.Dec.{ltb, eqb};
 ghost use lib.ListN.{length};
 ghost use Rattle.error.specs.Answers.{numberOutcome};
-ghost use Rattle.fsm_sections.specs.Sections.{section, times, ofSize, distinct};
+ghost use Rattle.fsm_sections.specs.Sections.{section, decode, space, times, ofSize};
 ghost use Rattle.fsm_sections.specs.Chains.{link, chain, sectionsOf, ChainFits};
-ghost use Rattle.fsm_sections.specs.Sources.{pad, one, partOf, chainsOf, rest, chainCount, PartFits, Given, Within, Taking, Chosen, ChosenOfTwo};
-ghost use Rattle.fsm_sections.specs.Passes.{leastSize, leastAddr, spaceOf};
-ghost use Rattle.fsm_writer.specs.Writing.{storable};
+ghost use Rattle.fsm_sections.specs.Sources.{pad, one, partOf, chainsIn, chainsOf, chainCount, PartFits, Given, Within, Taking, Chosen, ChosenOfTwo};
+ghost use Rattle.fsm_sections.specs.Passes.{leastAddr, spaceOf};
+ghost use Rattle.fsm_writer.specs.Counting.{RunGiven};
+ghost use Rattle.fsm_writer.specs.Writing.{Picked, storable};
 use error::Number;
 use error::Refusal;
 use fsm_sections::Chain;
 use fsm_sections::Part;
 use fsm_sections::Source;
 use fsm_sections::Taken;
+
+// A region of a source with the part of it that is meant, and how many regions of each run are done when it is taken.
+struct Region {
+    part: Part,
+    addr: u64,
+    size: u64,
+    i: usize,
+    j: usize,
+    k: usize,
+}
 
 // One section, or none where it would be empty.
 fn one_chain(addr: u64, size: u64) -> Chain
@@ -52,7 +61,7 @@ fn head_size(page: u64, addr: u64, size: u64) -> u64
 }
 
 // A part of a region.
-fn part_chain(part: Part, page: u64, addr: u64, size: u64) -> Chain
+pub(crate) fn part_chain(part: Part, page: u64, addr: u64, size: u64) -> Chain
     requires { ⌜ (0 < page) × PartFits part (section addr size) ⌝ }
     ensures { λ r. ⌜ r ≡ partOf part page (section addr size) ⌝ }
 {
@@ -127,6 +136,47 @@ fn first_of(a: &[u64], b: &[u64], c: &[u64], s: Source, i: usize, j: usize, k: u
     0
 }
 
+// The region that comes next, with the part of it that is meant, and how many regions of each run are done when it is taken.
+fn next_region(a: &[u64], b: &[u64], c: &[u64], s: Source, i: usize, j: usize, k: usize) -> Region
+    requires given { ⌜ Given s (now a) (now b) (now c) ⌝ }
+    requires left { ⌜ i + (j + k) < chainCount s ⌝ }
+    requires within { ⌜ Within s i j k ⌝ }
+    ensures { λ r. ⌜ Picked s (now (a .entry)) (now (b .entry)) (now (c .entry)) i j k r ⌝ }
+{
+    let w = first_of(a, b, c, s, i, j, k);
+    if w == 0 {
+        let p = s.pa;
+        return Region {
+            part: p,
+            addr: a[2 * i],
+            size: a[2 * i + 1],
+            i: i + 1,
+            j: j,
+            k: k,
+        };
+    }
+    if w == 1 {
+        let p = s.pb;
+        return Region {
+            part: p,
+            addr: b[2 * j],
+            size: b[2 * j + 1],
+            i: i,
+            j: j + 1,
+            k: k,
+        };
+    }
+    let p = s.pc;
+    Region {
+        part: p,
+        addr: c[2 * k],
+        size: c[2 * k + 1],
+        i: i,
+        j: j,
+        k: k + 1,
+    }
+}
+
 // A chain of what is left.
 pub(crate) fn next_chain(
     a: &[u64],
@@ -142,42 +192,36 @@ pub(crate) fn next_chain(
     requires within { ⌜ Within s i j k ⌝ }
     ensures { λ t. ⌜ Taking s (now (a .entry)) (now (b .entry)) (now (c .entry)) i j k t ⌝ }
 {
-    let page = s.page;
-    let w = first_of(a, b, c, s, i, j, k);
-    if w == 0 {
-        let p = s.pa;
-        let r = part_chain(p, page, a[2 * i], a[2 * i + 1]);
-        return Taken {
-            addr: r.addr,
-            size: r.size,
-            count: r.count,
-            i: i + 1,
-            j: j,
-            k: k,
-        };
-    }
-    if w == 1 {
-        let p = s.pb;
-        let r = part_chain(p, page, b[2 * j], b[2 * j + 1]);
-        return Taken {
-            addr: r.addr,
-            size: r.size,
-            count: r.count,
-            i: i,
-            j: j + 1,
-            k: k,
-        };
-    }
-    let p = s.pc;
-    let r = part_chain(p, page, c[2 * k], c[2 * k + 1]);
+    let r = next_region(a, b, c, s, i, j, k);
+    let p = r.part;
+    let t = part_chain(p, s.page, r.addr, r.size);
     Taken {
-        addr: r.addr,
-        size: r.size,
-        count: r.count,
-        i: i,
-        j: j,
-        k: k + 1,
+        addr: t.addr,
+        size: t.size,
+        count: t.count,
+        i: r.i,
+        j: r.j,
+        k: r.k,
     }
+}
+
+// The sizes of a run's sections added to n.
+fn space_in(run: &[u64], count: usize, part: Part, page: u64, n: u64) -> Number
+    requires { ⌜ RunGiven part page (now run) count ⌝ }
+    ensures { λ r. ⌜ numberOutcome r ≡ storable (n + space (sectionsOf (chainsIn part page (decode count (now (run .entry)))))) ⌝ }
+{
+    let mut sum = n;
+    let mut i = 0;
+    while i < count {
+        let r = part_chain(part, page, run[2 * i], run[2 * i + 1]);
+        let more = r.count * r.size;
+        if 18446744073709551615 - sum < more {
+            return Number::Refused(Refusal::Overflow);
+        }
+        sum = sum + more;
+        i += 1;
+    }
+    Number::Is(sum)
 }
 
 // The sum of the sizes.
@@ -185,23 +229,35 @@ pub(crate) fn space_of(a: &[u64], b: &[u64], c: &[u64], s: Source) -> Number
     requires { ⌜ Given s (now a) (now b) (now c) ⌝ }
     ensures { λ r. ⌜ numberOutcome r ≡ spaceOf (sectionsOf (chainsOf s (now (a .entry)) (now (b .entry)) (now (c .entry)))) ⌝ }
 {
-    let total = s.na + s.nb + s.nc;
-    let mut n: u64 = 0;
+    let pa = s.pa;
+    let pb = s.pb;
+    let pc = s.pc;
+    let page = s.page;
+    let Number::Is(x) = space_in(a, s.na, pa, page, 0) else {
+        return Number::Refused(Refusal::Overflow);
+    };
+    let Number::Is(y) = space_in(b, s.nb, pb, page, x) else {
+        return Number::Refused(Refusal::Overflow);
+    };
+    space_in(c, s.nc, pc, page, y)
+}
+
+// How many sections a run has, added to n.
+fn count_in(run: &[u64], count: usize, part: Part, page: u64, n: u64) -> Number
+    requires { ⌜ RunGiven part page (now run) count ⌝ }
+    ensures { λ r. ⌜ numberOutcome r ≡ storable (n + length (sectionsOf (chainsIn part page (decode count (now (run .entry)))))) ⌝ }
+{
+    let mut sum = n;
     let mut i = 0;
-    let mut j = 0;
-    let mut k = 0;
-    while i + j + k < total {
-        let t = next_chain(a, b, c, s, i, j, k);
-        let more = t.count * t.size;
-        if 18446744073709551615 - n < more {
+    while i < count {
+        let r = part_chain(part, page, run[2 * i], run[2 * i + 1]);
+        if 18446744073709551615 - sum < r.count {
             return Number::Refused(Refusal::Overflow);
         }
-        n = n + more;
-        i = t.i;
-        j = t.j;
-        k = t.k;
+        sum = sum + r.count;
+        i += 1;
     }
-    Number::Is(n)
+    Number::Is(sum)
 }
 
 // How many sections there are.
@@ -209,130 +265,17 @@ pub(crate) fn section_count(a: &[u64], b: &[u64], c: &[u64], s: Source) -> Numbe
     requires { ⌜ Given s (now a) (now b) (now c) ⌝ }
     ensures { λ r. ⌜ numberOutcome r ≡ storable (length (sectionsOf (chainsOf s (now (a .entry)) (now (b .entry)) (now (c .entry))))) ⌝ }
 {
-    let total = s.na + s.nb + s.nc;
-    let mut n: u64 = 0;
-    let mut i = 0;
-    let mut j = 0;
-    let mut k = 0;
-    while i + j + k < total {
-        let t = next_chain(a, b, c, s, i, j, k);
-        if 18446744073709551615 - n < t.count {
-            return Number::Refused(Refusal::Overflow);
-        }
-        n = n + t.count;
-        i = t.i;
-        j = t.j;
-        k = t.k;
-    }
-    Number::Is(n)
-}
-
-// How many of a chain's sections have size z.
-pub(crate) fn matching(size: u64, count: u64, z: u64) -> u64
-    ensures { λ r. ⌜ r ≡ cond (eqb z size) count 0 ⌝ }
-{
-    if z == size { count } else { 0 }
-}
-
-// Whether a section of what is left has size z.
-fn size_left(
-    a: &[u64],
-    b: &[u64],
-    c: &[u64],
-    s: Source,
-    i0: usize,
-    j0: usize,
-    k0: usize,
-    z: u64,
-) -> bool
-    requires given { ⌜ Given s (now a) (now b) (now c) ⌝ }
-    requires within { ⌜ Within s i0 j0 k0 ⌝ }
-    ensures { λ r. ⌜ r ≡ ltb 0 (ofSize z (rest s (now (a .entry)) (now (b .entry)) (now (c .entry)) i0 j0 k0)) ⌝ }
-{
-    let total = s.na + s.nb + s.nc;
-    let mut i = i0;
-    let mut j = j0;
-    let mut k = k0;
-    while i + j + k < total {
-        let t = next_chain(a, b, c, s, i, j, k);
-        if 0 < matching(t.size, t.count, z) {
-            return true;
-        }
-        i = t.i;
-        j = t.j;
-        k = t.k;
-    }
-    false
-}
-
-// 1 for a chain that is not empty and whose size comes no more, else 0.
-fn new_size(count: u64, left: bool) -> u64
-    ensures { λ r. ⌜ r ≡ cond (ltb 0 count && not left) 1 0 ⌝ }
-{
-    if count == 0 {
-        return 0;
-    }
-    if left {
-        return 0;
-    }
-    1
-}
-
-// How many sizes there are.
-pub(crate) fn size_count(a: &[u64], b: &[u64], c: &[u64], s: Source) -> u64
-    requires { ⌜ Given s (now a) (now b) (now c) ⌝ }
-    ensures { λ r. ⌜ r ≡ distinct (sectionsOf (chainsOf s (now (a .entry)) (now (b .entry)) (now (c .entry)))) ⌝ }
-{
-    let total = s.na + s.nb + s.nc;
-    let mut n: u64 = 0;
-    let mut i = 0;
-    let mut j = 0;
-    let mut k = 0;
-    while i + j + k < total {
-        let t = next_chain(a, b, c, s, i, j, k);
-        let left = size_left(a, b, c, s, t.i, t.j, t.k, t.size);
-        n = n + new_size(t.count, left);
-        i = t.i;
-        j = t.j;
-        k = t.k;
-    }
-    n
-}
-
-// The lesser of a size and a chain's, where that is at least `from`.
-pub(crate) fn lesser_size(best: u64, from: u64, size: u64, count: u64) -> u64
-    ensures { λ r. ⌜ r ≡ min best (leastSize from (chain 0 size count)) ⌝ }
-{
-    if count == 0 {
-        return best;
-    }
-    if size < from {
-        return best;
-    }
-    if best < size {
-        return best;
-    }
-    size
-}
-
-// The least size at or above `from`.
-pub(crate) fn least_size(a: &[u64], b: &[u64], c: &[u64], s: Source, from: u64) -> u64
-    requires { ⌜ Given s (now a) (now b) (now c) ⌝ }
-    ensures { λ r. ⌜ r ≡ leastSize from (sectionsOf (chainsOf s (now (a .entry)) (now (b .entry)) (now (c .entry)))) ⌝ }
-{
-    let total = s.na + s.nb + s.nc;
-    let mut best: u64 = 18446744073709551615;
-    let mut i = 0;
-    let mut j = 0;
-    let mut k = 0;
-    while i + j + k < total {
-        let t = next_chain(a, b, c, s, i, j, k);
-        best = lesser_size(best, from, t.size, t.count);
-        i = t.i;
-        j = t.j;
-        k = t.k;
-    }
-    best
+    let pa = s.pa;
+    let pb = s.pb;
+    let pc = s.pc;
+    let page = s.page;
+    let Number::Is(x) = count_in(a, s.na, pa, page, 0) else {
+        return Number::Refused(Refusal::Overflow);
+    };
+    let Number::Is(y) = count_in(b, s.nb, pb, page, x) else {
+        return Number::Refused(Refusal::Overflow);
+    };
+    count_in(c, s.nc, pc, page, y)
 }
 
 // The lesser of two numbers.

@@ -1,3 +1,4 @@
+use native.Mathlib.Omega.{arith}
 use denote.Ref.{now}
 use lib.ListN.{length}
 use Rattle.fsm_sections.specs.Chains.{sectionsOf}
@@ -36,7 +37,12 @@ returns-3 : tie.Need-returns-3
 returns-3 c = let a = c .before .before .before .before .before .before .before .before .before .before .before .before .args in none-measured (a .o) (sectionsOf (chainsOf (a .s) (now (a .a)) (now (a .b)) (now (a .c)))) (stored-is (c .before .before .before .before .before .before .before .before .space-of .result) (space (sectionsOf (chainsOf (a .s) (now (a .a)) (now (a .b)) (now (a .c))))) (space-stored (sectionsOf (chainsOf (a .s) (now (a .a)) (now (a .b)) (now (a .c)))) (c .before .before .before .before .before .before .before .before .space-of .result) (c .before .before .before .before .before .before .before .before .space-of .ensures)) _ (c .before .before .before .before .before .before .space .given .1) .1) _ _ (stored-is (c .before .before .before .before .before .before .before .before .space-of .result) (space (sectionsOf (chainsOf (a .s) (now (a .a)) (now (a .b)) (now (a .c))))) (space-stored (sectionsOf (chainsOf (a .s) (now (a .a)) (now (a .b)) (now (a .c)))) (c .before .before .before .before .before .before .before .before .space-of .result) (c .before .before .before .before .before .before .before .before .space-of .ensures)) _ (c .before .before .before .before .before .before .space .given .1) .0) (stored-is (c .before .before .before .before .section-count .result) (length (sectionsOf (chainsOf (a .s) (now (a .a)) (now (a .b)) (now (a .c))))) (c .before .before .before .before .section-count .ensures) _ (c .before .before .n .given .1) .0) (c .if1 .taken)
 
 size-count-requires : tie.Need-size-count-requires
-size-count-requires c κs = search needs
+size-count-requires c κs =
+    let s = c .before .before .before .before .before .before .before .before .before .before .before .before in
+    let a = s .args in
+    let l = sectionsOf (chainsOf (a .s) (now (a .a)) (now (a .b)) (now (a .c))) in
+    let n = stored-is (c .before .before .before .before .section-count .result) (length l) (c .before .before .before .before .section-count .ensures) _ (c .before .before .n .given .1) in
+    (s .pre .0, omega (arith, n .1))
 
 blocks-of-requires : tie.Need-blocks-of-requires
 blocks-of-requires c κs = search needs
