@@ -16,6 +16,11 @@ impl Figures {
         Figures { filter }
     }
 
+    /// Whether some figure whose name begins so is wanted.
+    pub fn wants(&self, name: &str) -> bool {
+        name.starts_with(&self.filter) || self.filter.starts_with(name)
+    }
+
     /// Both sides answer alike, and are then timed.
     pub fn compare<T: PartialEq + std::fmt::Debug>(&self, name: &str, mut ours: impl FnMut() -> T, mut rust: impl FnMut() -> T) {
         if !name.starts_with(&self.filter) {

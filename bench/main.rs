@@ -14,6 +14,7 @@ mod file_space_info;
 mod free_space;
 mod free_space_manager;
 mod lists;
+mod save;
 mod stubs;
 
 use figures::Figures;
@@ -48,4 +49,5 @@ fn main() {
     lookup3(&figures);
     lists::run(&figures);
     blocks::run(&figures);
+    save::run(&figures);
 }

@@ -4,7 +4,7 @@ use mathlib.Core.Logic.{_⊎_, inl, inr, ⊎-elim}
 use Prim.Native.Nat.{ℕ, zero, suc, _+_, _-_, _*_, _/_, _%_, _≤_, _<_}
 use native.Mathlib.Nat.{add-mul, div-add-mod', mul-mod-left, mul-div-cancel}
 use native.Mathlib.Omega.{arith}
-use mathlib.Core.Bool.{Bool, true, false, cond, _||_}
+use mathlib.Core.Bool.{Bool, true, false, cond}
 use mathlib.Core.List.{List, [], _∷_, _++_}
 use lib.Dec.{ltb, eqb}
 use borrow.Author.Tests.{ltb-true, ltb-false, eqb-true, lt-ltb, le-ltb, eq-eqb, ne-eqb}
@@ -14,7 +14,7 @@ use Rattle.fsm_sections.specs.declared.Taken.{Taken}
 use Rattle.fsm_sections.specs.Sections.{bySizeThenAddr}
 use Rattle.fsm_sections.specs.Chains.{chain}
 use Rattle.fsm_sections.proofs.PassLaws.{by-order}
-use Rattle.fsm_pages.specs.Order.{atAddr, repeats, Common, Meet, chainOf, Alike}
+use Rattle.fsm_pages.specs.Order.{atAddr, repeats, Meet, chainOf, Alike}
 
 -- ---- how many sections have an address
 

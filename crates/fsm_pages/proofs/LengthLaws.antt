@@ -1,10 +1,10 @@
 -- The lengths of the three slots' blocks, behind the tests of the runs. Assumes nothing.
 use mathlib.Core.Path.{_≡_, refl, sym, ap, _∙_}
-use Prim.Native.Nat.{ℕ, _+_, _≤_, _<_}
+use Prim.Native.Nat.{ℕ, _+_, _≤_}
 use native.Mathlib.Omega.{arith}
 use mathlib.Core.Bool.{Bool, true, false, cond, _&&_, _||_, not}
-use mathlib.Core.List.{List, [], _∷_, _++_, append-assoc}
-use lib.Dec.{ltb, eqb}
+use mathlib.Core.List.{List, [], _∷_, _++_}
+use lib.Dec.{ltb}
 use lib.ListN.{length}
 use borrow.Author.Tests.{not-false, le-ltb}
 use Rattle.error.specs.declared.Checked.the-variants as checked
@@ -12,7 +12,7 @@ use Rattle.error.specs.declared.Number.{Number}
 use Rattle.error.specs.declared.Number.the-variants as number
 use Rattle.error.specs.declared.Refusal.{Refusal}
 use Rattle.error.specs.declared.Refusal.the-variants.{Overflow}
-use Rattle.error.specs.Outcome.{Outcome, answer, refused, Condition, when, firstOf}
+use Rattle.error.specs.Outcome.{Outcome, answer, refused, Condition, firstOf}
 use Rattle.error.specs.Answers.{numberOutcome}
 use Rattle.error.proofs.TestLaws.{and-true, or-false}
 use Rattle.error.proofs.OutcomeLaws.{NoneHolds, first-pass, first-answers, first-append, first-refuses}

@@ -1,11 +1,11 @@
 -- The plan behind the tests: numbers of sections, addresses, and the branches of the code. Assumes nothing.
-use mathlib.Core.Path.{_≡_, refl, sym, ap, ap₂, _∙_, subst}
+use mathlib.Core.Path.{_≡_, sym, ap, ap₂, _∙_, subst}
 use mathlib.Core.Logic.{⊎-elim}
 use Prim.Native.Nat.{ℕ, _+_, _-_, _*_, _/_, _%_, _≤_, _<_}
 use native.Mathlib.Omega.{arith}
-use mathlib.Core.Bool.{Bool, true, false, cond, _&&_, _||_, not}
+use mathlib.Core.Bool.{Bool, true, false, _||_, not}
 use mathlib.Core.List.{List, [], _∷_, _++_}
-use lib.Dec.{ltb, eqb}
+use lib.Dec.{ltb}
 use lib.ListN.{length, length-append, take, drop}
 use borrow.Author.Tests.{lt-ltb, le-ltb, ltb-false, eq-eqb, ne-eqb}
 use Rattle.error.specs.declared.Refusal.{Refusal}
@@ -19,7 +19,7 @@ use Rattle.fields.specs.Ranges.{top}
 use Rattle.fields.specs.Width.{validWidth}
 use Rattle.fsm_sections.specs.declared.FreeSection.{FreeSection}
 use Rattle.fsm_sections.specs.Sections.{decode, flat}
-use Rattle.fsm_sections.specs.Pages.{split, belowPage, fromPage, slot0, slot2, slot6}
+use Rattle.fsm_sections.specs.Pages.{split, fromPage, slot0, slot2, slot6}
 use Rattle.fsm_sections.proofs.SourceLaws.{length-decode}
 use Rattle.fsm_sections.proofs.SlotLaws.{slot6-runs}
 use Rattle.fsm_blocks.specs.Fshd.{fshdSize}
@@ -33,7 +33,7 @@ use Rattle.fsm_pages.specs.declared.plan.SectionCounts.{SectionCounts}
 use Rattle.fsm_pages.specs.declared.plan.PagedManagerPlan.{PagedManagerPlan}
 use Rattle.fsm_pages.specs.Order.{byAddr, repeats, inSlot6}
 use Rattle.fsm_pages.specs.Plan.{addressIn, endAt, planAt, wideBlock, wideBlocks, Placed, lengthsAre, countsAre, planTotal, planBehind, planned, lengthsTests, inSlot0, inSlot2, inLarge, Ready}
-use Rattle.fsm_pages.proofs.AllPiecesLaws.{length-parts, wide-mono, any-slots}
+use Rattle.fsm_pages.proofs.AllPiecesLaws.{length-parts, wide-mono}
 
 -- ---- numbers of sections
 
@@ -112,9 +112,6 @@ module _ (s : Counts) (a b c : List ℕ) (out : List ℕ) where
       module _ (y : List ℕ) (j : ℕ) (ye : y ≡ over k (flat s2) x) (je : j ≡ k + 2 * length s2) where
         y-length : length y ≡ length out
         y-length = ap length ye ∙ length-over k (flat s2) x ∙ x-length
-
-        pub third-start : j ≤ length y
-        third-start = omega (arith, y-length)
 
         pub third-room : 2 * length (inSlot6 s a b c) ≤ length (take (length y - j) (drop j y))
         third-room = part-room y j (2 * length (inSlot6 s a b c)) (omega (arith, y-length, ap length large-is))

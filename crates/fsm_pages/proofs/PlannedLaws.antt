@@ -1,6 +1,6 @@
 -- What an accepted plan says: its blocks side by side as the managers of a paged file have them, its sections, and that no writer refuses its blocks. Assumes
 -- nothing.
-use mathlib.Core.Path.{_≡_, refl, sym, ap, ap₂, _∙_}
+use mathlib.Core.Path.{_≡_, refl, sym, ap, _∙_}
 use Prim.Native.Nat.{ℕ, _+_, _/_, _%_, _≤_, _<_}
 use native.Mathlib.Nat.{add-zero}
 use native.Mathlib.Omega.{arith}
@@ -30,7 +30,7 @@ use Rattle.fsm_blocks.specs.Managers.{startingSet, headerFor, fsseFor, fsseUsed
 use Rattle.fsm_writer.specs.Serializing.{ofRun, wide, anyOf, anyWide, blocksSize, writtenFshd, writtenFsse}
 use Rattle.fsm_writer.specs.Slots.{sizeTests}
 use Rattle.fsm_pages.specs.declared.plan.PagedManagerPlan.{PagedManagerPlan}
-use Rattle.fsm_pages.specs.Managers.{Manager, manager, managersOf, managerSize, sizeOf, slotsFrom}
+use Rattle.fsm_pages.specs.Managers.{manager, managersOf, managerSize, sizeOf, slotsFrom}
 use Rattle.fsm_pages.specs.Split.{isEven}
 use Rattle.fsm_pages.specs.Order.{turned, byAddr, InOrder, repeats}
 use Rattle.fsm_pages.specs.Plan.{addressIn, endAt, planAt, wideBlock, wideBlocks, lengthsAre, countsAre, planTotal, planBehind, lengthsTests, planned}

@@ -1,11 +1,11 @@
 -- Refusal 5: the passes over the chains of slot 6. Assumes nothing.
 use mathlib.Core.Path.{_≡_, refl, sym, ap, _∙_, subst}
-use mathlib.Core.Logic.{_⊎_, inl, inr, ⊎-elim}
+use mathlib.Core.Logic.{inl, inr, ⊎-elim}
 use Prim.Native.Nat.{ℕ, zero, suc, _+_, _-_, _*_, _^_, _≤_, _<_}
 use native.Mathlib.Nat.{mul-le-mul-right}
 use native.Mathlib.Omega.{arith}
 use mathlib.Core.Bool.{Bool, true, false}
-use mathlib.Core.List.{List, [], _∷_}
+use mathlib.Core.List.{List, []}
 use Rattle.error.proofs.TestLaws.{le-or-lt}
 use Rattle.fsm_sections.specs.declared.FreeSection.{FreeSection}
 use Rattle.fsm_sections.specs.declared.Taken.{Taken}
@@ -17,7 +17,7 @@ use Rattle.fsm_pages.specs.declared.chains.Counts.{Counts}
 use Rattle.fsm_pages.specs.declared.sharing.Floor.{Floor}
 use Rattle.fsm_pages.specs.declared.sharing.Floor.the-variants.{To}
 use Rattle.fsm_pages.specs.Order.{atAddr, repeats, Common, Meet, chainOf, Stepped, Alike, Raised, sourceOf, inSlot6, Next}
-use Rattle.fsm_pages.proofs.AddrLaws.{Index, at-index, at-none, at-once, repeats-not, repeats-yes}
+use Rattle.fsm_pages.proofs.AddrLaws.{at-index, at-none, at-once, repeats-not, repeats-yes}
 use Rattle.fsm_pages.proofs.NextLaws.{take-at}
 
 -- ---- two chains

@@ -1,6 +1,6 @@
 use native.Mathlib.Omega.{arith}
 use denote.Ref.{now}
-use Rattle.fsm_pages.proofs.PlanLaws.{second-room, third-start, third-room, slots-put}
+use Rattle.fsm_pages.proofs.PlanLaws.{second-room, third-room, slots-put}
 use borrow.Author.Needs.{needs}
 use Rattle.fsm_pages.proofs.plan.put_slots.Statement.{statement}
 use Rattle.fsm_pages.proofs.plan.put_slots.Tie as tie

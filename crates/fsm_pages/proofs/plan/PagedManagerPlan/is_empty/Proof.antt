@@ -1,6 +1,5 @@
 use mathlib.Core.Path.{sym}
 use borrow.Author.Tests.{eq-eqb, ne-eqb}
-use native.Mathlib.Omega.{arith}
 use Rattle.fsm_pages.proofs.plan.PagedManagerPlan.is_empty.Statement.{statement}
 use Rattle.fsm_pages.proofs.plan.PagedManagerPlan.is_empty.Tie as tie
 

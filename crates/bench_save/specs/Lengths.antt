@@ -1,0 +1,32 @@
+-- What the benchmarks see of a plan and of a save's beginning: one number, and the lent memory. Assumes nothing.
+--   wholeList   the record of a run that is full
+--   endOrTop    the end of the managers, all ones for a refusal; lenOrTop the length of the blocks
+--   planLeft    that number and the run of sections; saveLeft and the scratch
+use Prim.Native.Nat.{ℕ, _/_}
+use mathlib.Core.List.{List}
+use lib.ListN.{length}
+use Rattle.error.specs.Outcome.{Outcome, answer, nothing, refuse}
+use Rattle.error.specs.Lent.{With, with, Left}
+use Rattle.fields.specs.Ranges.{top}
+use Rattle.free_space.specs.declared.list.FreeList.{FreeList}
+use Rattle.fsm_pages.specs.declared.plan.PagedManagerPlan.{PagedManagerPlan}
+use Rattle.save_step.specs.declared.Save.{Save}
+
+abbrev pub wholeList : List ℕ → FreeList
+wholeList xs = record { count = length xs / 2 }
+
+abbrev pub endOrTop : Outcome PagedManagerPlan → ℕ
+endOrTop (answer p) = p .«end_of_managers»
+endOrTop nothing = top
+endOrTop (refuse n vs) = top
+
+abbrev pub lenOrTop : Outcome Save → ℕ
+lenOrTop (answer s) = s .len
+lenOrTop nothing = top
+lenOrTop (refuse n vs) = top
+
+abbrev pub planLeft : Left PagedManagerPlan (List ℕ) → With ℕ (List ℕ)
+planLeft d = with (endOrTop (d .outcome)) (d .memory)
+
+abbrev pub saveLeft : Left Save (List ℕ) → With ℕ (List ℕ)
+saveLeft d = with (lenOrTop (d .outcome)) (d .memory)

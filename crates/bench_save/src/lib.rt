@@ -1,0 +1,87 @@
+// The plan and the beginning of a save through the C interface, for the benchmarks alone: whole runs, offset size 8, message at 0; the end
+// of the managers and the length of the blocks, all ones where it is refused.
+ghost use mathlib.Core.Path.{_≡_};
+ghost use Prim.Native.Nat.{_/_};
+ghost use lib.ListN.{length};
+ghost use Rattle.error.specs.Lent.{with, leaving};
+ghost use Rattle.fsm_pages.specs.Plan.{plannedOutcome, planned};
+ghost use Rattle.save.specs.Saving.{three, begun, beginOutcome};
+ghost use Rattle.bench_save.specs.Lengths.{wholeList, endOrTop, lenOrTop, planLeft, saveLeft};
+use free_space::list::FreeList;
+use fsm_pages::plan::Planned;
+use fsm_pages::plan::plan_paged_managers;
+use save::Begin;
+use save::save_begin;
+
+fn end_of(p: Planned) -> u64
+    ensures { λ r. ⌜ r ≡ endOrTop (plannedOutcome p) ⌝ }
+{
+    match p {
+        Planned::Plan(plan) => plan.end_of_managers,
+        Planned::Refused(_) => 18446744073709551615,
+    }
+}
+
+fn len_of(b: Begin) -> u64
+    ensures { λ r. ⌜ r ≡ lenOrTop (beginOutcome b) ⌝ }
+{
+    match b {
+        Begin::Begun(s) => s.len,
+        Begin::Refused(_) => 18446744073709551615,
+    }
+}
+
+fn list_of(run: &[u64]) -> FreeList
+    ensures { λ r. ⌜ r ≡ wholeList (now (run .entry)) ⌝ }
+{
+    FreeList {
+        count: run.len() / 2,
+    }
+}
+
+#[no_mangle]
+pub extern "C" fn bench_plan_paged_managers(
+    meta: &[u64],
+    raw: &[u64],
+    unclassified: &[u64],
+    page: u64,
+    start: u64,
+    out: &mut [u64],
+) -> u64
+    ensures { λ r. ⌜ with r (now (out .exit)) ≡ planLeft (leaving (now (out .entry)) (planned (now (meta .entry)) (length (now (meta .entry)) / 2) (now (raw .entry)) (length (now (raw .entry)) / 2) (now (unclassified .entry)) (length (now (unclassified .entry)) / 2) page start 8 (now (out .entry)))) ⌝ }
+{
+    let m = meta.len() / 2;
+    let r = raw.len() / 2;
+    let u = unclassified.len() / 2;
+    end_of(plan_paged_managers(meta, m, raw, r, unclassified, u, page, start, 8, out))
+}
+
+#[no_mangle]
+pub extern "C" fn bench_save_begin(
+    meta: &[u64],
+    raw: &[u64],
+    unclassified: &[u64],
+    page: u64,
+    start: u64,
+    image: &[u8],
+    scratch: &mut [u8],
+) -> u64
+    ensures { λ r. ⌜ with r (now (scratch .exit)) ≡ saveLeft (leaving (now (scratch .entry)) (begun (three (now (meta .entry)) (wholeList (now (meta .entry))) (now (raw .entry)) (wholeList (now (raw .entry))) (now (unclassified .entry)) (wholeList (now (unclassified .entry)))) page start 0 (now (image .entry)) (now (scratch .entry)))) ⌝ }
+{
+    let m = list_of(meta);
+    let r = list_of(raw);
+    let u = list_of(unclassified);
+    len_of(save_begin(
+        meta,
+        m,
+        raw,
+        r,
+        unclassified,
+        u,
+        page,
+        start,
+        0,
+        image,
+        scratch,
+    ))
+}
