@@ -5,6 +5,8 @@ ghost use Rattle.fields.specs.Ranges.{sum};
 use error::Number;
 use error::Refusal;
 
+// The address first, then the size: a host lends records of it.
+#[repr(C)]
 pub struct FreeSection {
     pub addr: u64,
     pub size: u64,

@@ -1,0 +1,5 @@
+pub mod CutLaws
+pub mod RecordLaws
+pub mod PairLaws
+pub mod Cases
+pub mod WalkTypes

@@ -1,0 +1,26 @@
+//! A safe wrapper over the function of libsplit_records.a, for a Rust program that links it.
+
+/// A free section, as the library lays it out in lent memory.
+#[repr(C)]
+#[derive(Clone, Copy, Debug, Default, PartialEq, Eq)]
+pub struct FreeSection {
+    pub addr: u64,
+    pub size: u64,
+}
+
+mod c {
+    use super::FreeSection;
+
+    unsafe extern "C" {
+        pub fn split_at_pages_records(sections: *const u64, len: usize, count: usize, page: u64, out: *mut FreeSection, out_len: usize) -> usize;
+    }
+}
+
+/// Cuts the first `count` pairs of `sections` at every page multiple into the front of `out`: how many pieces there are, or `None` for a refusal.
+pub fn split_at_pages(sections: &[u64], count: usize, page: u64, out: &mut [FreeSection]) -> Option<usize> {
+    // The pointers are valid for their lengths, and `out` overlaps nothing: it is a `&mut`.
+    match unsafe { c::split_at_pages_records(sections.as_ptr(), sections.len(), count, page, out.as_mut_ptr(), out.len()) } {
+        usize::MAX => None,
+        n => Some(n),
+    }
+}
