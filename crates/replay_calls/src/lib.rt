@@ -1,0 +1,3 @@
+// The protocol: lines in, answers out.
+mod dispatch;
+pub mod stream;

@@ -1,0 +1,207 @@
+// The words of an answer. Each is followed by a space, and the last space of a line becomes its end. What passes the end of the
+// lent bytes is dropped.
+ghost use mathlib.Core.Path.{_≡_};
+ghost use mathlib.Core.List.{[], _∷_, _++_};
+ghost use Prim.Native.Nat.{_<_};
+ghost use Rattle.error.specs.Lent.{with};
+ghost use Rattle.listing.specs.Text.{written, word};
+ghost use Rattle.replay_lines.specs.Words.{halfDigit, hexByte, numbersLine, errWord, refusalText};
+use error::Checked;
+use error::Number;
+use error::Refusal;
+use listing::text::write_bytes;
+use listing::text::write_word;
+
+// Puts a number.
+pub fn put_number(out: &mut [u8], at: usize, n: u64) -> usize
+    ensures { λ r. ⌜ with r (now (out .exit)) ≡ written at (word n 32) (now (out .entry)) ⌝ }
+{
+    write_word(out, at, n, b' ')
+}
+
+// Puts the numbers of a run.
+pub fn put_numbers(out: &mut [u8], at: usize, run: &[u64]) -> usize {
+    let mut to = at;
+    let mut i = 0;
+    while i < run.len() {
+        to = write_word(out, to, run[i], b' ');
+        i += 1;
+    }
+    to
+}
+
+// The hexadecimal digit of a half byte.
+fn half_digit(n: u8) -> u8
+    requires { ⌜ n < 16 ⌝ }
+    ensures { λ r. ⌜ r ≡ halfDigit n ⌝ }
+{
+    if n < 10 { b'0' + n } else { b'a' + (n - 10) }
+}
+
+// Puts a byte's two digits.
+fn put_byte(out: &mut [u8], at: usize, byte: u8) -> usize
+    ensures { λ r. ⌜ with r (now (out .exit)) ≡ written at (hexByte byte) (now (out .entry)) ⌝ }
+{
+    write_bytes(out, at, &[half_digit(byte / 16), half_digit(byte % 16)])
+}
+
+// Puts bytes in hexadecimal; `-` stands for none.
+pub fn put_bytes(out: &mut [u8], at: usize, bytes: &[u8]) -> usize {
+    if bytes.len() == 0 {
+        return write_bytes(out, at, b"- ");
+    }
+    let mut to = at;
+    let mut i = 0;
+    while i < bytes.len() {
+        to = put_byte(out, to, bytes[i]);
+        i += 1;
+    }
+    write_bytes(out, to, b" ")
+}
+
+// Ends the line: the space behind its last word becomes a newline.
+pub fn end_line(out: &mut [u8], at: usize) -> usize {
+    if at == 0 {
+        return 0;
+    }
+    if out.len() < at {
+        return out.len();
+    }
+    out[at - 1] = b'\n';
+    at
+}
+
+// Puts two numbers that end a line.
+fn put_two(out: &mut [u8], at: usize, first: u64, second: u64) -> usize
+    ensures { λ r. ⌜ with r (now (out .exit)) ≡ written at (word first 32 ++ word second 10) (now (out .entry)) ⌝ }
+{
+    let to = write_word(out, at, first, b' ');
+    write_word(out, to, second, b'\n')
+}
+
+// The line of a refusal without values.
+fn plain_refusal(out: &mut [u8], number: u64) -> usize
+    ensures { λ r. ⌜ with r (now (out .exit)) ≡ written 0 (errWord ++ numbersLine number []) (now (out .entry)) ⌝ }
+{
+    let at = write_bytes(out, 0, b"err ");
+    write_word(out, at, number, b'\n')
+}
+
+// The line of a refusal with one value.
+fn refusal_of_one(out: &mut [u8], number: u64, value: u64) -> usize
+    ensures { λ r. ⌜ with r (now (out .exit)) ≡ written 0 (errWord ++ numbersLine number (value ∷ [])) (now (out .entry)) ⌝ }
+{
+    let at = write_bytes(out, 0, b"err ");
+    put_two(out, at, number, value)
+}
+
+// The line of a refusal with two values.
+fn refusal_of_two(out: &mut [u8], number: u64, first: u64, second: u64) -> usize
+    ensures { λ r. ⌜ with r (now (out .exit)) ≡ written 0 (errWord ++ numbersLine number (first ∷ second ∷ [])) (now (out .entry)) ⌝ }
+{
+    let at = write_bytes(out, 0, b"err ");
+    let to = write_word(out, at, number, b' ');
+    put_two(out, to, first, second)
+}
+
+// The line of a refusal: its number, and its values.
+pub fn refused(out: &mut [u8], refusal: Refusal) -> usize
+    ensures { λ r. ⌜ with r (now (out .exit)) ≡ written 0 (refusalText refusal) (now (out .entry)) ⌝ }
+{
+    let number = refusal.number() as u64;
+    match refusal {
+        Refusal::Short {
+            expected,
+            available,
+        } => refusal_of_two(out, number, expected, available),
+        Refusal::MessageVersion(byte) => refusal_of_one(out, number, byte as u64),
+        Refusal::Strategy(byte) => refusal_of_one(out, number, byte as u64),
+        Refusal::Checksum { stored, computed } => {
+            refusal_of_two(out, number, stored as u64, computed as u64)
+        }
+        Refusal::OverCapacity { needed, given } => refusal_of_two(out, number, needed, given),
+        _ => plain_refusal(out, number),
+    }
+}
+
+// The line of a call that breaks the protocol.
+pub fn bad(out: &mut [u8]) -> usize {
+    write_bytes(out, 0, b"bad\n")
+}
+
+pub fn done(out: &mut [u8]) -> usize {
+    write_bytes(out, 0, b"ok\n")
+}
+
+pub fn nothing(out: &mut [u8]) -> usize {
+    write_bytes(out, 0, b"none\n")
+}
+
+// The line of a number.
+pub fn number_line(out: &mut [u8], n: u64) -> usize
+    ensures { λ r. ⌜ with r (now (out .exit)) ≡ written 0 (word n 10) (now (out .entry)) ⌝ }
+{
+    write_word(out, 0, n, b'\n')
+}
+
+pub fn number_answer(out: &mut [u8], n: Number) -> usize {
+    match n {
+        Number::Is(n) => number_line(out, n),
+        Number::Refused(r) => refused(out, r),
+    }
+}
+
+pub fn checked_answer(out: &mut [u8], checked: Checked) -> usize {
+    match checked {
+        Checked::Fine => done(out),
+        Checked::Refused(r) => refused(out, r),
+    }
+}
+
+// The line of a word and a number.
+pub fn word_line(out: &mut [u8], word: &[u8], n: u64) -> usize {
+    let at = write_bytes(out, 0, word);
+    write_word(out, at, n, b'\n')
+}
+
+// The line of a word and two numbers.
+pub fn pair_line(out: &mut [u8], word: &[u8], first: u64, second: u64) -> usize {
+    let at = write_bytes(out, 0, word);
+    put_two(out, at, first, second)
+}
+
+// Puts a count and as many numbers of a run, or all if it has fewer.
+pub fn put_counted(out: &mut [u8], at: usize, run: &[u64], count: u64) -> usize {
+    let to = put_number(out, at, count);
+    if run.len() as u64 <= count {
+        return put_numbers(out, to, run);
+    }
+    let n = count as usize;
+    put_numbers(out, to, &run[0..n])
+}
+
+// Puts a count and as many pairs of a run, or all if it has fewer.
+fn put_pairs(out: &mut [u8], at: usize, run: &[u64], count: u64) -> usize {
+    let to = put_number(out, at, count);
+    if (run.len() / 2) as u64 <= count {
+        return put_numbers(out, to, run);
+    }
+    let n = 2 * count as usize;
+    put_numbers(out, to, &run[0..n])
+}
+
+// The line of a count and as many pairs of a run, behind what stands before `at`.
+pub fn pairs_line(out: &mut [u8], at: usize, run: &[u64], count: u64) -> usize {
+    let to = put_pairs(out, at, run, count);
+    end_line(out, to)
+}
+
+// Puts the first `count` bytes, or all if there are fewer.
+pub fn put_first(out: &mut [u8], at: usize, bytes: &[u8], count: u64) -> usize {
+    let len = bytes.len();
+    if len as u64 <= count {
+        return put_bytes(out, at, bytes);
+    }
+    let n = count as usize;
+    put_bytes(out, at, &bytes[0..n])
+}
