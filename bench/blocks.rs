@@ -1,5 +1,5 @@
-//! The managers' blocks, written and read, at 16, 1,000 and 10,000 sections by address, all of one size and each of its own; and
-//! sections cut at pages.
+//! The managers' blocks, written and read, at 16, 1,000 and 10,000 sections by address, all of one size and each of its own;
+//! sections cut at pages, and their pieces counted.
 
 use crate::address::BaseAddress;
 use crate::figures::Figures;
@@ -61,13 +61,23 @@ fn blocks(figures: &Figures, name: &str, sections: &[FreeSection]) {
     );
 }
 
-fn split(figures: &Figures, name: &str, sections: &[FreeSection]) {
+fn cut(pairs: &[u64], page: u64, out: &mut [u64]) -> usize {
+    unsafe { c::bench_split_at_pages(pairs.as_ptr(), pairs.len(), pairs.len() / 2, page, out.as_mut_ptr(), out.len()) }
+}
+
+fn split(figures: &Figures, name: &str, page: u64, sections: &[FreeSection]) {
     let pairs = pairs(sections);
-    let mut out = vec![0u64; 2 * split_at_pages(sections, PAGE).len()];
-    figures.compare(
-        &format!("cut at pages, {name}"),
-        || unsafe { c::bench_split_at_pages(pairs.as_ptr(), pairs.len(), pairs.len() / 2, PAGE, out.as_mut_ptr(), out.len()) },
-        || split_at_pages(sections, PAGE).len(),
+    let mut out = vec![0u64; 2 * split_at_pages(sections, page).len()];
+    figures.compare(&format!("cut at pages, {name}"), || cut(&pairs, page, &mut out), || split_at_pages(sections, page).len());
+}
+
+/// Counts the pieces of a region of two pages, and of a larger one: no run is lent for them, so the call counts and refuses. The Rust
+/// has no count: it makes the pieces.
+fn count(figures: &Figures, name: &str, page: u64, size: u64) {
+    figures.compare_own(
+        &format!("count pieces, 2 pages; {name}"),
+        || cut(&[100, 2 * PAGE], PAGE, &mut []),
+        || cut(&[100, size], page, &mut []),
     );
 }
 
@@ -82,7 +92,11 @@ pub fn run(figures: &Figures) {
         blocks(figures, &format!("{count} distinct sizes"), &regions(count, 1 << 20, |i| 1 + i * 7919 % 10_007));
         blocks(figures, &format!("{count} of 100 sizes"), &regions(count, 1 << 20, |i| 1 + i * 7919 % 100));
     }
-    split(figures, "1,000 of a tenth of a page", &regions(1000, 8192, |_| PAGE / 10));
-    split(figures, "1,000 of three pages and a half", &regions(1000, 32_768 + 100, |_| 7 * PAGE / 2));
-    split(figures, "1 of 10,000 pages", &regions(1, 1, |_| 10_000 * PAGE));
+    split(figures, "1,000 of a tenth of a page", PAGE, &regions(1000, 8192, |_| PAGE / 10));
+    split(figures, "1,000 of three pages and a half", PAGE, &regions(1000, 32_768 + 100, |_| 7 * PAGE / 2));
+    split(figures, "1 of 10,000 pages", PAGE, &regions(1, 1, |_| 10_000 * PAGE));
+    split(figures, "1,000 of 500 bytes, page 5,000", 5000, &regions(1000, 8192, |_| 500));
+    split(figures, "1,000 of 17,500 bytes, page 5,000", 5000, &regions(1000, 32_868, |_| 17_500));
+    count(figures, "1,000,000 pages", PAGE, 1_000_000 * PAGE);
+    count(figures, "2^63 pages of a byte", 1, 1 << 63);
 }

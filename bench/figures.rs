@@ -27,14 +27,29 @@ impl Figures {
             return;
         }
         assert_eq!(ours(), rust(), "{name}");
-        let turns = turns(&mut rust);
-        let (mut least_ours, mut least_rust) = (f64::MAX, f64::MAX);
-        for _ in 0..SAMPLES {
-            least_ours = least_ours.min(sample(turns, &mut ours));
-            least_rust = least_rust.min(sample(turns, &mut rust));
-        }
-        println!("{name:<44} {least_ours:>12.1} {least_rust:>12.1} {:>7.2}", least_ours / least_rust);
+        let (ours, rust) = in_turns(ours, rust);
+        println!("{name:<44} {ours:>12.1} {rust:>12.1} {:>7.2}", ours / rust);
     }
+
+    /// Two calls of ours, where the Rust has no such call: both times, and the second by the first.
+    pub fn compare_own<T>(&self, name: &str, first: impl FnMut() -> T, second: impl FnMut() -> T) {
+        if !name.starts_with(&self.filter) {
+            return;
+        }
+        let (first, second) = in_turns(first, second);
+        println!("{name:<44} {first:>12.1} {second:>12.1} {:>7.2} (both ours)", second / first);
+    }
+}
+
+/// The least time of each of two calls, their samples taken in turns.
+fn in_turns<T>(mut first: impl FnMut() -> T, mut second: impl FnMut() -> T) -> (f64, f64) {
+    let turns = turns(&mut second);
+    let mut least = (f64::MAX, f64::MAX);
+    for _ in 0..SAMPLES {
+        least.0 = least.0.min(sample(turns, &mut first));
+        least.1 = least.1.min(sample(turns, &mut second));
+    }
+    least
 }
 
 /// How many turns take about one sample.

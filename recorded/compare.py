@@ -1,14 +1,13 @@
-"""compare.py ORACLE PROGRAM: counts the calls that the two answer differently, and prints the first of them. See compare."""
+"""compare.py ORACLE PROGRAM [KINDS]: counts the calls that the two answer differently, and prints the first of them. See compare."""
 
 import os
 import subprocess
 import sys
 
+from domain import compared, fits, ours
+
 SEEDS = range(201, 220)
 CALLS = 60_000
-# functions that are private here, or have no line in the program
-LEFT_OUT = {"offset_width", "rot", "mix", "final_mix", "relative", "read_source", "plan"}
-LONGEST = 65_536
 
 
 def answers(command, calls):
@@ -16,20 +15,23 @@ def answers(command, calls):
     lines = subprocess.run(command, input="\n".join(calls) + "\n", capture_output=True, text=True, check=True).stdout.splitlines()
     if len(lines) != len(calls):
         sys.exit(f"{command[0]}: {len(lines)} answers for {len(calls)} calls")
-    # refusal 4 carries no values here
-    return ["err 4" if line.startswith("err 4 ") else line for line in lines]
+    return [compared(line) for line in lines]
 
 
-def main(oracle, program):
+def main(oracle, program, kinds=None):
     total = differing = 0
     for seed in SEEDS:
         made = ["python3", os.path.join(oracle, "py/gen.py"), "--seed", str(seed), "--count", str(CALLS)]
+        if kinds:
+            made += ["--kind", kinds]
         lines = subprocess.run(made, capture_output=True, text=True, check=True).stdout.splitlines()
-        calls = [l for l in lines if l and l[0] != "#" and l.split(" ")[0] not in LEFT_OUT and len(l) <= LONGEST]
+        calls = [line for line in lines if ours(line)]
         rust = answers([os.path.join(oracle, "out/debug/oracle")], calls)
-        ours = answers([program], calls)
-        total += len(calls)
-        for call, theirs, answer in zip(calls, rust, ours):
+        here = answers([program], calls)
+        for call, theirs, answer in zip(calls, rust, here):
+            if not fits(call, theirs):
+                continue
+            total += 1
             if theirs != answer:
                 differing += 1
                 if differing <= 10:

@@ -9,7 +9,7 @@ use Rattle.error.specs.Outcome.{Outcome, answer, nothing, refuse}
 use Rattle.error.specs.Lent.{With, with, Left}
 use Rattle.fields.specs.Ranges.{top}
 use Rattle.free_space.specs.declared.list.FreeList.{FreeList}
-use Rattle.fsm_pages.specs.declared.plan.PagedManagerPlan.{PagedManagerPlan}
+use Rattle.fsm_plan.specs.declared.plan.PagedManagerPlan.{PagedManagerPlan}
 use Rattle.save_step.specs.declared.Save.{Save}
 
 abbrev pub wholeList : List ℕ → FreeList

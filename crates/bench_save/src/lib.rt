@@ -4,12 +4,13 @@ ghost use mathlib.Core.Path.{_≡_};
 ghost use Prim.Native.Nat.{_/_};
 ghost use lib.ListN.{length};
 ghost use Rattle.error.specs.Lent.{with, leaving};
-ghost use Rattle.fsm_pages.specs.Plan.{plannedOutcome, planned};
-ghost use Rattle.save.specs.Saving.{three, begun, beginOutcome};
+ghost use Rattle.fsm_plan.specs.Plan.{plannedOutcome, planned};
+ghost use Rattle.free_lists.specs.Lists.{three};
+ghost use Rattle.save.specs.Saving.{begun, beginOutcome};
 ghost use Rattle.bench_save.specs.Lengths.{wholeList, endOrTop, lenOrTop, planLeft, saveLeft};
 use free_space::list::FreeList;
-use fsm_pages::plan::Planned;
-use fsm_pages::plan::plan_paged_managers;
+use fsm_plan::plan::Planned;
+use fsm_plan::plan::plan_paged_managers;
 use save::Begin;
 use save::save_begin;
 

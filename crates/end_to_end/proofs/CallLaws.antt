@@ -13,8 +13,8 @@ use Rattle.free_space.specs.declared.list.Kept.{Kept}
 use Rattle.free_space.specs.declared.list.Given.{Given}
 use Rattle.free_space.specs.Runs.{recordOf}
 use Rattle.free_space.specs.Calls.{keptOutcome, givenOutcome, keeping, freed, allocated, allocatedUnits, rangeTaken, trailingTaken}
-use Rattle.free_space.specs.History.{Lst, lst, recordAfter, perform, Which, metadata, raw, unclassified, On, Lists, next, run, begun}
-use Rattle.save.specs.Saving.{listsOf}
+use Rattle.free_lists.specs.Lists.{Lst, lst, Which, metadata, raw, unclassified, Lists, listsOf}
+use Rattle.free_lists.specs.History.{recordAfter, perform, On, next, run, begun}
 use Rattle.end_to_end.specs.Encoding.{callOf, whichOf, onOf, onsOf, runsOf}
 
 -- ---- one call on one list

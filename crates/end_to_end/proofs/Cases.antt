@@ -12,11 +12,12 @@ use Rattle.fields.specs.Width.{encSize, leastFrom}
 use Rattle.checksum.specs.Lookup3.{lookup3}
 use Rattle.free_space.specs.Runs.{isList, stored}
 use Rattle.free_space.specs.Calls.{freed}
-use Rattle.free_space.specs.History.{free, units, takeTrailing, metadata, raw, unclassified, run, Lists}
+use Rattle.free_lists.specs.History.{free, units, takeTrailing, run}
+use Rattle.free_lists.specs.Lists.{metadata, raw, unclassified, Lists}
 use Rattle.fsm_sections.specs.Sections.{space, ofSize, distinct, insert, bySizeThenAddr}
 use Rattle.fsm_sections.specs.Pages.{piecesFrom, pieces, split, belowPage, fromPage}
 use Rattle.fsm_blocks.specs.Managers.{startingSet}
-use Rattle.fsm_pages.specs.Managers.{sizeOf}
+use Rattle.fsm_plan.specs.Managers.{sizeOf}
 use Rattle.save_step.specs.declared.Save.{Save}
 use Rattle.save.specs.Saving.{plan, blockLen, filled, begun}
 use Rattle.save.proofs.PlanLaws.{length-blocks}

@@ -5,7 +5,7 @@ use mathlib.Core.List.{List}
 use Rattle.error.specs.declared.Refusal.{Refusal}
 use Rattle.error.specs.Outcome.{Outcome, answer, nothing, refuse}
 use Rattle.error.specs.Lent.{With, Left, left, leaving}
-use Rattle.free_space.specs.History.{Lists}
+use Rattle.free_lists.specs.Lists.{Lists}
 use Rattle.save_step.specs.declared.Save.{Save}
 use Rattle.save_step.specs.Steps.{Saving, saving, steps}
 use Rattle.save.specs.declared.Begin.{Begin}

@@ -10,7 +10,8 @@ use lib.ListN.{length, replicate}
 use Rattle.error.specs.Outcome.{Outcome, answer, nothing, refuse}
 use Rattle.error.specs.Lent.{With, with, Left, left, leaving, over}
 use Rattle.error.proofs.TestLaws.{le-or-lt}
-use Rattle.free_space.specs.History.{Which, On, run, begun as begunEmpty, freeByHistory}
+use Rattle.free_lists.specs.Lists.{Which}
+use Rattle.free_lists.specs.History.{On, run, begun as begunEmpty, freeByHistory}
 use Rattle.fsm_sections.specs.declared.FreeSection.{FreeSection}
 use Rattle.fsm_sections.specs.Sections.{decode, flat}
 use Rattle.fsm_sections.specs.Pages.{holding}

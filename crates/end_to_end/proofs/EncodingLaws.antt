@@ -3,7 +3,8 @@ use mathlib.Core.Path.{_≡_, refl, ap₂, _∙_}
 use Prim.Native.Nat.{ℕ, _^_, _<_}
 use mathlib.Core.List.{List, [], _∷_}
 use lib.Dec.{lit<}
-use Rattle.free_space.specs.History.{Call, free, alloc, units, takeRange, takeTrailing, Which, metadata, raw, unclassified, index, On}
+use Rattle.free_lists.specs.History.{Call, free, alloc, units, takeRange, takeTrailing, On}
+use Rattle.free_lists.specs.Lists.{Which, metadata, raw, unclassified, index}
 use Rattle.end_to_end.specs.Encoding.{whichOf, callOf, onsOf, numbersOf, encoded, InWord, Fits, AllFit, Encodes}
 
 which-again : (i : Which) → whichOf (index i) ≡ i

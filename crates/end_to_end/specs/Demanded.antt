@@ -21,7 +21,8 @@ use mathlib.Core.List.{List, [], _∷_, _++_}
 use lib.ListN.{length, replicate}
 use Rattle.error.specs.Outcome.{answer, refuse}
 use Rattle.error.specs.Lent.{with, left, leaving, over}
-use Rattle.free_space.specs.History.{Which, On, run, begun as begunEmpty, freeByHistory}
+use Rattle.free_lists.specs.Lists.{Which}
+use Rattle.free_lists.specs.History.{On, run, begun as begunEmpty, freeByHistory}
 use Rattle.fsm_sections.specs.declared.FreeSection.{FreeSection}
 use Rattle.fsm_sections.specs.Sections.{decode, flat}
 use Rattle.fsm_sections.specs.Pages.{holding}

@@ -16,7 +16,8 @@ use mathlib.Core.Path.{_≡_}
 use mathlib.Core.Bool.{cond}
 use mathlib.Core.List.{List, [], _∷_}
 use lib.Dec.{eqb}
-use Rattle.free_space.specs.History.{Call, free, alloc, units, takeRange, takeTrailing, Which, metadata, raw, unclassified, index, On, Lists, run, begun}
+use Rattle.free_lists.specs.History.{Call, free, alloc, units, takeRange, takeTrailing, On, run, begun}
+use Rattle.free_lists.specs.Lists.{Which, metadata, raw, unclassified, index, Lists}
 
 -- ---- numbers to calls
 

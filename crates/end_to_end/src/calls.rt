@@ -1,8 +1,8 @@
 // List calls in a row on three lists that begin empty, read from a run of numbers.
 ghost use mathlib.Core.Path.{_≡_};
 ghost use Rattle.free_space.specs.Calls.{keptOutcome, givenOutcome, keeping};
-ghost use Rattle.free_space.specs.History.{lst, recordAfter, perform, next};
-ghost use Rattle.save.specs.Saving.{listsOf};
+ghost use Rattle.free_lists.specs.Lists.{lst, listsOf};
+ghost use Rattle.free_lists.specs.History.{recordAfter, perform, next};
 ghost use Rattle.end_to_end.specs.Encoding.{callOf, onOf, afterCalls};
 use free_space::list::FreeList;
 use free_space::list::Given;

@@ -2,8 +2,8 @@
 pub mod calls;
 
 ghost use mathlib.Core.Path.{_≡_};
-ghost use Rattle.free_space.specs.History.{lst};
-ghost use Rattle.save.specs.Saving.{listsOf, begun, beginOutcome};
+ghost use Rattle.free_lists.specs.Lists.{lst, listsOf};
+ghost use Rattle.save.specs.Saving.{begun, beginOutcome};
 ghost use Rattle.image.specs.Answers.{imageOutcome, countsIn};
 ghost use Rattle.end_to_end.specs.Encoding.{onsOf, runsOf, afterCalls};
 ghost use Rattle.end_to_end.specs.Demanded.{Demanded};

@@ -7,7 +7,7 @@ use native.Mathlib.Nat.{le-of-suc-le-suc, not-suc-le-zero, sub-zero, zero-sub, s
 use native.Mathlib.Omega.{arith}
 use lib.Dec.{lit≤}
 use lib.ListN.{length, take, drop, getD, length-append, length-take, length-drop, List·getD-eq-default}
-use lib.Seq.{take-at, drop-at, take-suc, getD-take, getD-drop, length-take-le, take-nil, take-add, take-take, drop-drop, take-append-le, drop-append-le}
+use lib.Seq.{take-at, drop-at, take-suc, getD-take, getD-drop, length-take-le, take-nil, take-take, drop-drop}
 use Rattle.error.specs.Lent.{over}
 use Rattle.error.proofs.TestLaws.{le-or-lt}
 use Rattle.error.proofs.OverLaws.{over-right}
@@ -22,16 +22,6 @@ length-window p n l h = length-take-le n (drop p l) (simp length-drop (omega ari
 
 pub getD-window : (p n : ℕ) (l : List ℕ) (i : ℕ) → i < n → getD (window p n l) i 0 ≡ getD l (p + i) 0
 getD-window p n l i h = getD-take n (drop p l) i 0 h ∙ getD-drop p l i 0
-
-pub window-add : (p m n : ℕ) (l : List ℕ) → window p (m + n) l ≡ window p m l ++ window (p + m) n l
-window-add p m n l = take-add m n (drop p l) ∙ ap (λ (r : List ℕ). window p m l ++ take n r) (drop-drop m p l)
-
--- a window within the first of two runs, and one within the second
-pub window-first : (p n : ℕ) (a b : List ℕ) → p + n ≤ length a → window p n (a ++ b) ≡ window p n a
-window-first p n a b h =
-    let k : p ≤ length a = omega arith in
-    let m : n ≤ length (drop p a) = simp length-drop (omega arith) in
-    rw (drop-append-le p a b k) (take-append-le n (drop p a) b m)
 
 pub window-second : (k p n : ℕ) (a b : List ℕ) → length a ≡ k → window (k + p) n (a ++ b) ≡ window p n b
 window-second k p n a b h = rw (← drop-drop p k (a ++ b), drop-at a b k h)
@@ -52,12 +42,6 @@ window-window i w p n l h =
     ap (take w) (drop-take i n (drop p l) ∙ ap (take (n - i)) (drop-drop i p l)) ∙ take-take w (n - i) (drop (p + i) l) (omega arith)
 
 -- ---- numbers at a place
-
-pub leAt-window : (i w p n : ℕ) (l : List ℕ) → i + w ≤ n → leAt i w (window p n l) ≡ leAt (p + i) w l
-leAt-window i w p n l h = ap leValue (window-window i w p n l h)
-
-pub leAt-first : (p w : ℕ) (a b : List ℕ) → p + w ≤ length a → leAt p w (a ++ b) ≡ leAt p w a
-leAt-first p w a b h = ap leValue (window-first p w a b h)
 
 pub leAt-le : (p w v : ℕ) (a c : List ℕ) → length a ≡ p → v < 256 ^ w → leAt p w (a ++ (leBytes w v ++ c)) ≡ v
 leAt-le p w v a c ha hv = ap leValue (window-at p w a (leBytes w v) c ha (length-le w v)) ∙ read-back w v hv

@@ -3,4 +3,5 @@
 pub mod address;
 pub mod bytes;
 pub mod convert;
+pub mod number;
 pub mod width;

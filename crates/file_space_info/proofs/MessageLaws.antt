@@ -24,9 +24,6 @@ use Rattle.file_space_info.proofs.ReadLaws.{sizes, read-accepts, parsed
 
 -- ---- lengths at sizes 8
 
-pub length-plain : (m : FileSpaceInfo) (addrs : List ℕ) → m .persist ≡ false → length (messageBytes 8 8 m addrs) ≡ 29
-length-plain m addrs e = length-message 8 8 m addrs ∙ rw e
-
 pub length-twelve : (m : FileSpaceInfo) (addrs : List ℕ) → m .persist ≡ true → length addrs ≡ 12 → length (messageBytes 8 8 m addrs) ≡ 125
 length-twelve m addrs e n = length-message 8 8 m addrs ∙ rw (e, n)
 

@@ -13,18 +13,18 @@ use Rattle.error.specs.Outcome.{Outcome, nothing, refused, firstOf}
 use Rattle.error.specs.Lent.{With}
 use Rattle.error.proofs.OutcomeLaws.{first-none, first-holds, first-passes, passes}
 use Rattle.fields.specs.Ranges.{top}
-use Rattle.free_space.specs.declared.region.FreeRegion.{FreeRegion}
+use Rattle.free_regions.specs.declared.FreeRegion.{FreeRegion}
+use Rattle.free_regions.specs.Regions.{region, end, around, spliced, shares, insert, cutAll, Found, at, best}
+use Rattle.free_regions.specs.Units.{interiorStart, interiorSpan}
+use Rattle.free_regions.proofs.ShareLaws.{shares-empty}
 use Rattle.free_space.specs.declared.list.FreeList.{FreeList}
 use Rattle.free_space.specs.declared.decide.Decision.the-variants.{Refused, Nothing}
-use Rattle.free_space.specs.Regions.{region, end, around, spliced, shares, insert, cutAll, Found, at, best}
 use Rattle.free_space.specs.Runs.{regionAt, regions, isList}
-use Rattle.free_space.specs.Units.{interiorStart, interiorSpan}
 use Rattle.free_space.specs.Calls.{Gave, giving, placed, taken, serve, keeping, freedRegions, leftRegions, allocated, allocatedUnits, freed, rangeTaken, trailingTaken}
 use Rattle.free_space.specs.Decisions.{partUnit, ifList, givenBy, keptBy}
 use Rattle.free_space.proofs.DecodeLaws.{decode-at, length-decode}
-use Rattle.free_space.proofs.OkLaws.{listed}
+use Rattle.free_space.proofs.ListLaws.{listed}
 use Rattle.free_space.proofs.SpliceLaws.{kept-same}
-use Rattle.free_space.proofs.InsertLaws.{shares-empty}
 
 -- ---- allocations
 

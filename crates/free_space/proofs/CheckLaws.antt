@@ -8,13 +8,14 @@ use borrow.Author.Tests.{le-leb, lt-ltb, ltb-true, leb-true, eq-eqb, ne-eqb, not
 use lib.ListN.{length, drop}
 use lib.Dec.{leb, ltb, eqb}
 use Rattle.error.proofs.TestLaws.{and-true, true-not-false}
-use Rattle.free_space.specs.declared.region.FreeRegion.{FreeRegion}
+use Rattle.free_regions.specs.declared.FreeRegion.{FreeRegion}
+use Rattle.free_regions.specs.Regions.{end, fitsFrom, okFrom}
+use Rattle.free_regions.proofs.OkLaws.{Fit, fit, fit-back}
 use Rattle.free_space.specs.declared.list.FreeList.{FreeList}
-use Rattle.free_space.specs.Regions.{end, fitsFrom, okFrom}
 use Rattle.free_space.specs.Runs.{regionAt, decode, isList}
 use Rattle.free_space.specs.Splices.{evenRoom}
 use Rattle.free_space.proofs.DecodeLaws.{decode-end}
-use Rattle.free_space.proofs.OkLaws.{Fit, fit, fit-back, ok-turn, ok-stop, region-fits}
+use Rattle.free_space.proofs.ListLaws.{ok-turn, ok-stop, region-fits}
 
 -- two tests that hold together are one
 pub same-test : (a b : Bool) → (a ≡ true → b ≡ true) → (b ≡ true → a ≡ true) → a ≡ b

@@ -8,14 +8,16 @@ use mathlib.Core.Logic.{_⊎_, inl, inr}
 use lib.ListN.{take, drop, take-append-drop}
 use Rattle.error.proofs.TestLaws.{le-or-lt}
 use Rattle.fields.specs.Ranges.{top}
-use Rattle.free_space.specs.declared.region.FreeRegion.{FreeRegion}
+use Rattle.free_regions.specs.declared.FreeRegion.{FreeRegion}
+use Rattle.free_regions.specs.Regions.{end, piece, cut, cutAll, spliced}
+use Rattle.free_regions.proofs.OkLaws.{Within}
+use Rattle.free_regions.proofs.OrderLaws.{keep-prefix}
 use Rattle.free_space.specs.declared.list.FreeList.{FreeList}
-use Rattle.free_space.specs.Regions.{end, piece, cut, cutAll, spliced}
 use Rattle.free_space.specs.Runs.{regionAt, regions, isList}
 use Rattle.free_space.specs.Splices.{Apart}
 use Rattle.free_space.proofs.DecodeLaws.{decode-drop, decode-end}
-use Rattle.free_space.proofs.OkLaws.{Within, listed, region-fits}
-use Rattle.free_space.proofs.OrderLaws.{keep-prefix, rest-within, next-above, later, all-before}
+use Rattle.free_space.proofs.ListLaws.{listed, region-fits}
+use Rattle.free_space.proofs.PlaceLaws.{rest-within, next-above, later, all-before}
 use Rattle.free_space.proofs.SpliceLaws.{piece-none, piece-some}
 
 module _ (a e : ℕ) (h : a ≤ e) where

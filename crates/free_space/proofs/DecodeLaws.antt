@@ -1,16 +1,16 @@
 -- Laws of `decode` and `flat`: a run's pairs as regions, and regions as a run. Assumes nothing.
-use mathlib.Core.Path.{_≡_, refl, sym, ap, ap₂, _∙_, subst}
+use mathlib.Core.Path.{_≡_, refl, sym, ap, ap₂, _∙_}
 use mathlib.Core.List.{List, [], _∷_, _++_, append-assoc}
 use Prim.Native.Nat.{ℕ, zero, suc, _+_, _-_, _*_, _≤_, _<_}
 use native.Mathlib.Nat.{le-of-suc-le-suc, not-suc-le-zero}
 use native.Mathlib.Omega.{arith}
-use lib.ListN.{length, take, drop, getD, set, replicate, length-append, length-drop, drop-of-length-le}
-use lib.Seq.{slice, length-slice, length-take-le, take-take, take-append-le, drop-cons}
+use lib.ListN.{length, take, drop, getD, replicate, length-append, length-drop, drop-of-length-le}
+use lib.Seq.{slice, length-slice, length-take-le, take-take, drop-cons}
 use native.Mathlib.Numerals.{add-one}
-use Rattle.free_space.specs.declared.region.FreeRegion.{FreeRegion}
+use Rattle.free_regions.specs.declared.FreeRegion.{FreeRegion}
 use Rattle.error.specs.Lent.{over}
 use Rattle.error.proofs.OverLaws.{over-left, over-right, over-front}
-use Rattle.free_space.specs.Regions.{region, spliced}
+use Rattle.free_regions.specs.Regions.{region, spliced}
 use Rattle.free_space.specs.Runs.{regionAt, decode, flat, stored}
 
 pub double : (n : ℕ) → 2 * suc n ≡ suc (suc (2 * n))

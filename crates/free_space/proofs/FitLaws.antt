@@ -10,16 +10,16 @@ use borrow.Author.Tests.{le-leb, lt-leb, lt-ltb, le-ltb, leb-true, leb-false}
 use lib.ListN.{length, getD, drop}
 use lib.Dec.{leb, ltb}
 use Rattle.error.proofs.TestLaws.{le-or-lt, and-true}
-use Rattle.free_space.specs.declared.region.FreeRegion.{FreeRegion}
+use Rattle.free_regions.specs.declared.FreeRegion.{FreeRegion}
+use Rattle.free_regions.specs.Regions.{region, Found, none, at, better, best}
 use Rattle.free_space.specs.declared.list.FreeList.{FreeList}
 use Rattle.free_space.specs.declared.fit.Search.{Search}
 use Rattle.free_space.specs.declared.fit.Search.the-variants.{Nothing, At}
 use Rattle.free_space.specs.declared.fit.Best.{Best}
-use Rattle.free_space.specs.Regions.{region, Found, none, at, better, best}
 use Rattle.free_space.specs.Runs.{regionAt, decode, regions, isList}
 use Rattle.free_space.specs.Searches.{oneAt, lower, soFar, answered, Finds}
 use Rattle.free_space.proofs.DecodeLaws.{decode-drop, decode-at, decode-end, length-decode}
-use Rattle.free_space.proofs.OkLaws.{listed}
+use Rattle.free_space.proofs.ListLaws.{listed}
 
 -- ---- what is found lower, and above it
 

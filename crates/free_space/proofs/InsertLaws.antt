@@ -1,53 +1,26 @@
 -- Laws of `shares`, `insert` and `absorb`, from the regions that share a byte with a region. Assumes nothing.
-use mathlib.Core.Path.{_≡_, refl, sym, ap, ap₂, _∙_}
-use mathlib.Core.List.{List, [], _∷_, _++_}
+use mathlib.Core.Path.{_≡_, sym, ap, ap₂, _∙_}
+use mathlib.Core.List.{List, _∷_, _++_}
 use mathlib.Core.Logic.{_⊎_, inl, inr}
-use mathlib.Core.Bool.{Bool, true, false, cond, _||_}
-use Prim.Native.Nat.{ℕ, zero, suc, _+_, _-_, _≤_, _<_, min, max}
-use native.Mathlib.Nat.{not-suc-le-zero, le-of-suc-le-suc}
+use mathlib.Core.Bool.{Bool, true, false, cond}
+use Prim.Native.Nat.{ℕ, suc, _+_, _-_, _≤_, _<_, min, max}
 use native.Mathlib.Omega.{arith}
 use borrow.Author.Tests.{le-leb, lt-leb, lt-ltb, le-ltb}
-use lib.ListN.{length, take, drop, getD}
+use lib.ListN.{take, drop, getD}
 use Rattle.error.proofs.TestLaws.{le-or-lt}
 use Rattle.fields.specs.Ranges.{top}
-use Rattle.free_space.specs.declared.region.FreeRegion.{FreeRegion}
+use Rattle.free_regions.specs.declared.FreeRegion.{FreeRegion}
+use Rattle.free_regions.specs.Regions.{region, end, shares, join, absorb, insert}
+use Rattle.free_regions.proofs.OrderLaws.{keep-prefix}
+use Rattle.free_regions.proofs.ShareLaws.{shares-at, shares-prefix, shares-above}
 use Rattle.free_space.specs.declared.list.FreeList.{FreeList}
-use Rattle.free_space.specs.Regions.{region, end, meets, shares, join, absorb, insert}
 use Rattle.free_space.specs.Runs.{regionAt, regions, isList}
 use Rattle.free_space.specs.Splices.{Apart}
 use Rattle.free_space.proofs.DecodeLaws.{decode-at, decode-drop, decode-end, length-decode}
-use Rattle.free_space.proofs.OkLaws.{Within, listed, region-fits}
-use Rattle.free_space.proofs.OrderLaws.{EndBefore, keep-prefix, rest-within, next-above, later, all-before}
+use Rattle.free_space.proofs.ListLaws.{listed, region-fits}
+use Rattle.free_space.proofs.PlaceLaws.{rest-within, next-above, later, all-before}
 
 -- ---- `shares`
-
-module _ (new : FreeRegion) where
-  shares-in : (k : ℕ) (rs : List FreeRegion) (d : FreeRegion) → k < length rs → meets new (getD rs k d) ≡ true → shares new rs ≡ true
-  shares-in k [] d l e = absurd (not-suc-le-zero l)
-  shares-in zero (r ∷ rs) d l e = rw e
-  shares-in (suc k) (r ∷ rs) d l e = rw (shares-in k rs d (le-of-suc-le-suc l) e) (go (meets new r))
-    where
-      go : (t : Bool) → (t || true) ≡ true
-      go true = refl
-      go false = refl
-
-  shares-prefix : (i : ℕ) (rs : List FreeRegion) → EndBefore (suc (new .addr)) (take i rs) → shares new rs ≡ shares new (drop i rs)
-  shares-prefix zero rs h = refl
-  shares-prefix (suc i) [] h = refl
-  shares-prefix (suc i) (r ∷ rs) h =
-      let below = h .1 in
-      rw (le-ltb (max (new .addr) (r .addr)) (min (end new) (end r)) (omega arith)) (shares-prefix i rs (h .2))
-
-  shares-above : (low high : ℕ) (rs : List FreeRegion) → Within low high rs → end new ≤ low → shares new rs ≡ false
-  shares-above low high [] w h = refl
-  shares-above low high (r ∷ rs) w h =
-      let from = w .2 in
-      rw (le-ltb (max (new .addr) (r .addr)) (min (end new) (end r)) (omega arith)) (shares-above (suc (end r)) high rs (w .3) (omega arith))
-
-  -- an empty region shares no byte
-  pub shares-empty : (rs : List FreeRegion) → new .len ≡ 0 → shares new rs ≡ false
-  shares-empty [] z = refl
-  shares-empty (r ∷ rs) z = rw (le-ltb (max (new .addr) (r .addr)) (min (end new) (end r)) (omega arith)) (shares-empty rs z)
 
 module _ (xs : List ℕ) (l : FreeList) (new : FreeRegion) (some : 0 < new .len) where
   pub shares-some : (lo hi : ℕ) → Apart xs l (new .addr) (end new) lo hi → lo < hi → shares new (regions xs l) ≡ true
@@ -62,7 +35,7 @@ module _ (xs : List ℕ) (l : FreeList) (new : FreeRegion) (some : 0 < new .len)
       let i = apart .high .inside h in
       let p = apart .low .past n in
       let f = region-fits xs l lo ok n in
-      shares-in new lo (regions xs l) (region 0 0) (omega (arith, length-decode (l .count) xs room))
+      shares-at new lo (regions xs l) (region 0 0) (omega (arith, length-decode (l .count) xs room))
       (lt-ltb (max (new .addr) (r .addr)) (min (end new) (end r))
       (omega (arith, ap end e, ap (λ (q : FreeRegion). q .addr) e, s .0, i, p, f .some)))
 

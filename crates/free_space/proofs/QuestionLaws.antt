@@ -4,35 +4,25 @@
 use mathlib.Core.Path.{_≡_, refl, sym, ap, _∙_}
 use mathlib.Core.Bool.{Bool, true, false, _&&_, not}
 use mathlib.Core.List.{List, [], _∷_}
-use mathlib.Core.Logic.{⊎-elim}
-use Prim.Native.Nat.{ℕ, suc, _+_, _-_, _*_, _/_, _%_, _≤_, _<_, max}
+use Prim.Native.Nat.{ℕ, suc, _+_, _*_, _/_, _%_, _≤_, _<_, max}
 use native.Mathlib.Omega.{arith}
-use borrow.Author.Tests.{le-leb, lt-leb, leb-true, eqb-true, not-true, not-false}
-use lib.Dec.{leb, ltb, eqb, leb·zero}
+use borrow.Author.Tests.{leb-true, eqb-true, not-true, not-false}
+use lib.Dec.{leb, eqb}
 use lib.ListN.{length, drop}
-use Rattle.error.specs.declared.Number.{Number}
-use Rattle.error.specs.declared.Number.the-variants as number
-use Rattle.error.specs.declared.Refusal.{Refusal}
 use Rattle.error.specs.declared.Refusal.the-variants.{NotAList}
 use Rattle.error.specs.Outcome.{answer, refused}
-use Rattle.error.specs.Answers.{numberOutcome}
-use Rattle.error.proofs.OutcomeLaws.{refuses, passes, first-answers}
-use Rattle.error.proofs.TestLaws.{le-or-lt, and-true}
-use Rattle.fields.specs.Ranges.{top}
-use Rattle.free_space.specs.declared.region.FreeRegion.{FreeRegion}
-use Rattle.free_space.specs.declared.region.Interior.{Interior}
+use Rattle.error.proofs.OutcomeLaws.{refuses, passes}
+use Rattle.error.proofs.TestLaws.{and-true}
+use Rattle.free_regions.specs.declared.FreeRegion.{FreeRegion}
+use Rattle.free_regions.specs.Regions.{end, fitsFrom, okFrom}
 use Rattle.free_space.specs.declared.list.FreeList.{FreeList}
 use Rattle.free_space.specs.declared.questions.Measure.{Measure}
-use Rattle.free_space.specs.declared.questions.Measure.the-variants.{Units}
-use Rattle.free_space.specs.Regions.{end, fitsFrom, okFrom}
 use Rattle.free_space.specs.Runs.{regionAt, decode, regions, isList}
-use Rattle.free_space.specs.Units.{interior, interiorOutcome}
 use Rattle.free_space.specs.Questions.{greatest}
 use Rattle.free_space.specs.Splices.{evenRoom}
 use Rattle.free_space.specs.Passes.{measureOf, greatestOf}
 use Rattle.free_space.proofs.DecodeLaws.{decode-drop, decode-end}
-use Rattle.free_space.proofs.OkLaws.{fits-long, fits-else, is-list-else}
-use Rattle.free_space.proofs.InteriorLaws.{spanOf, span-of}
+use Rattle.free_space.proofs.ListLaws.{is-list-else}
 
 -- ---- a flag that the code tests by `if !..`, and what its function ensures of it
 
@@ -41,14 +31,6 @@ denied {b} e h = sym e ∙ not-true b h
 
 pub held : {b t : Bool} → b ≡ t → not b ≡ false → t ≡ true
 held {b} e h = sym e ∙ not-false b h
-
--- ---- the measure
-
--- x is the answer for the interior
-pub measured-units : (what : Measure) (r : FreeRegion) (u : ℕ) (o x : Interior) → end r ≤ top → what ≡ Units u → interiorOutcome o ≡ interior u r → o ≡ x
-    → spanOf (interiorOutcome x) ≡ measureOf what r
-measured-units what r u o x fits w a h =
-    sym (ap (λ (o : Interior). spanOf (interiorOutcome o)) h) ∙ ap spanOf a ∙ span-of u r fits ∙ sym (ap (λ (m : Measure). measureOf m r) w)
 
 -- ---- the cases of the pass
 
@@ -141,18 +123,3 @@ module _ (what : Measure) (xs : List ℕ) (list : FreeList) where
   pass-end i {e} {m} p k =
       let z : drop i (regions xs list) ≡ [] = decode-end (list .count) i xs k (p .room .fits) in
       whole what xs list (p .room) m (sym (p .ok) ∙ ap (okFrom (suc e)) z) (omega (arith, p .most, ap (greatest (measureOf what)) z))
-
--- ---- what the answer tells of the list
-
-module _ (what : Measure) (xs : List ℕ) (l : FreeList) {o : Number} (a : numberOutcome o ≡ greatestOf what xs l) where
-  pub asked-is : (n : ℕ) → o ≡ number.Is n → true ≡ isList xs l
-  asked-is n h = sym (not-false (isList xs l) (first-answers _ _ n (sym a ∙ ap numberOutcome h) .0 .0))
-
-  pub asked-not : (x : Refusal) → o ≡ number.Refused x → false ≡ isList xs l
-  asked-not x h = go (isList xs l) refl
-    where
-      go : (t : Bool) → isList xs l ≡ t → false ≡ t
-      go true e =
-          let p : answer (greatest (measureOf what) (regions xs l)) ≡ refused x = passes _ _ _ (ap not e) ∙ sym a ∙ ap numberOutcome h in
-          let z : _≡_ {A = ℕ} 0 1 = cc in absurd (omega arith)
-      go false e = refl

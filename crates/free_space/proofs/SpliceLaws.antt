@@ -13,17 +13,17 @@ use Rattle.error.specs.Outcome.{answer, refused}
 use Rattle.error.specs.Lent.{with, over}
 use Rattle.error.proofs.OverLaws.{over-nil, over-front}
 use Rattle.error.proofs.OutcomeLaws.{refuses, passes}
-use Rattle.free_space.specs.declared.region.FreeRegion.{FreeRegion}
+use Rattle.free_regions.specs.declared.FreeRegion.{FreeRegion}
+use Rattle.free_regions.specs.Regions.{region, piece, spliced}
 use Rattle.free_space.specs.declared.list.FreeList.{FreeList}
 use Rattle.free_space.specs.declared.run.Patch.{Patch}
 use Rattle.free_space.specs.declared.decide.Decision.the-variants.{Refused, Nothing, Change}
-use Rattle.free_space.specs.Regions.{region, piece, spliced}
 use Rattle.free_space.specs.Runs.{capacity, recordOf, decode, flat, regions, isList, stored}
 use Rattle.free_space.specs.Calls.{placed, giving, keeping}
 use Rattle.free_space.specs.Splices.{patch}
 use Rattle.free_space.specs.Decisions.{fitted, leave, givenBy, keptBy}
 use Rattle.free_space.proofs.DecodeLaws.{length-flat, flat-decode, length-decode, length-spliced}
-use Rattle.free_space.proofs.OkLaws.{listed}
+use Rattle.free_space.proofs.ListLaws.{listed}
 
 pub over-same : (i e : ℕ) (xs : List ℕ) → over i (slice i e xs) xs ≡ xs
 over-same i e [] = refl

@@ -6,6 +6,11 @@
 --   overflows     refusal 4: address plus length exceeds 2^64 - 1
 --   noRoom        refusal 14: the regions are more than the run's capacity
 --   placed        the outcome of a call that leaves these regions
+--   keeping, giving   the record alone; the record with an address given out
+--   freedRegions, leftRegions   the regions after `free`; after `take_range`
+--   taken         the regions after an allocation from the region at a place
+--   serve         the outcome of an allocation, by the region that was found
+--   lastEndsAt    the last region ends at the end of file
 --   freed, allocated, allocatedUnits, rangeTaken, trailingTaken   `free`, `alloc`, `alloc_whole_units`, `take_range`, `take_trailing`
 use Prim.Native.Nat.{ℕ, suc, _+_, _-_, _%_}
 use mathlib.Core.Bool.{cond, _&&_, not, Bool}
@@ -16,15 +21,15 @@ use Rattle.error.specs.declared.Refusal.the-variants.{NotAList, Overflow, Share
 use Rattle.error.specs.Outcome.{Outcome, answer, nothing, refused, Condition, when, firstOf}
 use Rattle.error.specs.Lent.{With, with}
 use Rattle.fields.specs.Ranges.{top}
-use Rattle.free_space.specs.declared.region.FreeRegion.{FreeRegion}
+use Rattle.free_regions.specs.declared.FreeRegion.{FreeRegion}
+use Rattle.free_regions.specs.Regions.{region, end, shares, insert, cutAll, around, spliced, Found, none, at, best}
+use Rattle.free_regions.specs.Units.{interiorStart, interiorSpan}
 use Rattle.free_space.specs.declared.list.FreeList.{FreeList}
 use Rattle.free_space.specs.declared.list.Kept.{Kept}
 use Rattle.free_space.specs.declared.list.Kept.the-variants as kept
 use Rattle.free_space.specs.declared.list.Given.{Given}
 use Rattle.free_space.specs.declared.list.Given.the-variants as given
-use Rattle.free_space.specs.Regions.{region, end, shares, insert, cutAll, around, spliced, Found, none, at, best}
 use Rattle.free_space.specs.Runs.{capacity, recordOf, regions, isList, stored}
-use Rattle.free_space.specs.Units.{interiorStart, interiorSpan}
 
 pub record Gave : Type 0 where
   pub addr : ℕ

@@ -2,6 +2,7 @@
 --   fitted     a change, where the run has room for the regions that it leaves; else refusal 14
 --   partUnit   a length that is no multiple of its nonzero unit
 --   ifList     a decision, or refusal 3 where the test for it fails
+--   leave      the outcome of a call that leaves these regions
 --   givenBy    the outcome of a decision, for a call that gives an address out
 --   keptBy     the same for one that gives nothing out
 --   Apt        a decision that can be carried out
@@ -16,12 +17,12 @@ use lib.ListN.{length}
 use Rattle.error.specs.declared.Refusal.the-variants.{NotAList, OverCapacity}
 use Rattle.error.specs.Outcome.{Outcome, answer, nothing, refused}
 use Rattle.error.specs.Lent.{With, with}
-use Rattle.free_space.specs.declared.region.FreeRegion.{FreeRegion}
+use Rattle.free_regions.specs.declared.FreeRegion.{FreeRegion}
+use Rattle.free_regions.specs.Regions.{spliced}
 use Rattle.free_space.specs.declared.list.FreeList.{FreeList}
 use Rattle.free_space.specs.declared.run.Patch.{Patch}
 use Rattle.free_space.specs.declared.decide.Decision.{Decision}
 use Rattle.free_space.specs.declared.decide.Decision.the-variants.{Refused, Nothing, Change}
-use Rattle.free_space.specs.Regions.{spliced}
 use Rattle.free_space.specs.Runs.{recordOf, regions, stored}
 use Rattle.free_space.specs.Calls.{Gave, giving, keeping}
 use Rattle.free_space.specs.Splices.{patch}

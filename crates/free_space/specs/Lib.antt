@@ -1,9 +1,6 @@
-pub mod Regions
 pub mod Runs
-pub mod Units
 pub mod Calls
 pub mod Questions
-pub mod History
 pub mod Decisions
 pub mod Passes
 pub mod Searches

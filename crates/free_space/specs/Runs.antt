@@ -13,9 +13,9 @@ use mathlib.Core.List.{List, [], _∷_, _++_}
 use lib.Dec.{leb, eqb}
 use lib.ListN.{length, getD, replicate}
 use Rattle.error.specs.Lent.{over}
-use Rattle.free_space.specs.declared.region.FreeRegion.{FreeRegion}
+use Rattle.free_regions.specs.declared.FreeRegion.{FreeRegion}
+use Rattle.free_regions.specs.Regions.{region, okFrom}
 use Rattle.free_space.specs.declared.list.FreeList.{FreeList}
-use Rattle.free_space.specs.Regions.{region, okFrom}
 
 abbrev pub capacity : List ℕ → ℕ
 capacity xs = length xs / 2

@@ -11,12 +11,12 @@ use mathlib.Core.Bool.{true, false, cond}
 use mathlib.Core.List.{List}
 use lib.Dec.{leb, ltb}
 use lib.ListN.{length}
-use Rattle.free_space.specs.declared.region.FreeRegion.{FreeRegion}
+use Rattle.free_regions.specs.declared.FreeRegion.{FreeRegion}
+use Rattle.free_regions.specs.Regions.{Found, none, at, best}
 use Rattle.free_space.specs.declared.list.FreeList.{FreeList}
 use Rattle.free_space.specs.declared.fit.Search.{Search}
 use Rattle.free_space.specs.declared.fit.Search.the-variants.{Bad, Nothing, At}
 use Rattle.free_space.specs.declared.fit.Best.{Best}
-use Rattle.free_space.specs.Regions.{Found, none, at, best}
 use Rattle.free_space.specs.Runs.{regionAt, regions, isList}
 
 abbrev pub oneAt : ℕ → ℕ → ℕ → Found

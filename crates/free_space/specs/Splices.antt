@@ -14,7 +14,8 @@ use mathlib.Core.List.{List, [], _∷_}
 use lib.Dec.{leb, eqb}
 use lib.ListN.{length, drop}
 use Rattle.fields.specs.Ranges.{top}
-use Rattle.free_space.specs.declared.region.FreeRegion.{FreeRegion}
+use Rattle.free_regions.specs.declared.FreeRegion.{FreeRegion}
+use Rattle.free_regions.specs.Regions.{end, okFrom}
 use Rattle.free_space.specs.declared.list.FreeList.{FreeList}
 use Rattle.free_space.specs.declared.check.Head.{Head}
 use Rattle.free_space.specs.declared.check.Head.the-variants as head
@@ -22,7 +23,6 @@ use Rattle.free_space.specs.declared.meet.Meet.{Meet}
 use Rattle.free_space.specs.declared.meet.Meet.the-variants as meet
 use Rattle.free_space.specs.declared.run.Patch.{Patch}
 use Rattle.free_space.specs.declared.run.Patch.the-variants.{Empty, One, Two}
-use Rattle.free_space.specs.Regions.{end, okFrom}
 use Rattle.free_space.specs.Runs.{regionAt, regions, isList}
 
 abbrev pub evenRoom : ℕ → ℕ → Bool

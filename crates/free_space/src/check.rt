@@ -3,12 +3,12 @@ ghost use mathlib.Core.Path.{_≡_};
 ghost use mathlib.Core.Bool.{true};
 ghost use Prim.Native.Nat.{suc, _*_, _≤_};
 ghost use lib.ListN.{length, drop};
-ghost use Rattle.free_space.specs.Regions.{fitsFrom, okFrom};
+ghost use Rattle.free_regions.specs.Regions.{fitsFrom, okFrom};
 ghost use Rattle.free_space.specs.Runs.{decode, isList};
 ghost use Rattle.free_space.specs.Splices.{evenRoom, Begins};
 use crate::list::FreeList;
-use crate::region::FreeRegion;
 use crate::run::region_at;
+use free_regions::FreeRegion;
 
 // Whether a run is of pairs and has room for `count` of them.
 pub(crate) fn has_room(len: usize, count: usize) -> bool
@@ -81,7 +81,7 @@ pub(crate) fn first_region(run: &[u64], list: FreeList) -> Head
 }
 
 // Whether a run and a record are a list.
-pub(crate) fn is_list(run: &[u64], list: FreeList) -> bool
+pub fn is_list(run: &[u64], list: FreeList) -> bool
     ensures { λ b. ⌜ b ≡ isList (now (run .entry)) list ⌝ }
 {
     let h = first_region(run, list);

@@ -4,9 +4,9 @@ ghost use mathlib.Core.Bool.{true};
 ghost use mathlib.Core.List.{_++_};
 ghost use Prim.Native.Nat.{_+_, _-_, _*_, _<_, _≤_};
 ghost use lib.ListN.{length};
-ghost use Rattle.free_space.specs.Regions.{end, piece, cutAll};
+ghost use Rattle.free_regions.specs.Regions.{end, piece, cutAll};
+ghost use Rattle.free_regions.specs.Units.{interiorStart, interiorSpan};
 ghost use Rattle.free_space.specs.Runs.{capacity, regionAt, regions, isList};
-ghost use Rattle.free_space.specs.Units.{interiorStart, interiorSpan};
 ghost use Rattle.free_space.specs.Calls.{placed, keeping, giving, taken, allocated, allocatedUnits, freed, rangeTaken, trailingTaken};
 ghost use Rattle.free_space.specs.Splices.{Apart, patch};
 ghost use Rattle.free_space.specs.Decisions.{fitted, partUnit, ifList, Apt, Gives, Keeps};
@@ -17,13 +17,13 @@ use crate::join::put_between;
 use crate::list::FreeList;
 use crate::meet::Meet;
 use crate::meet::meeting;
-use crate::region::FreeRegion;
 use crate::run::Patch;
 use crate::run::patch_len;
 use crate::run::region_at;
 use crate::units::best_units;
 use crate::units::whole_units;
 use error::Refusal;
+use free_regions::FreeRegion;
 
 // What is known before anything changes. The calls carry it out, or several of them together.
 pub(crate) enum Decision {

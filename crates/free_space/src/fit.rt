@@ -7,8 +7,8 @@ use crate::check::Head;
 use crate::check::first_region;
 use crate::check::follows;
 use crate::list::FreeList;
-use crate::region::FreeRegion;
 use crate::run::region_at;
+use free_regions::FreeRegion;
 
 // How a pass ends: no list, no region that suffices, or the place of the one that serves.
 pub(crate) enum Search {

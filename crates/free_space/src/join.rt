@@ -5,7 +5,7 @@ ghost use mathlib.Core.List.{_∷_, _++_};
 ghost use Prim.Native.Nat.{_≤_, _<_};
 ghost use lib.ListN.{take, drop};
 ghost use Rattle.fields.specs.Ranges.{top};
-ghost use Rattle.free_space.specs.Regions.{end, absorb, insert};
+ghost use Rattle.free_regions.specs.Regions.{end, absorb, insert};
 ghost use Rattle.free_space.specs.Runs.{regionAt, regions, isList};
 ghost use Rattle.free_space.specs.Calls.{placed, keeping};
 ghost use Rattle.free_space.specs.Splices.{Apart};
@@ -13,9 +13,9 @@ ghost use Rattle.free_space.specs.Decisions.{Keeps};
 use crate::decide::Decision;
 use crate::decide::change;
 use crate::list::FreeList;
-use crate::region::FreeRegion;
 use crate::run::Patch;
 use crate::run::region_at;
+use free_regions::FreeRegion;
 
 // A region with those that it touches on one side, and the place to which it then reaches.
 pub(crate) struct Joined {

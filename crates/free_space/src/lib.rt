@@ -1,11 +1,10 @@
 // The free list of free_space.rs over lent memory: a run of pairs, address then length, and a record with their count.
-mod check;
+pub mod check;
 mod decide;
 mod fit;
 mod join;
 pub mod list;
 mod meet;
 pub mod questions;
-pub mod region;
 mod run;
 mod units;

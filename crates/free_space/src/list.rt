@@ -5,7 +5,7 @@ ghost use Prim.Native.Nat.{_+_, _-_, _*_, _≤_};
 ghost use lib.Dec.{eqb};
 ghost use lib.ListN.{length};
 ghost use Rattle.error.specs.Lent.{left, leaving};
-ghost use Rattle.free_space.specs.Regions.{spliced};
+ghost use Rattle.free_regions.specs.Regions.{spliced};
 ghost use Rattle.free_space.specs.Runs.{recordOf, regions, stored};
 ghost use Rattle.free_space.specs.Calls.{keptOutcome, givenOutcome, freed, allocated, allocatedUnits, rangeTaken, trailingTaken};
 ghost use Rattle.free_space.specs.Splices.{patch};

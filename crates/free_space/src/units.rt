@@ -1,9 +1,9 @@
 // The whole units inside a region that ends within 64 bits, and the pass for the least of them that suffice.
 ghost use mathlib.Core.Path.{_≡_};
-ghost use Prim.Native.Nat.{_+_, _≤_, _<_};
-ghost use Rattle.fields.specs.Ranges.{top, firstMultiple};
-ghost use Rattle.free_space.specs.Regions.{end};
-ghost use Rattle.free_space.specs.Units.{interiorStart, interiorSpan};
+ghost use Prim.Native.Nat.{_≤_, _<_};
+ghost use Rattle.fields.specs.Ranges.{top};
+ghost use Rattle.free_regions.specs.Regions.{end};
+ghost use Rattle.free_regions.specs.Units.{interiorStart, interiorSpan};
 ghost use Rattle.free_space.specs.Splices.{Stands};
 ghost use Rattle.free_space.specs.Searches.{Finds};
 use crate::check::Head;
@@ -14,8 +14,9 @@ use crate::fit::better_of;
 use crate::fit::found;
 use crate::fit::none_yet;
 use crate::list::FreeList;
-use crate::region::FreeRegion;
 use crate::run::region_at;
+use free_regions::FreeRegion;
+use free_regions::Interior;
 
 // Where the whole units begin, and how many bytes they have. Where there are none, the start says nothing.
 pub(crate) struct WholeUnits {
@@ -23,36 +24,18 @@ pub(crate) struct WholeUnits {
     pub(crate) span: u64,
 }
 
-// The bytes from `addr` to the first multiple of the unit at or after it.
-fn pad_to(addr: u64, unit: u64) -> u64
-    requires { ⌜ 0 < unit ⌝ }
-    ensures { λ r. ⌜ addr + r ≡ firstMultiple addr unit ⌝ }
-{
-    let part = addr % unit;
-    if part == 0 { 0 } else { unit - part }
-}
-
 pub(crate) fn whole_units(r: FreeRegion, unit: u64) -> WholeUnits
     requires { ⌜ end r ≤ top ⌝ }
     ensures { λ w. ⌜ (w .span ≡ interiorSpan unit r) × (0 < w .span → w .start ≡ interiorStart unit r) ⌝ }
 {
-    let none = WholeUnits { start: 0, span: 0 };
-    if unit == 0 {
-        return none;
-    }
-    let pad = pad_to(r.addr, unit);
-    if r.len <= pad {
-        return none;
-    }
-    let start = r.addr + pad;
-    let end = r.addr + r.len;
-    let stop = end - end % unit;
-    if stop <= start {
-        return none;
-    }
-    WholeUnits {
-        start: start,
-        span: stop - start,
+    let inside = r.aligned_interior(unit);
+    match inside {
+        Interior::Whole { start, span } => WholeUnits {
+            start: start,
+            span: span,
+        },
+        Interior::Nothing => WholeUnits { start: 0, span: 0 },
+        Interior::Refused(_) => WholeUnits { start: 0, span: 0 },
     }
 }
 

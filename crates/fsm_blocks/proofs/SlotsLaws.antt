@@ -92,16 +92,6 @@ module _ (O base slot : ℕ) (bytes : List ℕ) where
 pub inside-at : (len : ℕ) (found : Named) (start : ℕ) (h : FsmHeader) → Inside len found → found ≡ At start h → start + h .«fsse_used» ≤ len
 inside-at len found start h i e = subst (Inside len) e i
 
--- ---- `sum_of`
-
-pub sum-over : (a b : ℕ) → 2 ^ 64 - 1 - a < b → a ≤ 2 ^ 64 - 1 → 2 ^ 64 - 1 ≡ sat (a + b)
-unfolding sat
-sum-over a b h l = omega arith
-
-pub sum-under : (a b : ℕ) → b ≤ 2 ^ 64 - 1 - a → a ≤ 2 ^ 64 - 1 → a + b ≡ sat (a + b)
-unfolding sat
-sum-under a b h l = omega arith
-
 sat-few : (n : ℕ) → sat n < 2 ^ 64
 unfolding sat
 sat-few n = omega arith

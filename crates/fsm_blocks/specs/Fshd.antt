@@ -8,6 +8,7 @@
 --   signed       bytes begin with a signature of four
 --   headerAt     the header that stands in bytes, signature and checksum aside
 --   taken        the six fields that the Rust keeps of a header
+--   parseFshd    the reading behind the test of the offset size
 --   parsedFshd   `FsmHeader::parse`: refusals 1, 7, 10
 use Prim.Native.Nat.{ℕ, _+_}
 use mathlib.Core.Bool.{Bool, _&&_, not}

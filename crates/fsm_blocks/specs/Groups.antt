@@ -3,8 +3,10 @@
 --   Widths        the bytes that a group's count, its size and an address take
 --   entryBytes    addresses with the class byte behind each
 --   groupBytes    groups: count, size, entries
+--   entrySize, headSize   how many bytes an entry takes; a count with its size
 --   Entries       the addresses of some entries, how many sections are still to come, and the bytes left
 --   readEntries   c entries where `left` sections are still to come: an entry that passes the payload or is beyond the total is refused
+--   readMore      the sections of a group before those read behind it
 --   readGroups    groups until `left` sections are read; zero-count groups are allowed, bytes left over are not looked at
 --   parseGroups   the sections of a payload
 --   SectionFits   a section's numbers fit the widths

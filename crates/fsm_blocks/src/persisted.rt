@@ -5,7 +5,6 @@ ghost use Prim.Native.Nat.{ℕ, _+_, _*_, _≤_};
 ghost use lib.ListN.{length};
 ghost use Rattle.error.specs.Answers.{numberOutcome};
 ghost use Rattle.error.specs.Lent.{left, leaving, over};
-ghost use Rattle.error.specs.Outcome.{sat};
 ghost use Rattle.fields.specs.Width.{validWidth};
 ghost use Rattle.fsm_sections.specs.Sections.{flat};
 ghost use Rattle.fsm_blocks.specs.Answers.{sectionsOutcome};
@@ -21,6 +20,7 @@ use crate::header::HeaderAnswer;
 use error::Number;
 use error::Refusal;
 use fields::address::BaseAddress;
+use fields::number::sum_of;
 use fields::width::is_width;
 
 // Where a manager's section list stands, with the header that names it.
@@ -104,16 +104,6 @@ pub fn manager_count(bytes: &[u8], slot: u64, base: BaseAddress, offset_size: u8
             fsse_count(&bytes[first..end], header, offset_size)
         }
     }
-}
-
-// The sum of two counts, at most 2^64 - 1.
-fn sum_of(a: u64, b: u64) -> u64
-    ensures { λ r. ⌜ r ≡ sat (a + b) ⌝ }
-{
-    if 18446744073709551615 - a < b {
-        return 18446744073709551615;
-    }
-    a + b
 }
 
 // How many sections all managers have, at most 2^64 - 1.

@@ -1,14 +1,5 @@
 pub mod RunLaws
+pub mod ShiftLaws
 pub mod PieceLaws
 pub mod SplitLaws
-pub mod AddrLaws
-pub mod NextLaws
-pub mod SharingLaws
-pub mod OrderLaws
-pub mod SmallLaws
-pub mod LargeLaws
-pub mod AllPiecesLaws
-pub mod LengthLaws
-pub mod PlanLaws
-pub mod PlannedLaws
 pub mod Cases

@@ -1,14 +1,13 @@
 -- How many pieces a section has, and how they are put one by one. Assumes nothing.
 use mathlib.Core.Path.{_≡_, refl, sym, ap, ap₂, _∙_}
 use mathlib.Core.Logic.{⊎-elim}
-use Prim.Native.Nat.{ℕ, zero, suc, _+_, _-_, _*_, _/_, _%_, _^_, min, _≤_, _<_}
-use native.Mathlib.Nat.{mod-lt, div-add-mod', div-le-self, le-div-iff-mul-le, div-lt-iff-lt-mul, div-mul-le-self, mul-div-cancel}
+use Prim.Native.Nat.{ℕ, zero, suc, _+_, _-_, _*_, _/_, _%_, min, _≤_, _<_}
+use native.Mathlib.Nat.{mod-lt, mul-mod-left, div-add-mod', div-eq-of-lt, mul-add-div-right, le-div-iff-mul-le, div-lt-iff-lt-mul, div-mul-le-self, mul-div-cancel}
 use native.Mathlib.Omega.{arith}
-use mathlib.Core.Bool.{true, false}
 use mathlib.Core.List.{List, [], _∷_}
 use lib.ListN.{length}
 use Rattle.error.specs.Lent.{over}
-use Rattle.error.proofs.OverLaws.{length-over, over-nil, over-right, store-pair}
+use Rattle.error.proofs.OverLaws.{length-over, over-nil, over-right}
 use Rattle.fsm_sections.specs.declared.FreeSection.{FreeSection}
 use Rattle.fsm_sections.specs.Sections.{section, flat}
 use Rattle.fsm_sections.specs.Pages.{pageEnd, cutAt, piecesFrom, pieces}
@@ -47,20 +46,42 @@ count-from (suc fuel) page a e p h l =
         let n : (e - 1) / page < suc (a / page) = div-lt-iff-lt-mul {k = page} {x = e - 1} {y = suc (a / page)} p .1 (omega arith) in
         omega arith
 
+-- how many pieces come behind the first
+abbrev pub behind : ℕ → ℕ → ℕ → ℕ
+behind page addr size = length (pieces page (section addr size)) - 1
+
 module _ (page addr size : ℕ) (p : 0 < page) where
-  pub count-none : size ≡ 0 → 0 ≡ length (pieces page (section addr size))
+  empty : size ≡ 0 → length (pieces page (section addr size)) ≡ 0
   unfolding pieces
-  count-none z = sym (ap length (pieces-none size page addr (addr + size) (omega arith)))
+  empty z = ap length (pieces-none size page addr (addr + size) (omega arith))
 
-  module _ (some : size ≡ 0 → ⊥) where
-    pub count-some : (addr + (size - 1)) / page - addr / page + 1 ≡ length (pieces page (section addr size))
-    unfolding pieces
-    count-some =
-        let e : addr + size - 1 ≡ addr + (size - 1) = omega arith in
-        sym (count-from size page addr (addr + size) p (omega arith) (omega arith) ∙ ap (λ (x : ℕ). x / page - addr / page + 1) e)
+  -- one for each page that is touched
+  some : (size ≡ 0 → ⊥) → length (pieces page (section addr size)) ≡ (addr + (size - 1)) / page - addr / page + 1
+  unfolding pieces
+  some h =
+      let e : addr + size - 1 ≡ addr + (size - 1) = omega arith in
+      count-from size page addr (addr + size) p (omega arith) (omega arith) ∙ ap (λ (x : ℕ). x / page - addr / page + 1) e
 
-    pub first-page : addr / page ≤ (addr + (size - 1)) / page
-    first-page = div-mono addr (addr + (size - 1)) page p (omega arith)
+  pub pieces-number : length (pieces page (section addr size)) ≡ min size 1 + behind page addr size
+  pieces-number = ⊎-elim (λ (x : 0 < size). omega (arith, some (λ e. omega arith))) (λ (x : size ≤ 0). omega (arith, empty (omega arith))) (below-or-not 0 size)
+
+  pub behind-none : size ≤ page - addr % page → behind page addr size ≡ 0
+  behind-none h = ⊎-elim one (λ (x : size ≤ 0). omega (arith, empty (omega arith))) (below-or-not 0 size)
+    where
+      one : 0 < size → behind page addr size ≡ 0
+      one x =
+          let e : addr + (size - 1) ≡ addr / page * page + (addr % page + (size - 1)) = omega (arith, div-add-mod' addr page) in
+          let z : (addr % page + (size - 1)) / page ≡ 0 = div-eq-of-lt (omega (arith, mod-lt addr p)) in
+          let q : (addr + (size - 1)) / page ≡ addr / page + (addr % page + (size - 1)) / page = ap (λ (n : ℕ). n / page) e ∙ mul-add-div-right p (addr / page) (addr % page + (size - 1)) in
+          omega (arith, some (λ e. omega arith))
+
+  -- those behind the first page multiple
+  pub behind-some : page - addr % page < size → behind page addr size ≡ 1 + (size - (page - addr % page) - 1) / page
+  behind-some h =
+      let d = size - (page - addr % page) - 1 in
+      let e : addr + (size - 1) ≡ (addr / page + 1) * page + d = omega (arith, div-add-mod' addr page, mod-lt addr p) in
+      let q : (addr + (size - 1)) / page ≡ addr / page + 1 + d / page = ap (λ (n : ℕ). n / page) e ∙ mul-add-div-right p (addr / page + 1) d in
+      omega (arith, some (λ e. omega arith))
 
 -- ---- a piece is put
 
@@ -169,3 +190,53 @@ module _ (page addr end from : ℕ) (out₀ : List ℕ) (p : 0 < page) (room : f
 
       pub cut-place : k ≡ from + 2 * length (left page addr end)
       cut-place = let z : length (left page a end) ≡ 0 = ap length none in omega (arith, now .number)
+
+-- the same, with what is left of the section and the room up to the next page multiple
+pub record Walking (page addr end from : ℕ) (out₀ out : List ℕ) (a rest room k : ℕ) : Type 0 where
+  pub cut : Cutting page addr end from out₀ out a k
+  pub ends : a + rest ≡ end
+  pub next : room ≡ page - a % page
+
+module _ (page addr size from : ℕ) (out₀ : List ℕ) (p : 0 < page) (room₀ : from + 2 * length (pieces page (section addr size)) ≤ length out₀) where
+  enough-room : from + 2 * length (left page addr (addr + size)) ≤ length out₀
+  enough-room = omega (arith, ap length (left-all page addr size))
+
+  -- all of them are put
+  abbrev Done : List ℕ → ℕ → Type 0
+  Done out j = (out ≡ over from (flat (pieces page (section addr size))) out₀) × (j ≡ from + 2 * length (pieces page (section addr size)))
+
+  finished : (out : List ℕ) (j b : ℕ) → Cutting page addr (addr + size) from out₀ out b j → addr + size ≤ b → Done out j
+  finished out j b w h =
+      let e = left-all page addr size in (
+        cut-end page addr (addr + size) from out₀ p enough-room out b j w h ∙ ap (λ (m : List FreeSection). over from (flat m) out₀) e,
+        cut-place page addr (addr + size) from out₀ p enough-room out b j w h ∙ ap (λ (m : List FreeSection). from + 2 * length m) e,
+      )
+
+  pub walk-start : (room : ℕ) → room ≡ page - addr % page → Walking page addr (addr + size) from out₀ out₀ addr size room from
+  walk-start room e = record { cut = cut-start page addr (addr + size) from out₀ p enough-room (omega arith); ends = refl; next = e }
+
+  module _ (out : List ℕ) (a rest room k : ℕ) (now : Walking page addr (addr + size) from out₀ out a rest room k) where
+    pub room-some : 0 < room
+    room-some = omega (arith, now .next, mod-lt a p)
+
+    pub walk-room : 0 < rest → k + 2 ≤ length out
+    walk-room h = cut-room page addr (addr + size) from out₀ p enough-room out a k (now .cut) (omega (arith, now .ends))
+
+    at-multiple : (a + room) % page ≡ 0
+    at-multiple = ap (λ (n : ℕ). n % page) (ap (λ (n : ℕ). a + n) (now .next) ∙ sym (page-end-at page a p)) ∙ mul-mod-left (suc (a / page)) page
+
+    pub walk-step : room < rest → (out′ : List ℕ) → out′ ≡ over k (a ∷ room ∷ []) out → Walking page addr (addr + size) from out₀ out′ (a + room) (rest - room) page (k + 2)
+    walk-step h out′ o = record {
+      cut = cut-step page addr (addr + size) from out₀ p enough-room out a k (now .cut) (omega (arith, now .ends)) room (omega (arith, now .ends, now .next)) out′ o;
+      ends = omega (arith, now .ends);
+      next = omega (arith, at-multiple);
+    }
+
+    pub walk-none : rest ≡ 0 → Done out k
+    walk-none h = finished out k a (now .cut) (omega (arith, now .ends))
+
+    pub walk-last : rest ≤ room → (rest ≡ 0 → ⊥) → (out′ : List ℕ) → out′ ≡ over k (a ∷ rest ∷ []) out → Done out′ (k + 2)
+    walk-last h s out′ o =
+        finished out′ (k + 2) (a + rest)
+        (cut-step page addr (addr + size) from out₀ p enough-room out a k (now .cut) (omega (arith, now .ends)) rest (omega (arith, now .ends, now .next)) out′ o)
+        (omega (arith, now .ends))

@@ -3,16 +3,15 @@ use mathlib.Core.Path.{_≡_, refl, sym, ap, _∙_}
 use Prim.Native.Nat.{ℕ, _+_, _-_, _*_, _/_, _%_, _^_, _≤_, _<_}
 use native.Mathlib.Numerals.{add-one}
 use native.Mathlib.Omega.{arith}
-use mathlib.Core.Bool.{Bool, true, false, cond, _&&_, _||_, not}
+use mathlib.Core.Bool.{Bool, true, false, _&&_, not}
 use mathlib.Core.List.{List, [], _∷_}
 use lib.Dec.{leb, ltb, eqb}
 use lib.ListN.{length, drop, drop-of-length-le}
 use lib.Seq.{drop-cons}
-use borrow.Author.Tests.{ltb-false, eqb-true, leb-true, lt-ltb, le-ltb, eq-eqb, ne-eqb}
+use borrow.Author.Tests.{ltb-false, leb-true, lt-ltb, le-ltb, eq-eqb, ne-eqb}
 use Rattle.error.proofs.TestLaws.{and-true, or-false}
 use Rattle.fields.specs.Ranges.{top}
-use Rattle.fsm_sections.specs.declared.FreeSection.{FreeSection}
-use Rattle.fsm_sections.specs.Sections.{section, decode, All}
+use Rattle.fsm_sections.specs.Sections.{section, decode}
 use Rattle.fsm_sections.specs.Pages.{end}
 use Rattle.fsm_sections.proofs.SourceLaws.{pairAt, length-decode, decode-at}
 use Rattle.fsm_pages.specs.Split.{isEven, isRun, endsAbove}

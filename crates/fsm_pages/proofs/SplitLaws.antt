@@ -7,30 +7,35 @@ use mathlib.Core.List.{List, [], _∷_, _++_}
 use lib.Dec.{ltb, eqb}
 use lib.ListN.{length, length-append, drop}
 use borrow.Author.Tests.{lt-ltb, le-ltb, eq-eqb, ne-eqb}
+use Rattle.error.specs.declared.Refusal.{Refusal}
 use Rattle.error.specs.declared.Refusal.the-variants.{Page, NotAList, Overflow, OverCapacity}
 use Rattle.error.specs.Outcome.{answer, refused, when, firstOf, sat}
 use Rattle.error.specs.Lent.{left, leaving, over}
+use Rattle.error.proofs.OutcomeLaws.{NoneHolds, first-answers, first-refuses, first-pass, refuses, passes}
 use Rattle.error.proofs.OverLaws.{length-over, over-nil}
+use Rattle.fields.specs.Ranges.{top}
 use Rattle.fsm_sections.specs.declared.FreeSection.{FreeSection}
 use Rattle.fsm_sections.specs.Sections.{decode, flat}
 use Rattle.fsm_sections.specs.Pages.{pieces, split}
 use Rattle.fsm_sections.proofs.SourceLaws.{pairAt}
 use Rattle.fsm_blocks.specs.Reading.{intoRun}
 use Rattle.fsm_blocks.proofs.PutLaws.{over-flat}
-use Rattle.fsm_pages.specs.Split.{isRun, isEven, endsAbove, splitInto}
-use Rattle.fsm_pages.proofs.RunLaws.{opens, ended, fits-at}
+use Rattle.fsm_pages.specs.Split.{isRun, endsAbove, splitTests, splitCount, splitInto}
+use Rattle.fsm_pages.proofs.RunLaws.{opens, ended, run-room, above-found, above-turn, above-none, fits-at}
+use Rattle.fsm_pages.proofs.PieceLaws.{behind, pieces-number, behind-none, behind-some}
 
 module _ (page n : ℕ) (xs : List ℕ) where
   -- the pieces that are left when the first i sections are cut
   abbrev pub from : ℕ → List FreeSection
   from i = split page (drop i (decode n xs))
 
-  -- at the head of the loop that counts
-  pub record Counting (m i : ℕ) : Type 0 where
+  -- at the head of the loop that counts: the sections that are not empty, and the pieces behind their first ones
+  pub record Counting (some more i : ℕ) : Type 0 where
     pub within : i ≤ n
-    pub fits : endsAbove (drop i (decode n xs)) ≡ false
-    pub few : m ≤ 2 ^ 64 - 1
-    pub number : sat (m + length (from i)) ≡ sat (length (from 0))
+    pub above : endsAbove (drop i (decode n xs)) ≡ endsAbove (decode n xs)
+    pub few : some ≤ i
+    pub low : more ≤ 2 ^ 64 - 1
+    pub number : sat (some + more + length (from i)) ≡ sat (length (from 0))
 
   -- at the head of the loop that puts
   pub record Putting (out₀ out : List ℕ) (k i : ℕ) : Type 0 where
@@ -54,18 +59,63 @@ module _ (page n : ℕ) (xs : List ℕ) (room : 2 * n ≤ length xs) where
 
   -- ---- the pass that counts
 
-  pub count-start : endsAbove (decode n xs) ≡ false → Counting page n xs 0 0
-  count-start h = record { within = omega arith; fits = h; few = omega arith; number = let e : 0 + length (more 0) ≡ length (more 0) = omega arith in ap sat e }
+  pub count-start : Counting page n xs 0 0 0
+  count-start =
+      let e : 0 + 0 + length (from page n xs 0) ≡ length (from page n xs 0) = omega arith in
+      record { within = omega arith; above = refl; few = omega arith; low = omega arith; number = ap sat e }
 
-  pub count-step : (m i : ℕ) → Counting page n xs m i → i < n → (k r : ℕ) → k ≡ length (pieces page (pairAt xs i)) → r ≡ sat (m + k) → Counting page n xs r (i + 1)
+  sat-low : (m : ℕ) → sat m ≤ 2 ^ 64 - 1
   unfolding sat
-  count-step m i c h k r e f =
-      let q : length (more i) ≡ k + length (more (i + 1)) = ap length (from-more i h) ∙ length-append (pieces page (pairAt xs i)) (more (i + 1)) ∙ ap (λ (x : ℕ). x + length (more (i + 1))) (sym e) in
-      record { within = omega arith; fits = fits-at n xs room i h (c .fits) .1; few = omega arith; number = omega (arith, c .number) }
+  sat-low m = omega arith
 
-  pub count-end : (m i : ℕ) → Counting page n xs m i → n ≤ i → m ≡ sat (length (more 0))
+  carried : (some more f b k : ℕ) → sat (some + f + sat (more + b) + k) ≡ sat (some + more + (f + b + k))
   unfolding sat
-  count-end m i c h = let z : length (more i) ≡ 0 = ap length (from-none i h) in omega (arith, c .number, c .few)
+  carried some more f b k = omega arith
+
+  module _ (some more i : ℕ) (now : Counting page n xs some more i) where
+    module _ (p : 0 < page) (h : i < n) where
+      abbrev addr : ℕ
+      addr = pairAt xs i .addr
+
+      abbrev size : ℕ
+      size = pairAt xs i .size
+
+      abbrev Added : ℕ → Type 0
+      Added m = m ≡ sat (more + behind page addr size)
+
+      -- the pieces behind the first are added where there are any
+      module _ (space : ℕ) (e : space ≡ page - addr % page) where
+        pub count-more : space < size → (q m : ℕ) → q ≡ (size - space - 1) / page → m ≡ sat (more + (1 + q)) → Added m
+        count-more l q m f g =
+            g ∙ ap (λ (x : ℕ). sat (more + (1 + x))) (f ∙ ap (λ (x : ℕ). (size - x - 1) / page) e) ∙ ap (λ (x : ℕ). sat (more + x)) (sym (behind-some page addr size p (omega arith)))
+
+        pub count-same : size ≤ space → (m : ℕ) → m ≡ more → Added m
+        unfolding sat
+        count-same l m f = omega (arith, now .low, behind-none page addr size p (omega arith))
+
+      pub count-step : (s m : ℕ) → s ≡ some + min size 1 → Added m → addr ≤ top - size → size ≤ top → Counting page n xs s m (i + 1)
+      count-step s m e f o b =
+          let more′ = from page n xs (i + 1) in
+          let q : length (from page n xs i) ≡ min size 1 + behind page addr size + length more′ =
+          ap length (from-more i h) ∙ length-append (pieces page (pairAt xs i)) more′ ∙ ap (λ (x : ℕ). x + length more′) (pieces-number page addr size p) in
+          record {
+            within = omega arith;
+            above = above-turn n xs room i h o b (now .above);
+            few = omega (arith, now .few);
+            low = rw f (sat-low (more + behind page addr size));
+            number = rw (e, f) (carried some more (min size 1) (behind page addr size) (length more′)) ∙ ap (λ (x : ℕ). sat (some + more + x)) (sym q) ∙ now .number;
+          }
+
+    pub count-end : n ≤ i → (m : ℕ) → m ≡ sat (some + more)
+        → answer m ≡ firstOf (when (endsAbove (decode n xs)) Overflow ∷ []) (answer (sat (length (split page (decode n xs)))))
+    count-end h m e =
+        let z : some + more + length (from page n xs i) ≡ some + more = omega (arith, ap length (from-none i h)) in
+        ap answer (e ∙ ap sat (sym z) ∙ now .number)
+        ∙ passes (endsAbove (decode n xs)) Overflow (answer (sat (length (split page (decode n xs))))) (sym (above-none n xs room i h (now .above)))
+
+    pub count-above : i < n → top - pairAt xs i .size < pairAt xs i .addr
+        → refused Overflow ≡ firstOf (when (endsAbove (decode n xs)) Overflow ∷ []) (answer (sat (length (split page (decode n xs)))))
+    count-above h o = refuses (endsAbove (decode n xs)) Overflow (answer (sat (length (split page (decode n xs))))) (sym (above-found n xs room i h o (now .above)))
 
   -- ---- the pass that puts
 
@@ -99,43 +149,75 @@ module _ (page n : ℕ) (xs : List ℕ) (room : 2 * n ≤ length xs) where
       pub put-end : n ≤ i → out ≡ over 0 (flat (split page (decode n xs))) out₀
       put-end h = sym (over-nil k out) ∙ sym (ap (λ (m : List FreeSection). over k (flat m) out) (from-none i h)) ∙ now .same
 
--- ---- the entry
+-- ---- the entries
+
+module _ (xs : List ℕ) (n page : ℕ) where
+  pub count-page : page ≡ 0 → refused Page ≡ splitCount xs n page
+  unfolding splitCount firstOf
+  count-page z = rw (eq-eqb page 0 z)
+
+  module _ (p : page ≡ 0 → ⊥) where
+    pub count-no-run : not (isRun xs n) ≡ true → refused NotAList ≡ splitCount xs n page
+    unfolding splitCount firstOf
+    count-no-run h = rw (ne-eqb page 0 p, h)
+
+    pub count-run : not (isRun xs n) ≡ false → firstOf (when (endsAbove (decode n xs)) Overflow ∷ []) (answer (sat (length (split page (decode n xs))))) ≡ splitCount xs n page
+    unfolding splitCount firstOf
+    count-run h = rw (ne-eqb page 0 p, h)
+
+  -- what a number of pieces tells
+  pub record Splits (m : ℕ) : Type 0 where
+    pub fits : endsAbove (decode n xs) ≡ false
+    pub run : 2 * n ≤ length xs
+    pub number : m ≡ sat (length (split page (decode n xs)))
+    pub passed : NoneHolds (splitTests xs n page)
+
+  pub split-told : (m : ℕ) → answer m ≡ splitCount xs n page → Splits m
+  unfolding splitCount
+  split-told m e =
+      let q = first-answers (splitTests xs n page) (sat (length (split page (decode n xs)))) m (sym e) in
+      record { fits = q .0 .1 .1 .0; run = run-room xs n (q .0 .1 .0); number = sym (q .1); passed = q .0 }
 
 module _ (xs : List ℕ) (n page : ℕ) (out : List ℕ) where
   pub split-page : page ≡ 0 → left (refused Page) out ≡ leaving out (splitInto xs n page out)
   unfolding splitInto firstOf
   split-page z = rw (eq-eqb page 0 z)
 
-  module _ (p : page ≡ 0 → ⊥) where
-    pub split-no-run : not (isRun xs n) ≡ true → left (refused NotAList) out ≡ leaving out (splitInto xs n page out)
+  pub split-odd : (page ≡ 0 → ⊥) → (length out % 2 ≡ 0 → ⊥) → left (refused NotAList) out ≡ leaving out (splitInto xs n page out)
+  unfolding splitInto firstOf
+  split-odd p h = rw (ne-eqb page 0 p, ne-eqb (length out % 2) 0 h) (pick (isRun xs n))
+    where
+      pick : (t : Bool) → left {A = ℕ} (refused NotAList) out ≡ leaving out (cond (not t) (refused NotAList) (refused NotAList))
+      pick true = refl
+      pick false = refl
+
+  module _ (even : length out % 2 ≡ 0) where
+    behind-tests : splitInto xs n page out ≡ firstOf (splitTests xs n page) (intoRun out (split page (decode n xs)))
     unfolding splitInto firstOf
-    split-no-run h = rw (ne-eqb page 0 p, h)
+    behind-tests = rw (eq-eqb (length out % 2) 0 even)
 
-    module _ (run : not (isRun xs n) ≡ false) where
-      pub split-odd : (length out % 2 ≡ 0 → ⊥) → left (refused NotAList) out ≡ leaving out (splitInto xs n page out)
-      unfolding splitInto firstOf
-      split-odd h = rw (ne-eqb page 0 p, run, ne-eqb (length out % 2) 0 h)
+    pub split-refused : (r : Refusal) → refused r ≡ splitCount xs n page → left (refused r) out ≡ leaving out (splitInto xs n page out)
+    unfolding splitCount
+    split-refused r e =
+        ap (leaving out) (first-refuses (splitTests xs n page) (sat (length (split page (decode n xs)))) r (intoRun out (split page (decode n xs))) e ∙ sym behind-tests)
 
-      module _ (even : length out % 2 ≡ 0) where
-        pub split-above : endsAbove (decode n xs) ≡ true → left (refused Overflow) out ≡ leaving out (splitInto xs n page out)
-        unfolding splitInto firstOf
-        split-above h = rw (ne-eqb page 0 p, run, eq-eqb (length out % 2) 0 even, h)
+    module _ (m : ℕ) (s : Splits xs n page m) where
+      is-run : splitInto xs n page out ≡ intoRun out (split page (decode n xs))
+      is-run = behind-tests ∙ first-pass (splitTests xs n page) (intoRun out (split page (decode n xs))) (s .passed)
 
-        module _ (fits : endsAbove (decode n xs) ≡ false) (m : ℕ) (e : m ≡ sat (length (split page (decode n xs)))) where
-          is-run : splitInto xs n page out ≡ intoRun out (split page (decode n xs))
-          unfolding splitInto firstOf
-          is-run = rw (ne-eqb page 0 p, run, eq-eqb (length out % 2) 0 even, fits)
+      pub split-over : length out / 2 < m → left (refused (OverCapacity m (length out / 2))) out ≡ leaving out (splitInto xs n page out)
+      unfolding firstOf sat
+      split-over h =
+          let k : length out / 2 < length (split page (decode n xs)) = omega (arith, s .number) in
+          sym (ap (leaving out) is-run ∙ rw (lt-ltb (length out / 2) (length (split page (decode n xs))) k, s .number))
 
-          pub split-over : length out / 2 < m → left (refused (OverCapacity m (length out / 2))) out ≡ leaving out (splitInto xs n page out)
-          unfolding firstOf sat
-          split-over h = let k : length out / 2 < length (split page (decode n xs)) = omega arith in sym (ap (leaving out) is-run ∙ rw (lt-ltb (length out / 2) (length (split page (decode n xs))) k, e))
+      module _ (h : m ≤ length out / 2) (b : length out / 2 < 2 ^ 64 - 1) where
+        pub split-number : m ≡ length (split page (decode n xs))
+        unfolding sat
+        split-number = omega (arith, s .number)
 
-          module _ (h : m ≤ length out / 2) (b : length out / 2 < 2 ^ 64 - 1) where
-            pub split-number : m ≡ length (split page (decode n xs))
-            unfolding sat
-            split-number = omega arith
-
-            pub split-is : (out′ : List ℕ) → out′ ≡ over 0 (flat (split page (decode n xs))) out → left (answer m) out′ ≡ leaving out (splitInto xs n page out)
-            unfolding firstOf
-            split-is out′ o = let r : length (split page (decode n xs)) ≤ length out / 2 = omega (arith, split-number) in
-                sym (ap (leaving out) is-run ∙ rw (le-ltb (length out / 2) (length (split page (decode n xs))) r, ← split-number, o))
+        pub split-is : (out′ : List ℕ) → out′ ≡ over 0 (flat (split page (decode n xs))) out → left (answer m) out′ ≡ leaving out (splitInto xs n page out)
+        unfolding firstOf
+        split-is out′ o =
+            let r : length (split page (decode n xs)) ≤ length out / 2 = omega (arith, split-number) in
+            sym (ap (leaving out) is-run ∙ rw (le-ltb (length out / 2) (length (split page (decode n xs))) r, ← split-number, o))

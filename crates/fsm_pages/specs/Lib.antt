@@ -1,4 +1,1 @@
 pub mod Split
-pub mod Managers
-pub mod Order
-pub mod Plan

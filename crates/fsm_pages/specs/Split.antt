@@ -2,6 +2,8 @@
 --   isRun          a run of pairs and a count: even, and no more than its capacity; what refusal 3 tests of runs of sections
 --   isEven         a lent output run of pairs
 --   endsAbove      some section ends above 2^64 - 1
+--   splitTests     refusals 2, 3, 4
+--   splitCount     those; then how many pieces there are, at most 2^64 - 1
 --   splitInto      refusals 2, 3, 4, then 14 with the exact number of pieces (at most 2^64 - 1); the pieces in input order
 --   splitOutcome   the outcome that an answer of the code stands for
 use Prim.Native.Nat.{ℕ, _/_, _%_}
@@ -10,7 +12,7 @@ use mathlib.Core.List.{List, [], _∷_}
 use lib.Dec.{leb, ltb, eqb}
 use lib.ListN.{length}
 use Rattle.error.specs.declared.Refusal.the-variants.{Page, NotAList, Overflow}
-use Rattle.error.specs.Outcome.{Outcome, answer, refused, when, firstOf}
+use Rattle.error.specs.Outcome.{Outcome, answer, refused, Condition, when, firstOf, sat}
 use Rattle.error.specs.Lent.{With}
 use Rattle.fields.specs.Ranges.{top}
 use Rattle.fsm_sections.specs.declared.FreeSection.{FreeSection}
@@ -29,6 +31,12 @@ isRun xs n = isEven xs && leb n (length xs / 2)
 abbrev pub endsAbove : List FreeSection → Bool
 endsAbove [] = false
 endsAbove (s ∷ l) = ltb top (end s) || endsAbove l
+
+abbrev pub splitTests : List ℕ → ℕ → ℕ → List Condition
+splitTests xs n page = when (eqb page 0) Page ∷ when (not (isRun xs n)) NotAList ∷ when (endsAbove (decode n xs)) Overflow ∷ []
+
+unfoldable pub splitCount : List ℕ → ℕ → ℕ → Outcome ℕ
+splitCount xs n page = firstOf (splitTests xs n page) (answer (sat (length (split page (decode n xs)))))
 
 unfoldable pub splitInto : List ℕ → ℕ → ℕ → List ℕ → Outcome (With ℕ (List ℕ))
 splitInto xs n page out =

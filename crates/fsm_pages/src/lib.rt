@@ -1,7 +1,2 @@
-// Free space cut at page boundaries, and the managers of a paged file.
-mod chains;
+// Free space cut at page boundaries.
 pub mod pages;
-mod pieces;
-pub mod plan;
-mod put;
-mod sharing;

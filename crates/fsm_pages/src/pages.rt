@@ -1,14 +1,19 @@
 // Sections cut at page boundaries.
 ghost use mathlib.Core.Path.{_≡_};
 ghost use mathlib.Core.Bool.{false};
-ghost use Prim.Native.Nat.{_+_, _*_, _^_, _≤_, _<_, min};
+ghost use mathlib.Core.List.{[], _∷_};
+ghost use Prim.Native.Nat.{_+_, _-_, _*_, _/_, _%_, _^_, _≤_, _<_};
 ghost use lib.ListN.{length};
+ghost use Rattle.error.specs.declared.Refusal.the-variants.{Overflow};
+ghost use Rattle.error.specs.Answers.{numberOutcome};
 ghost use Rattle.error.specs.Lent.{left, leaving, over};
-ghost use Rattle.error.specs.Outcome.{sat};
+ghost use Rattle.error.specs.Outcome.{answer, when, firstOf, sat};
 ghost use Rattle.fsm_sections.specs.Sections.{section, decode, flat};
 ghost use Rattle.fsm_sections.specs.Pages.{pieces, split};
-ghost use Rattle.fsm_pages.specs.Split.{isRun, endsAbove, splitInto, splitOutcome};
+ghost use Rattle.fsm_pages.specs.Split.{isRun, endsAbove, splitCount, splitInto, splitOutcome};
+use error::Number;
 use error::Refusal;
+use fields::number::sum_of;
 
 // How many pieces a run of sections was cut into.
 pub enum Split {
@@ -26,82 +31,102 @@ fn is_run(run: &[u64], count: usize) -> bool
     count <= run.len() / 2
 }
 
-// Whether a section of the run ends above 2^64 - 1.
-fn ends_above(sections: &[u64], count: usize) -> bool
-    requires { ⌜ 2 * count ≤ length (now sections) ⌝ }
-    ensures { λ r. ⌜ r ≡ endsAbove (decode count (now (sections .entry))) ⌝ }
+// The bits of the power of two that a page may be.
+fn bits_of(page: u64) -> u32
+    ensures { λ r. ⌜ r < 64 ⌝ }
 {
+    let bits = u64::trailing_zeros(page);
+    if bits < 64 { bits } else { 0 }
+}
+
+// How many pages n bytes fill. A page that is a power of two divides by a shift.
+fn pages_in(n: u64, page: u64, bits: u32) -> u64
+    requires { ⌜ (0 < page) × (bits < 64) ⌝ }
+    ensures { λ r. ⌜ r ≡ n / page ⌝ }
+{
+    if page == 1u64 << bits {
+        return n >> bits;
+    }
+    n / page
+}
+
+// How many bytes there are from an address up to the next page multiple.
+fn room_in(page: u64, bits: u32, addr: u64) -> u64
+    requires { ⌜ (0 < page) × (bits < 64) ⌝ }
+    ensures { λ r. ⌜ r ≡ page - addr % page ⌝ }
+{
+    if page == 1u64 << bits {
+        return page - (addr - ((addr >> bits) << bits));
+    }
+    page - addr % page
+}
+
+// How many pieces all sections have, at most 2^64 - 1: one of each that is not empty, and those behind the first page multiple.
+fn pieces_in(sections: &[u64], count: usize, page: u64) -> Number
+    requires page { ⌜ 0 < page ⌝ }
+    requires room { ⌜ 2 * count ≤ length (now sections) ⌝ }
+    ensures { λ r. ⌜ numberOutcome r ≡ firstOf (when (endsAbove (decode count (now (sections .entry)))) Overflow ∷ []) (answer (sat (length (split page (decode count (now (sections .entry))))))) ⌝ }
+{
+    let bits = bits_of(page);
+    let mut some: u64 = 0;
+    let mut more: u64 = 0;
     let mut i = 0;
     while i < count {
-        if 18446744073709551615 - sections[2 * i + 1] < sections[2 * i] {
-            return true;
+        let addr = sections[2 * i];
+        let size = sections[2 * i + 1];
+        if 18446744073709551615 - size < addr {
+            return Number::Refused(Refusal::Overflow);
+        }
+        let room = room_in(page, bits, addr);
+        if room < size {
+            more = sum_of(more, 1 + pages_in(size - room - 1, page, bits));
+        }
+        if size != 0 {
+            some += 1;
         }
         i += 1;
     }
-    false
+    Number::Is(sum_of(some, more))
 }
 
-// The sum of two counts, at most 2^64 - 1.
-pub(crate) fn sum_of(a: u64, b: u64) -> u64
-    ensures { λ r. ⌜ r ≡ sat (a + b) ⌝ }
+// How many pieces sections have, at most 2^64 - 1: counted in closed form, section by section.
+pub fn split_count(sections: &[u64], count: usize, page: u64) -> Number
+    ensures { λ r. ⌜ numberOutcome r ≡ splitCount (now (sections .entry)) count page ⌝ }
 {
-    if 18446744073709551615 - a < b {
-        return 18446744073709551615;
+    if page == 0 {
+        return Number::Refused(Refusal::Page);
     }
-    a + b
-}
-
-// How many pieces a section has: one for each page that it touches.
-fn piece_count(page: u64, addr: u64, size: u64) -> u64
-    requires { ⌜ (0 < page) × (addr + size < 2 ^ 64) ⌝ }
-    ensures { λ r. ⌜ r ≡ length (pieces page (section addr size)) ⌝ }
-{
-    if size == 0 {
-        return 0;
+    if !is_run(sections, count) {
+        return Number::Refused(Refusal::NotAList);
     }
-    (addr + (size - 1)) / page - addr / page + 1
-}
-
-// How many pieces all sections have, at most 2^64 - 1.
-pub(crate) fn split_count(sections: &[u64], count: usize, page: u64) -> u64
-    requires page { ⌜ 0 < page ⌝ }
-    requires room { ⌜ 2 * count ≤ length (now sections) ⌝ }
-    requires fits { ⌜ endsAbove (decode count (now sections)) ≡ false ⌝ }
-    ensures { λ r. ⌜ r ≡ sat (length (split page (decode count (now (sections .entry))))) ⌝ }
-{
-    let mut n: u64 = 0;
-    let mut i = 0;
-    while i < count {
-        n = sum_of(n, piece_count(page, sections[2 * i], sections[2 * i + 1]));
-        i += 1;
-    }
-    n
-}
-
-fn lesser(x: u64, y: u64) -> u64
-    ensures { λ r. ⌜ r ≡ min x y ⌝ }
-{
-    if x <= y { x } else { y }
+    pieces_in(sections, count, page)
 }
 
 // Puts the pieces of a section into the run, and gives the place behind them.
-fn put_pieces(page: u64, addr: u64, size: u64, out: &mut [u64], from: usize) -> usize
-    requires fits { ⌜ (0 < page) × (addr + size < 2 ^ 64) ⌝ }
+fn put_pieces(page: u64, bits: u32, addr: u64, size: u64, out: &mut [u64], from: usize) -> usize
+    requires fits { ⌜ (0 < page) × (bits < 64) × (addr + size < 2 ^ 64) ⌝ }
     requires room { ⌜ from + 2 * length (pieces page (section addr size)) ≤ length (now out) ⌝ }
     ensures put { λ _. ⌜ now (out .exit) ≡ over from (flat (pieces page (section addr size))) (now (out .entry)) ⌝ }
     ensures next { λ r. ⌜ r ≡ from + 2 * length (pieces page (section addr size)) ⌝ }
 {
-    let end = addr + size;
     let mut a = addr;
+    let mut left = size;
+    let mut room = room_in(page, bits, addr);
     let mut k = from;
-    while a < end {
-        let z = lesser(end - a, page - a % page);
+    while room < left {
         out[k] = a;
-        out[k + 1] = z;
-        a = a + z;
-        k = k + 2;
+        out[k + 1] = room;
+        a += room;
+        left -= room;
+        k += 2;
+        room = page;
     }
-    k
+    if left == 0 {
+        return k;
+    }
+    out[k] = a;
+    out[k + 1] = left;
+    k + 2
 }
 
 // Puts the pieces of all sections into the run.
@@ -112,10 +137,11 @@ fn put_split(sections: &[u64], count: usize, page: u64, out: &mut [u64])
     requires room { ⌜ 2 * length (split page (decode count (now sections))) ≤ length (now out) ⌝ }
     ensures { λ _. ⌜ now (out .exit) ≡ over 0 (flat (split page (decode count (now (sections .entry))))) (now (out .entry)) ⌝ }
 {
+    let bits = bits_of(page);
     let mut k = 0;
     let mut i = 0;
     while i < count {
-        k = put_pieces(page, sections[2 * i], sections[2 * i + 1], out, k);
+        k = put_pieces(page, bits, sections[2 * i], sections[2 * i + 1], out, k);
         i += 1;
     }
 }
@@ -127,23 +153,21 @@ pub fn split_at_pages(sections: &[u64], count: usize, page: u64, out: &mut [u64]
     if page == 0 {
         return Split::Refused(Refusal::Page);
     }
-    if !is_run(sections, count) {
-        return Split::Refused(Refusal::NotAList);
-    }
     if out.len() % 2 != 0 {
         return Split::Refused(Refusal::NotAList);
     }
-    if ends_above(sections, count) {
-        return Split::Refused(Refusal::Overflow);
+    match split_count(sections, count, page) {
+        Number::Refused(r) => Split::Refused(r),
+        Number::Is(needed) => {
+            let capacity = (out.len() / 2) as u64;
+            if capacity < needed {
+                return Split::Refused(Refusal::OverCapacity {
+                    needed: needed,
+                    given: capacity,
+                });
+            }
+            put_split(sections, count, page, out);
+            Split::Pieces(needed as usize)
+        }
     }
-    let needed = split_count(sections, count, page);
-    let capacity = (out.len() / 2) as u64;
-    if capacity < needed {
-        return Split::Refused(Refusal::OverCapacity {
-            needed: needed,
-            given: capacity,
-        });
-    }
-    put_split(sections, count, page, out);
-    Split::Pieces(needed as usize)
 }

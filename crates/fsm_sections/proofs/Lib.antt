@@ -5,7 +5,6 @@ pub mod PagesLaws
 pub mod SlotLaws
 pub mod SizesLaws
 pub mod SourceLaws
-pub mod GroupLaws
 pub mod PassLaws
 pub mod TakeLaws
 pub mod AddrLaws

@@ -191,6 +191,3 @@ module _ (q : Part) (page a z : ℕ) where
 
   pub tail-end : q ≡ Tail → PartFits q (section a z) → a + z < 2 ^ 64
   tail-end e f = subst (λ (p : Part). PartFits p (section a z)) e f
-
-pub head-within : (page a z h : ℕ) → h ≡ headSize page (section a z) → h ≤ z
-head-within page a z h e = omega arith

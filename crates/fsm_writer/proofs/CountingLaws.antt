@@ -29,9 +29,8 @@ use Rattle.fsm_sections.proofs.SlotLaws.{sections-append}
 use Rattle.fsm_sections.proofs.SizesLaws.{length-chain}
 use Rattle.fsm_sections.proofs.SourceLaws.{pairAt, length-decode, decode-at}
 use Rattle.fsm_sections.proofs.TakeLaws.{space-append, space-chain}
-use Rattle.fsm_writer.specs.Writing.{storable}
-use Rattle.fsm_writer.specs.Counting.{RunGiven}
-use Rattle.fsm_writer.proofs.MeasureLaws.{too-great, great-enough, stored-is, stored-not}
+use Rattle.fsm_writer.specs.Counting.{RunGiven, storable}
+use Rattle.fsm_writer.proofs.StoredLaws.{too-great, great-enough, stored-is, stored-not}
 
 double : (n : ℕ) → 2 * suc n ≡ suc (suc (2 * n))
 double n = omega arith

@@ -11,7 +11,6 @@ use lib.ListN.{length, take, drop, length-append, length-drop, drop-of-length-le
 use lib.Seq.{take-all}
 use borrow.Author.Tests.{lt-ltb, le-ltb, ltb-false, eq-eqb, ne-eqb}
 use Rattle.error.specs.declared.Number.{Number}
-use Rattle.error.specs.declared.Number.the-variants as number
 use Rattle.error.specs.declared.Refusal.{Refusal}
 use Rattle.error.specs.declared.Refusal.the-variants.{Overflow, OverCapacity}
 use Rattle.error.specs.Outcome.{Outcome, answer, refused, when, firstOf}
@@ -19,7 +18,7 @@ use Rattle.error.specs.Answers.{numberOutcome}
 use Rattle.error.specs.Lent.{left, leaving, with, over}
 use Rattle.error.proofs.TestLaws.{le-or-lt}
 use Rattle.error.proofs.OverLaws.{length-over, over-nil}
-use Rattle.error.proofs.OutcomeLaws.{NoneHolds, refuses, passes, first-none, first-holds, first-passes, first-pass, first-answers, first-append, first-refuses}
+use Rattle.error.proofs.OutcomeLaws.{NoneHolds, first-none, first-holds, first-passes, first-pass, first-answers, first-append, first-refuses}
 use Rattle.fields.specs.Le.{leBytes}
 use Rattle.fields.specs.Layout.{layout}
 use Rattle.fields.specs.Ranges.{top}
@@ -42,35 +41,14 @@ use Rattle.fsm_writer.specs.declared.slots.Measured.{Measured}
 use Rattle.fsm_writer.specs.declared.slots.Measured.the-variants as code
 use Rattle.fsm_writer.specs.Serializing.{blocksSize}
 use Rattle.fsm_writer.specs.Slots.{slotBytes, sizeTests, lenOf, writtenBlocks}
-use Rattle.fsm_writer.specs.Writing.{headerOf, storable, measureOf, measured, measuredOutcome}
+use Rattle.fsm_writer.specs.Counting.{storable}
+use Rattle.fsm_writer.specs.Measuring.{measureOf, measured, measuredOutcome}
+use Rattle.fsm_writer.specs.Writing.{headerOf}
+use Rattle.fsm_writer.proofs.StoredLaws.{too-great}
 use Rattle.fsm_writer.proofs.RowLaws.{over-behind, widths-are}
 use Rattle.fsm_writer.proofs.SerializeLaws.{left-refused, left-answer}
 
 -- ---- numbers up to 2^64 - 1
-
-pub too-great : (n : ℕ) → top < n → refused Overflow ≡ storable n
-unfolding storable
-too-great n h = refuses _ _ _ (lt-ltb top n h)
-
-pub great-enough : (m n : ℕ) → m ≡ n → m ≤ top → answer m ≡ storable n
-unfolding storable
-great-enough m n e h = ap (λ (k : ℕ). answer k) e ∙ passes _ _ _ (le-ltb top n (omega arith))
-
-module _ (c : Number) (n : ℕ) (e : numberOutcome c ≡ storable n) where
-  pub stored-is : (m : ℕ) → c ≡ number.Is m → (m ≡ n) × (n ≤ top)
-  unfolding storable
-  stored-is m h =
-      let q = first-answers (when (ltb top n) Overflow ∷ []) n m (sym e ∙ ap numberOutcome h) in
-      (sym (q .1), ltb-false top n (q .0 .0))
-
-  pub stored-not : (r : Refusal) → c ≡ number.Refused r → top < n
-  stored-not r h = ⊎-elim small (λ (p : top < n). p) (le-or-lt n top)
-    where
-      small : n ≤ top → top < n
-      small p =
-          let q : refused r ≡ answer n = ap numberOutcome (sym h) ∙ e ∙ sym (great-enough n n refl p) in
-          let z : _≡_ {A = ℕ} 0 1 = cc in
-          absurd (omega arith)
 
 -- the sum of sizes is such a number
 pub space-stored : (l : List FreeSection) (c : Number) → numberOutcome c ≡ spaceOf l → numberOutcome c ≡ storable (space l)

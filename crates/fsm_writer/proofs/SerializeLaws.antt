@@ -1,11 +1,11 @@
 -- Laws of the writer's public entries: which refusal is given, and what acceptance says. Assumes nothing.
 use mathlib.Core.Path.{_≡_, refl, sym, ap, ap₂, _∙_}
 use mathlib.Core.Logic.{⊎-elim}
-use Prim.Native.Nat.{ℕ, zero, suc, _+_, _*_, _/_, _%_, _^_, _≤_, _<_}
+use Prim.Native.Nat.{ℕ, _+_, _*_, _/_, _%_, _^_, _≤_, _<_}
 use native.Mathlib.Nat.{pow-le-pow-right, mul-le-mul}
 use native.Mathlib.Omega.{arith}
 use native.Mathlib.Numerals.{add-one}
-use mathlib.Core.Bool.{Bool, true, false, cond, not, _||_}
+use mathlib.Core.Bool.{Bool, true, false, not, _||_}
 use mathlib.Core.List.{List, [], _∷_}
 use lib.Dec.{ltb, leb, eqb}
 use lib.ListN.{length, drop, getD, drop-of-length-le}
@@ -26,7 +26,7 @@ use Rattle.fields.proofs.WidthLaws.{encSize-least}
 use Rattle.checksum.specs.Lookup3.{lookup3}
 use Rattle.fsm_sections.specs.declared.FreeSection.{FreeSection}
 use Rattle.fsm_sections.specs.declared.Source.{Source}
-use Rattle.fsm_sections.specs.Sections.{section, decode, space, ofSize, distinct, All}
+use Rattle.fsm_sections.specs.Sections.{section, decode, space, distinct, All}
 use Rattle.fsm_sections.specs.Chains.{sectionsOf}
 use Rattle.fsm_sections.specs.Sources.{chainsOf, plainSource, Given}
 use Rattle.fsm_sections.specs.Passes.{spaceOf, Numbers}
@@ -38,6 +38,7 @@ use Rattle.fsm_blocks.specs.Groups.{Widths}
 use Rattle.fsm_blocks.specs.Managers.{startingSet, headerFor, fsseUsed, fsseFor}
 use Rattle.fsm_writer.specs.Serializing.{ofRun, wide, anyOf, anyWide, blocksSize, blocksLen, writtenFshd, writtenFsse}
 use Rattle.fsm_writer.specs.Writing.{headerOf}
+use Rattle.fsm_writer.proofs.SizeCountLaws.{run-numbers, distinct-few}
 use Rattle.fsm_writer.proofs.RowLaws.{widths-are, width-small}
 
 -- ---- a run of sections as a source
@@ -63,15 +64,6 @@ module _ (n : ℕ) (run : List ℕ) where
 
   pub plain-few : 2 * n ≤ length run → n < 2 ^ 64 → length (sectionsOf (chainsOf (plainSource n) run run run)) < 2 ^ 64
   plain-few room h = rw plain-all (omega (arith, length-decode n run room))
-
-pub run-numbers : (n : ℕ) (run : List ℕ) → ((i : ℕ) → getD run i 0 < 2 ^ 64) → Numbers (decode n run)
-run-numbers zero run h = tt
-run-numbers (suc n) [] h = tt
-run-numbers (suc n) (a ∷ []) h = tt
-run-numbers (suc n) (a ∷ z ∷ run) h =
-    let p : a < 2 ^ 64 = h 0 in
-    let q : z < 2 ^ 64 = h 1 in
-    ((omega arith, omega arith), run-numbers n run (λ i. h (suc (suc i))))
 
 -- ---- what follows on a refusal and on an answer
 
@@ -195,15 +187,6 @@ unfolding anyOf
 any-none test n i run room h p = ap (anyOf test) (sym (drop-of-length-le (decode n run) {i = i} (omega (arith, length-decode n run room)))) ∙ p
 
 -- ---- lengths
-
-pub distinct-few : (l : List FreeSection) → distinct l ≤ length l
-unfolding distinct
-distinct-few [] = omega arith
-distinct-few (x ∷ l) = pick (eqb (ofSize (x .size) l) 0) (distinct-few l)
-  where
-    pick : (t : Bool) → distinct l ≤ length l → cond t 1 0 + distinct l ≤ suc (length l)
-    pick true h = omega arith
-    pick false h = omega arith
 
 module _ (o n : ℕ) (run : List ℕ) (low : 1 ≤ o) (room : 2 * n ≤ length run) (d cw : ℕ) (de : d ≡ distinct (sectionsOf (chainsOf (plainSource n) run run run))) (ce : cw ≡ encSize n) where
   pub used-run : 9 + o + d * (cw + 8) + n * (o + 1) ≡ fsseUsed o (startingSet o) (decode n run)

@@ -1,6 +1,8 @@
-pub mod Serializing
-pub mod Writing
-pub mod Slots
-pub mod Counting
 pub mod Batches
+pub mod Counting
+pub mod Measuring
+pub mod Picking
+pub mod Serializing
+pub mod Slots
 pub mod Spans
+pub mod Writing

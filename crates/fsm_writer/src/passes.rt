@@ -7,8 +7,8 @@ ghost use Rattle.fsm_sections.specs.Sections.{section, decode, space, times, of
 ghost use Rattle.fsm_sections.specs.Chains.{link, chain, sectionsOf, ChainFits};
 ghost use Rattle.fsm_sections.specs.Sources.{pad, one, partOf, chainsIn, chainsOf, chainCount, PartFits, Given, Within, Taking, Chosen, ChosenOfTwo};
 ghost use Rattle.fsm_sections.specs.Passes.{leastAddr, spaceOf};
-ghost use Rattle.fsm_writer.specs.Counting.{RunGiven};
-ghost use Rattle.fsm_writer.specs.Writing.{Picked, storable};
+ghost use Rattle.fsm_writer.specs.Counting.{RunGiven, storable};
+ghost use Rattle.fsm_writer.specs.Picking.{Picked};
 use error::Number;
 use error::Refusal;
 use fsm_sections::Chain;

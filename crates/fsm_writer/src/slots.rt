@@ -16,7 +16,8 @@ ghost use Rattle.fsm_sections.specs.Sources.{chainsOf, Given, smallSource, larg
 ghost use Rattle.fsm_sections.specs.Passes.{Numbers};
 ghost use Rattle.fsm_writer.specs.Serializing.{writtenOutcome};
 ghost use Rattle.fsm_writer.specs.Slots.{isRun, endsAbove, runTests, lenOf, slotBytes, writtenBlocks, slotLen, writtenSlot};
-ghost use Rattle.fsm_writer.specs.Writing.{storable, measureOf, measured, measuredOutcome};
+ghost use Rattle.fsm_writer.specs.Counting.{storable};
+ghost use Rattle.fsm_writer.specs.Measuring.{measureOf, measured, measuredOutcome};
 use crate::batch::size_count;
 use crate::passes::section_count;
 use crate::passes::space_of;

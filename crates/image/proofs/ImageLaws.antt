@@ -2,19 +2,18 @@
 use mathlib.Core.Path.{_≡_, refl, sym, ap, ap₂, _∙_}
 use mathlib.Core.Bool.{Bool, true, false, not}
 use mathlib.Core.List.{List, [], _∷_}
-use Prim.Native.Nat.{ℕ, _/_, _%_}
+use Prim.Native.Nat.{ℕ, _%_}
 use native.Mathlib.Omega.{arith}
 use borrow.Author.Tests.{eq-eqb, ne-eqb}
-use lib.Dec.{eqb, ltb}
+use lib.Dec.{eqb}
 use lib.ListN.{length}
 use Rattle.error.specs.declared.Refusal.{Refusal}
-use Rattle.error.specs.declared.Refusal.the-variants.{NotAList, OverCapacity}
+use Rattle.error.specs.declared.Refusal.the-variants.{NotAList}
 use Rattle.error.specs.Refusals.{numberOf, valuesOf}
-use Rattle.error.specs.Outcome.{Outcome, answer, nothing, refuse, refused, Condition, when, firstOf, andThen, sat}
-use Rattle.error.specs.Lent.{With, with, Left, left, leaving, over}
+use Rattle.error.specs.Outcome.{Outcome, answer, nothing, refuse, refused, Condition, when, firstOf, andThen}
+use Rattle.error.specs.Lent.{With, with, Left, left, leaving}
 use Rattle.error.proofs.OutcomeLaws.{passes, refuses, first-passes}
 use Rattle.fsm_sections.specs.declared.FreeSection.{FreeSection}
-use Rattle.fsm_sections.specs.Sections.{flat}
 use Rattle.fsm_blocks.specs.declared.fsse.SectionsAnswer.{SectionsAnswer}
 use Rattle.fsm_blocks.specs.declared.fsse.SectionsAnswer.the-variants as sections
 use Rattle.fsm_blocks.specs.Answers.{sectionsOutcome}
@@ -24,7 +23,7 @@ use Rattle.file_space_info.specs.declared.FileSpaceInfo.{FileSpaceInfo}
 use Rattle.file_space_info.specs.Message.{fixedRead}
 use Rattle.image.specs.declared.ImageRead.{ImageRead}
 use Rattle.image.specs.Answers.{imageOutcome, countsIn, refusedRead}
-use Rattle.image.specs.Reading.{messageAt, addressesIn, readImage, listed, readListed, countsOf, readInto, imageInto}
+use Rattle.image.specs.Reading.{messageAt, addressesIn, readImage, countsOf, readInto, imageInto}
 use Rattle.image.proofs.PlaceLaws.{first-then}
 
 -- ---- what an outcome leaves, with another answer in the place of its own
@@ -131,45 +130,3 @@ module _ (place : ℕ) (image out : List ℕ) where
   image-is m e slots s =
       ap (λ (l : List ℕ). leaving out (readInto out (readSlots 8 0 l image))) s
       ∙ ap (λ (o : Outcome FileSpaceInfo). leaving out (readInto out (andThen o (λ m. readSlots 8 0 (addressesIn (messageAt place image) m) image)))) e
-
--- ---- what an answer says
-
--- the sections of an image: as they are read, counted, listed and put into the run
-pub record Found (place : ℕ) (image out counts out′ : List ℕ) : Type 0 where
-  pub found : List (List FreeSection)
-  pub read : readImage place image ≡ answer found
-  pub lists : readListed place image ≡ answer (listed 0 found)
-  pub counted : counts ≡ countsOf found
-  pub stored : out′ ≡ over 0 (flat (joined found)) out
-
-module _ (place : ℕ) (image out counts out′ : List ℕ) where
-  -- the run takes them
-  run-found : (t : Bool) (r : Refusal) (ls : List (List FreeSection)) → readImage place image ≡ answer ls
-      → let o = firstOf (when t r ∷ []) (answer (with (length (joined ls)) (over 0 (flat (joined ls)) out))) in
-      let p = andThen o (λ w. answer (with (countsOf ls) (w .memory))) in
-      answer counts ≡ leaving out p .outcome → out′ ≡ leaving out p .memory → Found place image out counts out′
-  unfolding firstOf andThen
-  run-found true r ls f e s = let z : _≡_ {A = ℕ} 0 1 = cc in absurd (omega arith)
-  run-found false r ls f e s = record {
-    found = ls;
-    read = f;
-    lists = ap (λ (x : Outcome (List (List FreeSection))). andThen x (λ y. answer (listed 0 y))) f;
-    counted = cc;
-    stored = s;
-  }
-
-  slots-found : (t : Bool) (o : Outcome (List (List FreeSection))) → readImage place image ≡ o
-      → let p = firstOf (when t NotAList ∷ []) (andThen o (λ ls. andThen (intoRun out (joined ls)) (λ w. answer (with (countsOf ls) (w .memory))))) in
-      answer counts ≡ leaving out p .outcome → out′ ≡ leaving out p .memory → Found place image out counts out′
-  unfolding firstOf andThen
-  slots-found true o f e s = let z : _≡_ {A = ℕ} 0 1 = cc in absurd (omega arith)
-  slots-found false (answer ls) f e s = run-found (ltb (length out / 2) (length (joined ls))) (OverCapacity (sat (length (joined ls))) (length out / 2)) ls f e s
-  slots-found false nothing f e s = let z : _≡_ {A = ℕ} 0 1 = cc in absurd (omega arith)
-  slots-found false (refuse n vs) f e s = let z : _≡_ {A = ℕ} 0 1 = cc in absurd (omega arith)
-
-  pub image-found : left (answer counts) out′ ≡ leaving out (imageInto place image out) → Found place image out counts out′
-  unfolding imageInto
-  image-found e =
-      slots-found (not (eqb (length out % 2) 0)) (readImage place image) refl
-      (ap (λ (x : Left (List ℕ) (List ℕ)). x .outcome) e)
-      (ap (λ (x : Left (List ℕ) (List ℕ)). x .memory) e)

@@ -5,15 +5,15 @@ use Rattle.fields.specs.Le.{leBytes, leValue}
 use Rattle.fields.specs.Layout.{layout}
 use Rattle.fields.specs.Ranges.{firstMultiple}
 use Rattle.fields.specs.Width.{leastFrom, encSize, fshdLen}
-use Rattle.free_space.specs.Units.{lastMultiple}
+use Rattle.free_regions.specs.Units.{lastMultiple}
 use Rattle.free_space.specs.Runs.{isList, stored}
 use Rattle.free_space.specs.Calls.{freed, allocated, allocatedUnits, rangeTaken}
-use Rattle.free_space.specs.History.{run}
+use Rattle.free_lists.specs.History.{run}
 use Rattle.fsm_sections.specs.Sections.{space, ofSize, distinct}
 use Rattle.fsm_sections.specs.Pages.{piecesFrom, pieces, split, belowPage, fromPage}
 use Rattle.fsm_lengths.specs.Lengths.{fsseLen}
 use Rattle.fsm_pages.specs.Split.{splitInto}
-use Rattle.fsm_pages.specs.Managers.{sizeOf, slotsFrom}
+use Rattle.fsm_plan.specs.Managers.{sizeOf, slotsFrom}
 use Rattle.file_space_info.specs.Message.{present, numbersAt, parsed}
 use Rattle.marked_cases.specs.Marked.{Marked}
 

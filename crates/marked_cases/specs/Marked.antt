@@ -1,8 +1,11 @@
 -- Document 01's marked cases, M1 to M10, as one table over the definitions that the contracts cite. Assumes nothing.
 --   of        a record with so many regions
 --   gives     an allocation's answer: the address it gives, and the record and the run that it leaves
+--   lent      lent runs of any numbers
+--   freeing   a `free` on the first list
 --   m4Lists   three lists begun empty after the calls of M4 on the first
 --   m9Lists   and after the one call of M9
+--   m10Message   the message of M10
 --   m10Bytes  124 bytes of a message with persist
 --   Marked    the table
 use Prim.Native.Nat.{ℕ, _+_, _-_, _^_}
@@ -13,11 +16,12 @@ use Rattle.error.specs.Outcome.{Outcome, answer}
 use Rattle.error.specs.Lent.{With, with}
 use Rattle.fields.specs.Ranges.{top}
 use Rattle.fields.specs.Width.{encSize, fshdLen}
+use Rattle.free_regions.specs.Regions.{region}
 use Rattle.free_space.specs.declared.list.FreeList.{FreeList}
-use Rattle.free_space.specs.Regions.{region}
 use Rattle.free_space.specs.Calls.{Gave, giving, allocated, allocatedUnits, rangeTaken}
-use Rattle.free_space.specs.History.{Which, metadata, raw, unclassified, free, On, Lists, regionsOf, run, begun}
-use Rattle.fsm_sections.specs.Sections.{section, bySizeThenAddr}
+use Rattle.free_lists.specs.Lists.{Which, metadata, raw, unclassified, Lists, regionsOf}
+use Rattle.free_lists.specs.History.{free, On, run, begun}
+use Rattle.fsm_sections.specs.Sections.{section}
 use Rattle.fsm_lengths.specs.Lengths.{fsseLen}
 use Rattle.fsm_pages.specs.Split.{splitInto}
 use Rattle.file_space_info.specs.declared.FileSpaceStrategy.the-variants.{Page}

@@ -1,8 +1,8 @@
 // The case of document 01 that is run: (100, 50) in one list and (150, 50) in another; where the run of free bytes begins that ends
 // at 200, and at 201. The marked cases are proved (specs/Marked.antt).
 use error::Number;
+use free_lists::trailing_run_start;
 use free_space::list::FreeList;
-use free_space::questions::trailing_run_start;
 use libc::STDOUT_FILENO;
 
 fn print_start(eof: u64) {

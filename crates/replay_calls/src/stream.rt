@@ -30,15 +30,18 @@ fn numbers_buffer() -> [u64; 32768]
     [0; 32768]
 }
 
-// The bytes that a call gives.
-fn work_buffer() -> [u8; 524288]
-    ensures { λ r. ⌜ 524288 ≡ length r ⌝ }
+// How many bytes of scratch a save is lent at first.
+const SCRATCH: usize = 1048576;
+
+// The bytes that a call gives, and the scratch of a save.
+fn work_buffer() -> [u8; SCRATCH]
+    ensures { λ r. ⌜ 1048576 ≡ length r ⌝ }
 {
-    [0; 524288]
+    [0; SCRATCH]
 }
 
-// The longest answer: 16,384 sections of two numbers with twenty digits and a space each take less, and so do the digits of
-// `work`.
+// The longest answer: 16,384 sections of two numbers with twenty digits and a space each take less, and so do the digits of the
+// blocks of as many sections, more than a line names.
 fn out_buffer() -> [u8; 1048576]
     ensures { λ r. ⌜ 1048576 ≡ length r ⌝ }
 {
@@ -246,9 +249,7 @@ fn replay(
         work,
         out,
     );
-    if 0 < n {
-        answer(line, n, runs, counts, numbers, bytes, sections, work, out);
-    }
+    answer(line, n, runs, counts, numbers, bytes, sections, work, out);
 }
 
 // Answers standard input.
@@ -256,7 +257,7 @@ pub fn run() {
     let mut chunk = io::large_buffer();
     let mut line = line_buffer();
     let mut runs = lists_buffer();
-    let mut counts = [0usize; 3];
+    let mut counts = [0, 0, 0, SCRATCH];
     let mut numbers = numbers_buffer();
     let mut bytes = io::large_buffer();
     let mut sections = numbers_buffer();

@@ -1,5 +1,5 @@
 -- Laws of a refusal's line. Assumes nothing.
-use mathlib.Core.Path.{_≡_, refl, ap₂, _∙_}
+use mathlib.Core.Path.{_≡_, refl, sym, ap, ap₂, _∙_}
 use mathlib.Core.List.{List, [], _∷_, _++_}
 use Prim.Native.Nat.{ℕ}
 use types.Run.{OneOf, miss}
@@ -36,3 +36,7 @@ no-values (refusal.OverCapacity n g) k = absurd (miss plain 13 tt k)
 pub stated : (r : Refusal) (out : List ℕ) {n : ℕ} {vs : List ℕ} {w : With ℕ (List ℕ)} → n ≡ numberOf r → vs ≡ valuesOf r → w ≡ written 0 (errWord ++ numbersLine n vs) out
     → w ≡ written 0 (refusalText r) out
 stated r out e f g = g ∙ ap₂ (λ (k : ℕ) (l : List ℕ). written 0 (errWord ++ numbersLine k l) out) e f
+
+-- the line of what an answer is, is the line of the answer
+pub line-of : {A : Type 0} (text : A → List ℕ) (out : List ℕ) {a b : A} {w : With ℕ (List ℕ)} → a ≡ b → w ≡ written 0 (text b) out → w ≡ written 0 (text a) out
+line-of text out e g = g ∙ sym (ap (λ a. written 0 (text a) out) e)

@@ -1,17 +1,36 @@
 -- The words of calls and answers. Assumes nothing.
+--   isCall        whether the first word of a line is a name: 32 is the space behind it
+--   countOf       how many numbers or bytes were read, 0 where the text breaks the protocol
 --   spelledBy     the number that decimal digits spell behind digits that spell v: 48 is the digit 0
 --   halfDigit     the hexadecimal digit of a half byte: 48 is 0, 97 is a
 --   hexByte       the two digits of a byte
 --   numbersLine   numbers with single spaces between them, and a newline
 --   errWord       "err" and a space
 --   refusalText   the line of a refusal: its number and its values
+--   badLine       "bad", "ok" and "none", each with a newline: badLine, okLine, noneLine
+--   outcomeText   the line of an outcome, by the line of its answer
+--   numberText    the line of a number that may be refused
+--   checkedText   the line of a test
 use Prim.Native.Nat.{ℕ, _+_, _-_, _*_, _/_, _%_}
-use mathlib.Core.Bool.{cond}
+use mathlib.Core.Bool.{Bool, true, false, cond, _&&_}
 use mathlib.Core.List.{List, [], _∷_, _++_}
-use lib.Dec.{ltb}
+use lib.Dec.{ltb, eqb}
 use Rattle.error.specs.declared.Refusal.{Refusal}
+use Rattle.error.specs.Outcome.{Outcome, answer, nothing, refuse}
 use Rattle.error.specs.Refusals.{numberOf, valuesOf}
 use Rattle.listing.specs.Text.{word}
+use Rattle.replay_lines.specs.declared.call.Counted.{Counted}
+use Rattle.replay_lines.specs.declared.call.Counted.the-variants as counted
+
+unfoldable pub isCall : List ℕ → List ℕ → Bool
+isCall [] [] = true
+isCall [] (c ∷ line) = eqb c 32
+isCall (n ∷ name) [] = false
+isCall (n ∷ name) (c ∷ line) = eqb c n && isCall name line
+
+abbrev pub countOf : Counted → ℕ
+countOf (counted.Is n) = n
+countOf counted.Bad = 0
 
 unfoldable pub spelledBy : ℕ → List ℕ → ℕ
 spelledBy v [] = v
@@ -32,3 +51,23 @@ errWord = 101 ∷ 114 ∷ 114 ∷ 32 ∷ []
 
 abbrev pub refusalText : Refusal → List ℕ
 refusalText r = errWord ++ numbersLine (numberOf r) (valuesOf r)
+
+abbrev pub badLine : List ℕ
+badLine = 98 ∷ 97 ∷ 100 ∷ 10 ∷ []
+
+abbrev pub okLine : List ℕ
+okLine = 111 ∷ 107 ∷ 10 ∷ []
+
+abbrev pub noneLine : List ℕ
+noneLine = 110 ∷ 111 ∷ 110 ∷ 101 ∷ 10 ∷ []
+
+abbrev pub outcomeText : {A : Type 0} → (A → List ℕ) → Outcome A → List ℕ
+outcomeText line (answer a) = line a
+outcomeText line nothing = noneLine
+outcomeText line (refuse n vs) = errWord ++ numbersLine n vs
+
+abbrev pub numberText : Outcome ℕ → List ℕ
+numberText = outcomeText (λ n. word n 10)
+
+abbrev pub checkedText : Outcome (Unit {0}) → List ℕ
+checkedText = outcomeText (λ _. okLine)

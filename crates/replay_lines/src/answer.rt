@@ -4,8 +4,9 @@ ghost use mathlib.Core.Path.{_≡_};
 ghost use mathlib.Core.List.{[], _∷_, _++_};
 ghost use Prim.Native.Nat.{_<_};
 ghost use Rattle.error.specs.Lent.{with};
+ghost use Rattle.error.specs.Answers.{numberOutcome, checkedOutcome};
 ghost use Rattle.listing.specs.Text.{written, word};
-ghost use Rattle.replay_lines.specs.Words.{halfDigit, hexByte, numbersLine, errWord, refusalText};
+ghost use Rattle.replay_lines.specs.Words.{halfDigit, hexByte, numbersLine, errWord, refusalText, badLine, okLine, noneLine, numberText, checkedText};
 use error::Checked;
 use error::Number;
 use error::Refusal;
@@ -125,15 +126,21 @@ pub fn refused(out: &mut [u8], refusal: Refusal) -> usize
 }
 
 // The line of a call that breaks the protocol.
-pub fn bad(out: &mut [u8]) -> usize {
+pub fn bad(out: &mut [u8]) -> usize
+    ensures { λ r. ⌜ with r (now (out .exit)) ≡ written 0 badLine (now (out .entry)) ⌝ }
+{
     write_bytes(out, 0, b"bad\n")
 }
 
-pub fn done(out: &mut [u8]) -> usize {
+pub fn done(out: &mut [u8]) -> usize
+    ensures { λ r. ⌜ with r (now (out .exit)) ≡ written 0 okLine (now (out .entry)) ⌝ }
+{
     write_bytes(out, 0, b"ok\n")
 }
 
-pub fn nothing(out: &mut [u8]) -> usize {
+pub fn nothing(out: &mut [u8]) -> usize
+    ensures { λ r. ⌜ with r (now (out .exit)) ≡ written 0 noneLine (now (out .entry)) ⌝ }
+{
     write_bytes(out, 0, b"none\n")
 }
 
@@ -144,14 +151,18 @@ pub fn number_line(out: &mut [u8], n: u64) -> usize
     write_word(out, 0, n, b'\n')
 }
 
-pub fn number_answer(out: &mut [u8], n: Number) -> usize {
+pub fn number_answer(out: &mut [u8], n: Number) -> usize
+    ensures { λ r. ⌜ with r (now (out .exit)) ≡ written 0 (numberText (numberOutcome n)) (now (out .entry)) ⌝ }
+{
     match n {
         Number::Is(n) => number_line(out, n),
         Number::Refused(r) => refused(out, r),
     }
 }
 
-pub fn checked_answer(out: &mut [u8], checked: Checked) -> usize {
+pub fn checked_answer(out: &mut [u8], checked: Checked) -> usize
+    ensures { λ r. ⌜ with r (now (out .exit)) ≡ written 0 (checkedText (checkedOutcome checked)) (now (out .entry)) ⌝ }
+{
     match checked {
         Checked::Fine => done(out),
         Checked::Refused(r) => refused(out, r),
@@ -159,13 +170,17 @@ pub fn checked_answer(out: &mut [u8], checked: Checked) -> usize {
 }
 
 // The line of a word and a number.
-pub fn word_line(out: &mut [u8], word: &[u8], n: u64) -> usize {
+pub fn word_line(out: &mut [u8], word: &[u8], n: u64) -> usize
+    ensures { λ r. ⌜ with r (now (out .exit)) ≡ written 0 (now (word .entry) ++ numbersLine n []) (now (out .entry)) ⌝ }
+{
     let at = write_bytes(out, 0, word);
     write_word(out, at, n, b'\n')
 }
 
 // The line of a word and two numbers.
-pub fn pair_line(out: &mut [u8], word: &[u8], first: u64, second: u64) -> usize {
+pub fn pair_line(out: &mut [u8], word: &[u8], first: u64, second: u64) -> usize
+    ensures { λ r. ⌜ with r (now (out .exit)) ≡ written 0 (now (word .entry) ++ numbersLine first (second ∷ [])) (now (out .entry)) ⌝ }
+{
     let at = write_bytes(out, 0, word);
     put_two(out, at, first, second)
 }
@@ -181,7 +196,7 @@ pub fn put_counted(out: &mut [u8], at: usize, run: &[u64], count: u64) -> usize 
 }
 
 // Puts a count and as many pairs of a run, or all if it has fewer.
-fn put_pairs(out: &mut [u8], at: usize, run: &[u64], count: u64) -> usize {
+pub fn put_pairs(out: &mut [u8], at: usize, run: &[u64], count: u64) -> usize {
     let to = put_number(out, at, count);
     if (run.len() / 2) as u64 <= count {
         return put_numbers(out, to, run);

@@ -3,7 +3,7 @@
 ghost use mathlib.Core.Path.{_≡_};
 ghost use Prim.Native.Nat.{_-_, _≤_, _<_};
 ghost use lib.ListN.{length, take, drop};
-ghost use Rattle.replay_lines.specs.Words.{spelledBy};
+ghost use Rattle.replay_lines.specs.Words.{isCall, countOf, spelledBy};
 
 // How many numbers or bytes were read; or the text breaks the protocol.
 pub enum Counted {
@@ -19,7 +19,9 @@ struct Spelled {
 }
 
 // Whether a call has this name.
-pub fn is_call(line: &[u8], name: &[u8]) -> bool {
+pub fn is_call(line: &[u8], name: &[u8]) -> bool
+    ensures { λ r. ⌜ r ≡ isCall (now (name .entry)) (now (line .entry)) ⌝ }
+{
     let mut i = 0;
     while i < name.len() {
         if line.len() <= i {
@@ -112,7 +114,9 @@ fn number_at(text: &[u8], at: usize) -> Spelled
 }
 
 // Reads the numbers of a text, each behind a space.
-pub fn read_numbers(text: &[u8], out: &mut [u64]) -> Counted {
+pub fn read_numbers(text: &[u8], out: &mut [u64]) -> Counted
+    ensures { λ r. ⌜ countOf r ≤ length (now (out .entry)) ⌝ }
+{
     let mut n = 0;
     let mut at = 0;
     while at < text.len() {
@@ -153,7 +157,9 @@ fn half_of(byte: u8) -> u8
 }
 
 // Reads the bytes of a word in hexadecimal; `-` stands for none.
-pub fn read_bytes(word: &[u8], out: &mut [u8]) -> Counted {
+pub fn read_bytes(word: &[u8], out: &mut [u8]) -> Counted
+    ensures { λ r. ⌜ countOf r ≤ length (now (out .entry)) ⌝ }
+{
     let len = word.len();
     if len == 1 {
         if word[0] == b'-' {

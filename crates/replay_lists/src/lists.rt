@@ -1,8 +1,10 @@
 // The calls on the three lists.
+ghost use mathlib.Core.Path.{_≡_};
+ghost use Rattle.error.specs.Lent.{over};
+use free_lists::trailing_run_start;
 use free_space::list::FreeList;
 use free_space::list::Given;
 use free_space::list::Kept;
-use free_space::questions::trailing_run_start;
 use replay_lines::answer::bad;
 use replay_lines::answer::done;
 use replay_lines::answer::nothing;
@@ -67,6 +69,38 @@ fn new_call(args: &[u64], list: FreeList, out: &mut [u8]) -> Answered {
     Answered {
         len: done(out),
         count: fresh.count,
+    }
+}
+
+// Puts numbers at the front of a run, as far as it reaches.
+fn put_front(run: &mut [u64], numbers: &[u64])
+    ensures { λ _. ⌜ now (run .exit) ≡ over 0 (now (numbers .entry)) (now (run .entry)) ⌝ }
+{
+    let mut i = 0;
+    while i < numbers.len() {
+        if run.len() <= i {
+            return;
+        }
+        run[i] = numbers[i];
+        i += 1;
+    }
+}
+
+// Puts any numbers into the run, and any count beside it: they need not be a list.
+fn lend_call(args: &[u64], run: &mut [u64], list: FreeList, out: &mut [u8]) -> Answered {
+    if args.len() < 2 {
+        return wrong(out, list);
+    }
+    if args[1] != (args.len() - 2) as u64 {
+        return wrong(out, list);
+    }
+    if run.len() < args.len() - 2 {
+        return wrong(out, list);
+    }
+    put_front(run, &args[2..]);
+    Answered {
+        len: done(out),
+        count: args[0] as usize,
     }
 }
 
@@ -173,6 +207,9 @@ fn one_list(
 ) -> Answered {
     if is_call(line, b"new") {
         return new_call(args, list, out);
+    }
+    if is_call(line, b"lend") {
+        return lend_call(args, run, list, out);
     }
     if is_call(line, b"free") {
         return free_call(args, run, list, out);

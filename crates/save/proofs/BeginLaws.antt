@@ -18,9 +18,9 @@ use Rattle.error.proofs.TestLaws.{le-or-lt, and-true, and-false, or-false}
 use Rattle.error.proofs.OutcomeLaws.{NoneHolds, first-pass, first-answers}
 use Rattle.error.proofs.OverLaws.{over-nil}
 use Rattle.fields.specs.Ranges.{top}
-use Rattle.free_space.specs.Regions.{region, meets, shareBytes}
+use Rattle.free_regions.specs.Regions.{region, meets, shareBytes}
 use Rattle.free_space.specs.Runs.{isList}
-use Rattle.free_space.specs.History.{Lists, Which, regionsOf, metadata, raw, unclassified}
+use Rattle.free_lists.specs.Lists.{Lists, Which, regionsOf, metadata, raw, unclassified}
 use Rattle.fsm_sections.specs.Sections.{space}
 use Rattle.save_step.specs.declared.Save.{Save}
 use Rattle.save_step.specs.Stores.{messageLen}

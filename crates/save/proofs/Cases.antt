@@ -11,15 +11,16 @@ use Rattle.error.specs.Lent.{with}
 use Rattle.fields.specs.Ranges.{top}
 use Rattle.fields.specs.Width.{encSize, leastFrom}
 use Rattle.checksum.specs.Lookup3.{lookup3}
-use Rattle.free_space.specs.Regions.{region}
+use Rattle.free_regions.specs.Regions.{region}
 use Rattle.free_space.specs.Runs.{isList, stored}
 use Rattle.free_space.specs.Calls.{freed}
-use Rattle.free_space.specs.History.{Which, metadata, raw, unclassified, free, On, Lists, regionsOf, run, begun as begunEmpty}
+use Rattle.free_lists.specs.Lists.{Which, metadata, raw, unclassified, Lists, regionsOf}
+use Rattle.free_lists.specs.History.{free, On, run, begun as begunEmpty}
 use Rattle.fsm_sections.specs.declared.FreeSection.{FreeSection}
 use Rattle.fsm_sections.specs.Sections.{section, space, ofSize, distinct, insert, bySizeThenAddr}
 use Rattle.fsm_sections.specs.Pages.{piecesFrom, pieces, split, belowPage, fromPage}
 use Rattle.fsm_blocks.specs.Managers.{startingSet}
-use Rattle.fsm_pages.specs.Managers.{sizeOf, slotsFrom}
+use Rattle.fsm_plan.specs.Managers.{sizeOf, slotsFrom}
 use Rattle.save_step.specs.declared.Save.{Save}
 use Rattle.save_step.specs.Steps.{saving, steps, stores}
 use Rattle.save.specs.Saving.{plan, blockLen, blockBytes, slotAddrs, filled, begun}

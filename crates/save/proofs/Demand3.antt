@@ -14,11 +14,13 @@ use Rattle.fields.specs.Le.{leBytes}
 use Rattle.fields.specs.Layout.{layout, window}
 use Rattle.fields.specs.Ranges.{top}
 use Rattle.checksum.specs.Lookup3.{lookup3}
-use Rattle.free_space.specs.Regions.{Free}
+use Rattle.free_regions.specs.Regions.{Free}
+use Rattle.free_regions.proofs.OkLaws.{Within, ok-prop}
 use Rattle.free_space.specs.Runs.{isList}
-use Rattle.free_space.specs.History.{Lst, Which, metadata, raw, unclassified, On, Lists, regionsOf, run, begun as begunEmpty, lastOver, wasFree, freeByHistory}
-use Rattle.free_space.proofs.OkLaws.{Within, listed, ok-prop}
-use Rattle.free_space.proofs.HistoryLaws.{history}
+use Rattle.free_space.proofs.ListLaws.{listed}
+use Rattle.free_lists.specs.Lists.{Lst, Which, metadata, raw, unclassified, Lists, regionsOf}
+use Rattle.free_lists.specs.History.{On, run, begun as begunEmpty, lastOver, wasFree, freeByHistory}
+use Rattle.free_lists.proofs.HistoryLaws.{history}
 use Rattle.fsm_sections.specs.declared.FreeSection.{FreeSection}
 use Rattle.fsm_sections.specs.Sections.{bySizeThenAddr, flat, All}
 use Rattle.fsm_sections.specs.Pages.{holding}

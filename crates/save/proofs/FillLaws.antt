@@ -19,7 +19,7 @@ use Rattle.error.proofs.OverLaws.{length-over}
 use Rattle.fields.specs.Ranges.{top}
 use Rattle.free_space.specs.declared.list.FreeList.{FreeList}
 use Rattle.free_space.specs.Runs.{isList}
-use Rattle.free_space.specs.History.{Lists}
+use Rattle.free_lists.specs.Lists.{Lists, three}
 use Rattle.fsm_sections.specs.declared.FreeSection.{FreeSection}
 use Rattle.fsm_sections.specs.Sections.{space}
 use Rattle.fsm_writer.specs.declared.slots.Slot.{Slot}
@@ -39,7 +39,7 @@ use Rattle.save_step.specs.Stores.{messageLen}
 use Rattle.save.specs.declared.tests.Offsets.{Offsets}
 use Rattle.save.specs.declared.tests.Tested.{Tested}
 use Rattle.save.specs.declared.tests.Tested.the-variants as code
-use Rattle.save.specs.Saving.{three, small, smallRaw, large, blockLen, blockBytes, messageOf, conditions, begun}
+use Rattle.save.specs.Saving.{small, smallRaw, large, blockLen, blockBytes, messageOf, conditions, begun}
 use Rattle.save.specs.Beginning.{offsetsOf, testedOutcome, slotAt, slotsAt, messageBy, slotIn, SlotFits, ScratchFits}
 use Rattle.save.proofs.TieLaws.{length-is, len-low, length-bytes, total, blocks-are, slots-are, small-is, raw-is, large-is}
 use Rattle.save.proofs.SumLaws.{sums, each-list}

@@ -12,17 +12,17 @@ use lib.ListN.{length}
 use Rattle.fields.specs.Ranges.{top}
 use Rattle.fields.specs.Layout.{AllFit}
 use Rattle.fields.specs.Width.{encSize, leastFrom}
-use Rattle.free_space.specs.declared.region.FreeRegion.{FreeRegion}
-use Rattle.free_space.specs.Regions.{end as endOf}
-use Rattle.free_space.specs.History.{Lists, Which, metadata, raw, unclassified}
-use Rattle.free_space.proofs.OkLaws.{Within}
+use Rattle.free_regions.specs.declared.FreeRegion.{FreeRegion}
+use Rattle.free_regions.specs.Regions.{end as endOf}
+use Rattle.free_regions.proofs.OkLaws.{Within}
+use Rattle.free_lists.specs.Lists.{Lists, Which, metadata, raw, unclassified}
 use Rattle.fsm_sections.specs.declared.FreeSection.{FreeSection}
 use Rattle.fsm_sections.specs.Sections.{section, space, All}
 use Rattle.fsm_sections.specs.Pages.{end, cutAt, piecesFrom, pieces, split, belowPage, fromPage}
 use Rattle.fsm_sections.proofs.AllLaws.{all-append, all-map}
 use Rattle.fsm_blocks.specs.Fshd.{fshdSize}
 use Rattle.fsm_blocks.specs.Managers.{Settings, startingSet, fsseUsed}
-use Rattle.fsm_pages.specs.Managers.{Manager, managerSize, sizeOf, slotsFrom}
+use Rattle.fsm_plan.specs.Managers.{Manager, managerSize, sizeOf, slotsFrom}
 use Rattle.file_space_info.specs.Message.{addressRow}
 use Rattle.save.specs.Saving.{sectionsOf, small, smallRaw, large, plan}
 use Rattle.save.proofs.PlanLaws.{ManagerFits, PlanFits}

@@ -1,16 +1,16 @@
 -- How many sections hold a byte: of what is read, of the plan, and of the lists. Assumes nothing.
 use mathlib.Core.Path.{_≡_, refl, ap, _∙_}
 use mathlib.Core.Logic.{inl, inr, ⊎-elim, _↔_}
-use Prim.Native.Nat.{ℕ, suc, _+_, _≤_, _<_, min, max}
+use Prim.Native.Nat.{ℕ, suc, _+_, _≤_, _<_}
 use native.Mathlib.Omega.{arith}
 use mathlib.Core.Bool.{Bool, true, false, cond, _||_}
 use mathlib.Core.List.{List, [], _∷_, _++_, map}
-use borrow.Author.Tests.{lt-ltb}
-use Rattle.error.proofs.TestLaws.{le-or-lt, true-not-false, or-false}
-use Rattle.free_space.specs.declared.region.FreeRegion.{FreeRegion}
-use Rattle.free_space.specs.Regions.{end as endOf, In, Free, meets, shares, shareBytes}
-use Rattle.free_space.proofs.OkLaws.{Within}
-use Rattle.free_space.proofs.SetLaws.{free-between}
+use Rattle.error.proofs.TestLaws.{le-or-lt, true-not-false}
+use Rattle.free_regions.specs.declared.FreeRegion.{FreeRegion}
+use Rattle.free_regions.specs.Regions.{end as endOf, Free, shareBytes}
+use Rattle.free_regions.proofs.OkLaws.{Within}
+use Rattle.free_regions.proofs.SetLaws.{free-between}
+use Rattle.free_regions.proofs.ShareLaws.{lists-byte}
 use Rattle.fsm_sections.specs.declared.FreeSection.{FreeSection}
 use Rattle.fsm_sections.specs.Sections.{section, before, insert, bySizeThenAddr}
 use Rattle.fsm_sections.specs.Pages.{end, among, holding}
@@ -75,18 +75,8 @@ holding-list low high b rs false w e = holding-none b rs (λ f. true-not-false f
 
 -- ---- lists that share no byte
 
-meets-in : (r s : FreeRegion) (b : ℕ) → meets r s ≡ false → In r b → In s b → ⊥
-meets-in r s b e p q = true-not-false (meets r s) (lt-ltb (max (r .addr) (s .addr)) (min (endOf r) (endOf s)) (omega arith)) e
-
-shares-in : (r : FreeRegion) (ss : List FreeRegion) (b : ℕ) → shares r ss ≡ false → In r b → Free ss b → ⊥
-shares-in r [] b e p f = f
-shares-in r (s ∷ ss) b e p (inl t) = meets-in r s b (or-false (meets r s) (shares r ss) e .0) p t
-shares-in r (s ∷ ss) b e p (inr t) = shares-in r ss b (or-false (meets r s) (shares r ss) e .1) p t
-
 pub in-both : (rs ss : List FreeRegion) (b : ℕ) → shareBytes rs ss ≡ false → Free rs b → Free ss b → ⊥
-in-both [] ss b e f g = f
-in-both (r ∷ rs) ss b e (inl t) g = shares-in r ss b (or-false (shares r ss) (shareBytes rs ss) e .0) t g
-in-both (r ∷ rs) ss b e (inr t) g = in-both rs ss b (or-false (shares r ss) (shareBytes rs ss) e .1) t g
+in-both rs ss b e f g = true-not-false (shareBytes rs ss) (lists-byte rs ss .1 (b, f, g)) e
 
 -- at most one of three
 pub one-of : (x y z : Bool) → (x ≡ true → y ≡ true → ⊥) → (x ≡ true → z ≡ true → ⊥) → (y ≡ true → z ≡ true → ⊥)

@@ -16,13 +16,12 @@ use Rattle.error.specs.Outcome.{Outcome, answer, refused, Condition, when, firs
 use Rattle.error.proofs.OutcomeLaws.{NoneHolds, first-none, first-holds, first-passes, first-pass, first-answers, first-append, first-refuses}
 use Rattle.fields.specs.Ranges.{top}
 use Rattle.free_space.specs.declared.list.FreeList.{FreeList}
-use Rattle.free_space.specs.Questions.{together}
-use Rattle.free_space.specs.History.{Lists}
+use Rattle.free_lists.specs.Lists.{together, Lists, three, areLists, sharedByte}
 use Rattle.save_step.specs.Stores.{messageLen}
 use Rattle.save.specs.declared.tests.Offsets.{Offsets}
 use Rattle.save.specs.declared.tests.Tested.{Tested}
 use Rattle.save.specs.declared.tests.Tested.the-variants as code
-use Rattle.save.specs.Saving.{three, blockLen, tooLarge, areLists, sharedByte, messageIn, blocksOut, conditions}
+use Rattle.save.specs.Saving.{blockLen, tooLarge, messageIn, blocksOut, conditions}
 use Rattle.save.specs.Beginning.{offsetsOf, anyInTheWay, placeTests, lateTests, testedOutcome}
 use Rattle.save.proofs.TieLaws.{total}
 use Rattle.save.proofs.SumLaws.{sums}
@@ -122,7 +121,7 @@ module _ (ls : Lists) (L start place : ℕ) (image : List ℕ) (given : ℕ) whe
 -- ---- refusal 5, once refusal 3 is past
 
 module _ (xs : List ℕ) (k : FreeList) (ys : List ℕ) (l : FreeList) (zs : List ℕ) (m : FreeList) (lists : areLists (three xs k ys l zs m) ≡ true)
-    (c : Checked) (e : checkedOutcome c ≡ together xs k ys l zs m) (cs : List Condition) where
+    (c : Checked) (e : checkedOutcome c ≡ together (three xs k ys l zs m)) (cs : List Condition) where
   abbrev share : Condition
   share = when (sharedByte (three xs k ys l zs m)) SharedAddress
 

@@ -2,7 +2,7 @@
 --   way     a region ends past `start` or meets the message
 --   ways    a region of a list does
 use mathlib.Core.Path.{_≡_, refl, sym, ap, _∙_}
-use mathlib.Core.Logic.{_⊎_, ⊎-elim}
+use mathlib.Core.Logic.{⊎-elim}
 use Prim.Native.Nat.{ℕ, _+_, _-_, _*_, _≤_, _<_, min, max}
 use native.Mathlib.Omega.{arith}
 use mathlib.Core.Bool.{Bool, true, false, _||_}
@@ -11,11 +11,12 @@ use borrow.Author.Tests.{lt-ltb, le-ltb, le-leb, lt-leb, ltb-false}
 use lib.Dec.{ltb, leb}
 use lib.ListN.{length, drop}
 use Rattle.error.proofs.TestLaws.{le-or-lt, and-false, or-false}
-use Rattle.free_space.specs.declared.region.FreeRegion.{FreeRegion}
+use Rattle.free_regions.specs.declared.FreeRegion.{FreeRegion}
+use Rattle.free_regions.specs.Regions.{region, end, meets, shares}
+use Rattle.free_regions.proofs.OkLaws.{Fit}
 use Rattle.free_space.specs.declared.list.FreeList.{FreeList}
-use Rattle.free_space.specs.Regions.{region, end, meets, shares}
 use Rattle.free_space.specs.Runs.{isList, regionAt, decode}
-use Rattle.free_space.proofs.OkLaws.{Fit, listed, region-fits}
+use Rattle.free_space.proofs.ListLaws.{listed, region-fits}
 use Rattle.free_space.proofs.DecodeLaws.{decode-drop, decode-end}
 use Rattle.fsm_writer.proofs.RunsLaws.{or-decides, or-leaves}
 use Rattle.save.specs.Saving.{endsPast, messageIn, blocksOut}

@@ -24,7 +24,7 @@ use Rattle.fsm_blocks.specs.Managers.{Settings, widthsFor, headerFor, fsseFor, 
 use Rattle.fsm_blocks.specs.Reading.{readManager, readSlots}
 use Rattle.fsm_blocks.proofs.WrittenLaws.{length-fshd, length-fsse}
 use Rattle.fsm_blocks.proofs.ImageLaws.{manager-read, slots-none, slots-more}
-use Rattle.fsm_pages.specs.Managers.{Manager, manager, managerSize, sizeOf, slotsFrom, managerBytes, blocksFrom}
+use Rattle.fsm_plan.specs.Managers.{Manager, manager, managerSize, sizeOf, slotsFrom, managerBytes, blocksFrom}
 
 -- ---- two runs that stand side by side
 

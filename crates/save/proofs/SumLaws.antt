@@ -19,14 +19,14 @@ use Rattle.error.proofs.OutcomeLaws.{refuses, passes}
 use Rattle.fields.specs.Ranges.{top}
 use Rattle.free_space.specs.declared.list.FreeList.{FreeList}
 use Rattle.free_space.specs.Runs.{isList}
-use Rattle.free_space.specs.History.{Lists}
+use Rattle.free_lists.specs.Lists.{Lists, three, areLists}
 use Rattle.fsm_sections.specs.declared.FreeSection.{FreeSection}
 use Rattle.fsm_sections.specs.Sections.{space}
 use Rattle.fsm_writer.specs.declared.slots.Slot.the-variants.{Small, Large}
 use Rattle.fsm_writer.specs.Serializing.{blocksSize}
 use Rattle.fsm_writer.specs.Slots.{slotLen, lenOf}
 use Rattle.save.specs.declared.tests.Offsets.{Offsets}
-use Rattle.save.specs.Saving.{three, small, smallRaw, large, blockLen, tooLarge, areLists}
+use Rattle.save.specs.Saving.{small, smallRaw, large, blockLen, tooLarge}
 use Rattle.save.specs.Beginning.{offsetsOf}
 use Rattle.save.proofs.TieLaws.{length-is, len-known, len-over, total, small-is, raw-is, large-is}
 

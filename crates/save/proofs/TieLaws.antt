@@ -19,10 +19,11 @@ use Rattle.error.proofs.TestLaws.{le-or-lt}
 use Rattle.error.proofs.OutcomeLaws.{NoneHolds, first-pass, first-answers}
 use Rattle.fields.specs.Ranges.{top}
 use Rattle.checksum.specs.Lookup3.{lookup3}
+use Rattle.free_regions.proofs.OkLaws.{ok-prop}
 use Rattle.free_space.specs.declared.list.FreeList.{FreeList}
 use Rattle.free_space.specs.Runs.{isList, decode as regionsIn}
-use Rattle.free_space.specs.History.{Lists}
-use Rattle.free_space.proofs.OkLaws.{listed, ok-prop}
+use Rattle.free_space.proofs.ListLaws.{listed}
+use Rattle.free_lists.specs.Lists.{Lists, three}
 use Rattle.fsm_sections.specs.declared.FreeSection.{FreeSection}
 use Rattle.fsm_sections.specs.Sections.{section, decode, space, All}
 use Rattle.fsm_sections.specs.Pages.{end, slot0, slot6}
@@ -33,8 +34,8 @@ use Rattle.fsm_writer.specs.declared.slots.Slot.the-variants.{Small, Large}
 use Rattle.fsm_writer.specs.Serializing.{anyOf, blocksSize}
 use Rattle.fsm_writer.specs.Slots.{isRun, endsAbove, runTests, sizeTests, slotBytes, lenOf, slotLen}
 use Rattle.fsm_writer.proofs.MeasureLaws.{size-least, size-none}
-use Rattle.fsm_pages.specs.Managers.{manager, managerSize, managerBytes, sizeOf, slotsFrom, blocksFrom}
-use Rattle.save.specs.Saving.{three, small, smallRaw, large, blockLen, blockBytes, slotAddrs}
+use Rattle.fsm_plan.specs.Managers.{manager, managerSize, managerBytes, sizeOf, slotsFrom, blocksFrom}
+use Rattle.save.specs.Saving.{small, smallRaw, large, blockLen, blockBytes, slotAddrs}
 use Rattle.save.specs.Beginning.{offsetsOf, slotAt, slotsAt, slotIn}
 use Rattle.save.proofs.PlanLaws.{length-manager}
 use Rattle.save.proofs.FitLaws.{Ends, list-ends}

@@ -19,7 +19,7 @@ use lib.ListN.{getD}
 use Rattle.error.specs.declared.Refusal.the-variants as refusal
 use Rattle.error.specs.Outcome.{Outcome, answer, refused, Condition, when}
 use Rattle.fields.specs.Ranges.{top}
-use Rattle.free_space.specs.History.{Lists, metadata, raw, unclassified}
+use Rattle.free_lists.specs.Lists.{Lists, metadata, raw, unclassified, areLists, sharedByte}
 use Rattle.fsm_sections.specs.declared.FreeSection.{FreeSection}
 use Rattle.fsm_sections.specs.Sections.{decode}
 use Rattle.fsm_writer.specs.declared.slots.Slot.{Slot}
@@ -32,7 +32,7 @@ use Rattle.save_step.specs.Stores.{messageLen}
 use Rattle.save.specs.declared.tests.Offsets.{Offsets}
 use Rattle.save.specs.declared.tests.Tested.{Tested}
 use Rattle.save.specs.declared.tests.Tested.the-variants as code
-use Rattle.save.specs.Saving.{small, smallRaw, large, tooLarge, areLists, sharedByte, inTheWay, messageIn, blocksOut}
+use Rattle.save.specs.Saving.{small, smallRaw, large, tooLarge, inTheWay, messageIn, blocksOut}
 
 abbrev pub offsetsOf : ℕ → Lists → Offsets
 offsetsOf page ls =

@@ -11,6 +11,9 @@
 --   long, frame    nothing outside blocks and message changes
 --   anew           any save with its message there, also one of other lists, begins over what a cut left as over the image before the save
 --   again          so the same save begins again with any scratch that has room, and ends in the same record and image
+--   recordAt       the record of the save after k stores
+--   S, R, G        the sections of slots 0, 2 and 6, by size and then address
+--   Demand3, Demand   all this of one save; of every one
 use Prim.Native.Nat.{ℕ, suc, _+_, _/_, _%_, _^_, _≤_, _<_}
 use mathlib.Core.Path.{_≡_}
 use mathlib.Core.Logic.{_⊎_}
@@ -19,7 +22,8 @@ use mathlib.Core.List.{List, [], _∷_, _++_, map}
 use lib.ListN.{length, getD, replicate}
 use Rattle.error.specs.Outcome.{answer}
 use Rattle.error.specs.Lent.{with, over}
-use Rattle.free_space.specs.History.{Which, On, Lists, run, begun as begunEmpty, freeByHistory}
+use Rattle.free_lists.specs.Lists.{Which, Lists}
+use Rattle.free_lists.specs.History.{On, run, begun as begunEmpty, freeByHistory}
 use Rattle.fsm_sections.specs.declared.FreeSection.{FreeSection}
 use Rattle.fsm_sections.specs.Sections.{bySizeThenAddr, flat}
 use Rattle.fsm_sections.specs.Pages.{holding}

@@ -1,7 +1,5 @@
 -- The beginning of a save: the plan of three lists, the conditions under which it is refused, and what it puts into the scratch.
 -- Offset size 8 and the starting set of the writer's settings. Assumes nothing.
---   listsOf        the lists of metadata, raw data and unclassified space
---   three          the same by their runs and records
 --   sectionsOf     a list's regions as sections
 --   small, smallRaw, large   the sections of slots 0, 2 and 6
 --   plan           the twelve managers of three lists
@@ -9,11 +7,10 @@
 --   blockBytes     these bytes, from `start` on
 --   slotAddrs      the twelve slots of the message
 --   messageOf      the message: Page, persist, threshold 1, the page size, 0, `start`, the slots
---   areLists       what refusal 3 tests, of all three lists
 --   tooLarge       refusal 4: a slot's sizes add up above 2^64 - 1, or the blocks end above it
---   sharedByte     refusal 5: two of the lists share a byte
 --   messageIn      the 125 bytes at the place are in the image
 --   blocksOut      there are blocks, and they leave the image or overlap the message
+--   endsPast       a region ends past an address
 --   inTheWay       a free region ends past `start` or meets the message
 --   misplaced      refusal 13: message or blocks leave the image, they overlap each other, or a free region is in the way
 --   conditions     all refusals of a beginning, in their order
@@ -31,16 +28,14 @@ use Rattle.error.specs.Outcome.{Outcome, answer, refused, Condition, when, firs
 use Rattle.error.specs.Lent.{With, with, over}
 use Rattle.fields.specs.Ranges.{top}
 use Rattle.checksum.specs.Lookup3.{lookup3}
-use Rattle.free_space.specs.declared.region.FreeRegion.{FreeRegion}
-use Rattle.free_space.specs.declared.list.FreeList.{FreeList}
-use Rattle.free_space.specs.Regions.{region, end, meets, shares, shareBytes}
-use Rattle.free_space.specs.Runs.{isList}
-use Rattle.free_space.specs.History.{Lst, lst, Lists, regionsOf, metadata, raw, unclassified}
+use Rattle.free_regions.specs.declared.FreeRegion.{FreeRegion}
+use Rattle.free_regions.specs.Regions.{region, end, meets, shares}
+use Rattle.free_lists.specs.Lists.{Lst, regionsOf, metadata, raw, unclassified, Lists, areLists, sharedByte}
 use Rattle.fsm_sections.specs.declared.FreeSection.{FreeSection}
 use Rattle.fsm_sections.specs.Sections.{section, space}
 use Rattle.fsm_sections.specs.Pages.{slot0, slot2, slot6}
 use Rattle.fsm_blocks.specs.Managers.{startingSet}
-use Rattle.fsm_pages.specs.Managers.{Manager, managersOf, sizeOf, blocksFrom, slotsFrom}
+use Rattle.fsm_plan.specs.Managers.{Manager, managersOf, sizeOf, blocksFrom, slotsFrom}
 use Rattle.file_space_info.specs.declared.FileSpaceStrategy.the-variants as strategy
 use Rattle.file_space_info.specs.Message.{messageBytes}
 use Rattle.file_space_info.specs.Infos.{persistentManagers}
@@ -48,14 +43,6 @@ use Rattle.save_step.specs.declared.Save.{Save}
 use Rattle.save_step.specs.Stores.{messageLen}
 use Rattle.save.specs.declared.Begin.{Begin}
 use Rattle.save.specs.declared.Begin.the-variants as begin
-
-abbrev pub listsOf : Lst → Lst → Lst → Lists
-listsOf m r u metadata = m
-listsOf m r u raw = r
-listsOf m r u unclassified = u
-
-abbrev pub three : List ℕ → FreeList → List ℕ → FreeList → List ℕ → FreeList → Lists
-three xs k ys l zs m = listsOf (lst xs k) (lst ys l) (lst zs m)
 
 abbrev pub sectionsOf : Lst → List FreeSection
 sectionsOf l = map (λ r. section (r .addr) (r .len)) (regionsOf l)
@@ -94,16 +81,6 @@ module _ (page start : ℕ) (ls : Lists) where
       || (ltb top (space (smallRaw page ls)) || (ltb top (space (large page ls)) || ltb top (start + blockLen page ls)))
 
 -- ---- the conditions
-
-abbrev pub areLists : Lists → Bool
-areLists ls =
-    isList (ls metadata .run) (ls metadata .list)
-    && (isList (ls raw .run) (ls raw .list) && isList (ls unclassified .run) (ls unclassified .list))
-
-abbrev pub sharedByte : Lists → Bool
-sharedByte ls =
-    shareBytes (regionsOf (ls metadata)) (regionsOf (ls raw))
-    || (shareBytes (regionsOf (ls metadata)) (regionsOf (ls unclassified)) || shareBytes (regionsOf (ls raw)) (regionsOf (ls unclassified)))
 
 abbrev pub endsPast : ℕ → List FreeRegion → Bool
 endsPast a [] = false

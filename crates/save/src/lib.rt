@@ -1,7 +1,8 @@
 // The save of three lists into an image: its beginning, which makes every test and fills the scratch. The steps are crate `save_step`.
 ghost use mathlib.Core.Path.{_≡_};
 ghost use Rattle.error.specs.Lent.{left, leaving};
-ghost use Rattle.save.specs.Saving.{three, begun, beginOutcome};
+ghost use Rattle.free_lists.specs.Lists.{three};
+ghost use Rattle.save.specs.Saving.{begun, beginOutcome};
 
 mod fill;
 mod tests;

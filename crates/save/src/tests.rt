@@ -9,17 +9,17 @@ ghost use Rattle.error.specs.declared.Refusal.the-variants.{Overflow, OverCapac
 ghost use Rattle.error.specs.Answers.{checkedOutcome};
 ghost use Rattle.error.specs.Outcome.{answer, when, firstOf};
 ghost use Rattle.fields.specs.Ranges.{top};
-ghost use Rattle.free_space.specs.Regions.{region, meets};
+ghost use Rattle.free_regions.specs.Regions.{region, meets};
 ghost use Rattle.free_space.specs.Runs.{isList};
-ghost use Rattle.free_space.specs.History.{lst};
-ghost use Rattle.save.specs.Saving.{three, areLists, tooLarge, inTheWay, messageIn, blocksOut, conditions};
+ghost use Rattle.free_lists.specs.Lists.{lst, three, areLists};
+ghost use Rattle.save.specs.Saving.{tooLarge, inTheWay, messageIn, blocksOut, conditions};
 ghost use Rattle.save.specs.Beginning.{offsetsOf, anyInTheWay, placeTests, lateTests, testedOutcome};
 use error::Checked;
 use error::Number;
 use error::Refusal;
+use free_lists::are_lists;
+use free_lists::check_lists;
 use free_space::list::FreeList;
-use free_space::questions::are_lists;
-use free_space::questions::check_lists;
 use fsm_writer::slots::Slot;
 use fsm_writer::slots::slot_len;
 

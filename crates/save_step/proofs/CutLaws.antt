@@ -98,9 +98,6 @@ module _ (place start : ℕ) (blocks message image : List ℕ) (s : Savable plac
       (λ n l c e. let z : n ≡ j = omega arith in ap (byteNumber L) z)
       (λ e. absurd (d (omega arith)))
 
-  pub block-old : (i : ℕ) → i < L → (k : ℕ) → k ≤ suc i → getD (cut k) (start + i) 0 ≡ getD image (start + i) 0
-  block-old i h k l = sole-old image ss (start + i) (suc i) (sole-block i h) k l
-
   pub block-new : (i : ℕ) → i < L → (k : ℕ) → suc i < k → getD (cut k) (start + i) 0 ≡ getD blocks i 0
   block-new i h k l =
       let b : start + L ≤ length image = s .blocks-in (omega arith) in

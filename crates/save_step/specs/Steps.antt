@@ -9,6 +9,7 @@
 --   counted       the record with one store more
 --   stepped       a step: after the last store it says finished and changes nothing; before, it is refusal 13 where places leave, and else makes one store
 --   Saving        a save's record and image, as the beginning or the last step left them
+--   saving        the pair of a record and an image
 --   recordAfter   the record that a step leaves
 --   goOn          record and image that a step leaves; after a refusal they are as before
 --   stepOn        record and image after one step

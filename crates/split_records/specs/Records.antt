@@ -8,18 +8,17 @@
 --   cutOff         sections with the first bytes of the first one cut off
 --   piecesLeft     the pieces that are left where d bytes of section i are cut
 use Prim.Native.Nat.{ℕ, _+_, _-_}
-use mathlib.Core.Bool.{not}
 use mathlib.Core.List.{List, [], _∷_, _++_}
-use lib.Dec.{ltb, eqb}
+use lib.Dec.{ltb}
 use lib.ListN.{length, drop}
-use Rattle.error.specs.declared.Refusal.the-variants.{Page, NotAList, Overflow, OverCapacity}
+use Rattle.error.specs.declared.Refusal.the-variants.{OverCapacity}
 use Rattle.error.specs.Outcome.{Outcome, answer, nothing, refuse, Condition, when, firstOf, sat}
 use Rattle.error.specs.Lent.{With, with, Left}
 use Rattle.fields.specs.Ranges.{top}
 use Rattle.fsm_sections.specs.declared.FreeSection.{FreeSection}
 use Rattle.fsm_sections.specs.Sections.{section, decode}
 use Rattle.fsm_sections.specs.Pages.{split}
-use Rattle.fsm_pages.specs.Split.{isRun, endsAbove}
+use Rattle.fsm_pages.specs.Split.{splitTests}
 
 abbrev pub atFront : List FreeSection → List FreeSection → List FreeSection
 atFront l out = l ++ drop (length l) out
@@ -27,11 +26,7 @@ atFront l out = l ++ drop (length l) out
 abbrev pub refusals : List ℕ → ℕ → ℕ → ℕ → List Condition
 refusals xs n page room =
     let l = length (split page (decode n xs)) in
-    when (eqb page 0) Page
-    ∷ when (not (isRun xs n)) NotAList
-    ∷ when (endsAbove (decode n xs)) Overflow
-    ∷ when (ltb room l) (OverCapacity (sat l) room)
-    ∷ []
+    splitTests xs n page ++ (when (ltb room l) (OverCapacity (sat l) room) ∷ [])
 
 unfoldable pub splitRecords : List ℕ → ℕ → ℕ → List FreeSection → Outcome (With ℕ (List FreeSection))
 splitRecords xs n page out =

@@ -1,15 +1,18 @@
 // Sections cut at page boundaries, into a lent run of records.
 ghost use mathlib.Core.Path.{_≡_};
 ghost use mathlib.Core.List.{_∷_};
-ghost use Prim.Native.Nat.{_-_, _*_, _^_, _≤_, _<_, min};
+ghost use Prim.Native.Nat.{_-_, _*_, _^_, _≤_, _<_};
 ghost use mathlib.Core.Bool.{false};
 ghost use lib.ListN.{length};
 ghost use Rattle.error.specs.Lent.{left, leaving, with};
 ghost use Rattle.fsm_sections.specs.Sections.{decode};
 ghost use Rattle.fsm_pages.specs.Split.{endsAbove, splitOutcome};
 ghost use Rattle.split_records.specs.Records.{splitAnswer, piecesIn, splitRecords, piecesLeft, orTop, leftOrTop};
+use error::Number;
 use error::Refusal;
+use fields::number::lesser;
 use fsm_pages::pages::Split;
+use fsm_pages::pages::split_count;
 use fsm_sections::FreeSection;
 
 // A piece, and how far the cutting is then: `done` bytes of section `section`.
@@ -19,27 +22,23 @@ struct Cut {
     done: u64,
 }
 
-// How many records the pieces take, or the refusal: given no room at all, the pair version tells how many there are.
+// How many records the pieces take, or the refusal.
 fn planned(sections: &[u64], count: usize, page: u64, room: usize) -> Split
     requires { ⌜ room < 2 ^ 64 - 1 ⌝ }
     ensures { λ r. ⌜ splitOutcome r ≡ splitAnswer (now (sections .entry)) count page room ⌝ }
 {
-    let mut none: [u64; 0] = [0; 0];
-    match fsm_pages::pages::split_at_pages(sections, count, page, &mut none) {
-        Split::Pieces(_) => Split::Pieces(0),
-        Split::Refused(r) => match r {
-            Refusal::OverCapacity { needed, given: _ } => {
-                let capacity = room as u64;
-                if capacity < needed {
-                    return Split::Refused(Refusal::OverCapacity {
-                        needed: needed,
-                        given: capacity,
-                    });
-                }
-                Split::Pieces(needed as usize)
+    match split_count(sections, count, page) {
+        Number::Refused(r) => Split::Refused(r),
+        Number::Is(needed) => {
+            let capacity = room as u64;
+            if capacity < needed {
+                return Split::Refused(Refusal::OverCapacity {
+                    needed: needed,
+                    given: capacity,
+                });
             }
-            _ => Split::Refused(r),
-        },
+            Split::Pieces(needed as usize)
+        }
     }
 }
 
@@ -51,12 +50,6 @@ fn pieces_in(s: Split) -> usize
         Split::Pieces(n) => n,
         Split::Refused(_) => 0,
     }
-}
-
-fn lesser(x: u64, y: u64) -> u64
-    ensures { λ r. ⌜ r ≡ min x y ⌝ }
-{
-    if x <= y { x } else { y }
 }
 
 // The next piece, where `done` bytes of section `section` are cut.

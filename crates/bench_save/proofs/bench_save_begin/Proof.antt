@@ -5,7 +5,8 @@ use denote.Ref.{now}
 use borrow.Author.Needs.{needs}
 use Rattle.error.specs.Lent.{With, with, leaving}
 use Rattle.free_space.specs.declared.list.FreeList.{FreeList}
-use Rattle.save.specs.Saving.{three, begun}
+use Rattle.free_lists.specs.Lists.{three}
+use Rattle.save.specs.Saving.{begun}
 use Rattle.bench_save.specs.Lengths.{wholeList, saveLeft}
 use Rattle.bench_save.proofs.bench_save_begin.Statement.{statement}
 use Rattle.bench_save.proofs.bench_save_begin.Tie as tie

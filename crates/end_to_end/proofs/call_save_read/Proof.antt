@@ -5,11 +5,6 @@ use Rattle.end_to_end.proofs.CutLaws.{cut-of-lists}
 use Rattle.end_to_end.proofs.DemandedLaws.{demanded}
 use Rattle.end_to_end.proofs.call_save_read.Statement.{statement}
 use Rattle.end_to_end.proofs.call_save_read.Tie as tie
-use Rattle.end_to_end.proofs.call_save_read.Reads as reads
-use Rattle.end_to_end.proofs.call_save_read.Lts as lts
-use Rattle.end_to_end.proofs.calls.make_calls.Reads as make-calls-reads
-use Rattle.save.proofs.save_begin.Reads as save-begin-reads
-use Rattle.end_to_end.proofs.step_and_read.Reads as step-and-read-reads
 
 -- src/lib.rt:88:9
 make-calls-requires : tie.Need-make-calls-requires

@@ -3,11 +3,6 @@ use denote.Ref.{now}
 use Rattle.end_to_end.proofs.CutLaws.{cut-refused, cut-stepped}
 use Rattle.end_to_end.proofs.step_and_read.Statement.{statement}
 use Rattle.end_to_end.proofs.step_and_read.Tie as tie
-use Rattle.end_to_end.proofs.step_and_read.Reads as reads
-use Rattle.end_to_end.proofs.step_and_read.Lts as lts
-use Rattle.end_to_end.proofs.not_begun.Reads as not-begun-reads
-use Rattle.image.proofs.read_image.Reads as read-image-reads
-use Rattle.save_step.proofs.save_steps.Reads as save-steps-reads
 
 -- src/lib.rt:39:24
 enum-known-begin : tie.Need-enum-known-begin

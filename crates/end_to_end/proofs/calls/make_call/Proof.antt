@@ -2,15 +2,6 @@ use borrow.Author.Needs.{needs}
 use Rattle.end_to_end.proofs.CallLaws.{made-free, made-alloc, made-units, made-range, made-trailing}
 use Rattle.end_to_end.proofs.calls.make_call.Statement.{statement}
 use Rattle.end_to_end.proofs.calls.make_call.Tie as tie
-use Rattle.end_to_end.proofs.calls.make_call.Reads as reads
-use Rattle.end_to_end.proofs.calls.make_call.Lts as lts
-use Rattle.end_to_end.proofs.calls.after_given.Reads as after-given-reads
-use Rattle.end_to_end.proofs.calls.after_kept.Reads as after-kept-reads
-use Rattle.free_space.proofs.list.FreeList.alloc.Reads as alloc-reads
-use Rattle.free_space.proofs.list.FreeList.alloc_whole_units.Reads as alloc-whole-units-reads
-use Rattle.free_space.proofs.list.FreeList.free.Reads as free-reads
-use Rattle.free_space.proofs.list.FreeList.take_range.Reads as take-range-reads
-use Rattle.free_space.proofs.list.FreeList.take_trailing.Reads as take-trailing-reads
 
 -- src/calls.rt:44:33
 free-requires : tie.Need-free-requires

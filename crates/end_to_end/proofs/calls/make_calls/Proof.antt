@@ -4,16 +4,12 @@ use native.Mathlib.Omega.{arith}
 use lib.ListN.{length, drop}
 use denote.Ref.{now}
 use borrow.Author.Needs.{needs}
-use Rattle.free_space.specs.History.{lst, run, begun}
-use Rattle.save.specs.Saving.{listsOf}
+use Rattle.free_lists.specs.Lists.{lst, listsOf}
+use Rattle.free_lists.specs.History.{run, begun}
 use Rattle.end_to_end.specs.Encoding.{onsOf, runsOf}
 use Rattle.end_to_end.proofs.CallLaws.{begun-three, run-turn, run-end}
 use Rattle.end_to_end.proofs.calls.make_calls.Statement.{statement}
 use Rattle.end_to_end.proofs.calls.make_calls.Tie as tie
-use Rattle.end_to_end.proofs.calls.make_calls.Reads as reads
-use Rattle.end_to_end.proofs.calls.make_calls.Lts as lts
-use Rattle.end_to_end.proofs.calls.make_on.Reads as make-on-reads
-use Rattle.free_space.proofs.list.FreeList.new.Reads as new-reads
 
 abbrev Inv-loop : tie.InvT-loop
 Inv-loop calls metadata₀ raw₀ unclassified₀ lists₀ at₀ metadata raw unclassified lists at =

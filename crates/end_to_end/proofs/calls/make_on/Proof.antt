@@ -2,9 +2,6 @@ use borrow.Author.Needs.{needs}
 use Rattle.end_to_end.proofs.CallLaws.{on-metadata, on-raw, on-unclassified}
 use Rattle.end_to_end.proofs.calls.make_on.Statement.{statement}
 use Rattle.end_to_end.proofs.calls.make_on.Tie as tie
-use Rattle.end_to_end.proofs.calls.make_on.Reads as reads
-use Rattle.end_to_end.proofs.calls.make_on.Lts as lts
-use Rattle.end_to_end.proofs.calls.make_call.Reads as make-call-reads
 
 -- src/calls.rt:67:13
 make-call-requires : tie.Need-make-call-requires

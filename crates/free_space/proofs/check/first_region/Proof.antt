@@ -5,7 +5,7 @@ use borrow.Author.Needs.{needs}
 use borrow.Author.Tests.{not-true, not-false}
 use lib.ListN.{length}
 use denote.Ref.{now}
-use Rattle.free_space.specs.Regions.{okFrom}
+use Rattle.free_regions.specs.Regions.{okFrom}
 use Rattle.free_space.specs.Runs.{decode}
 use Rattle.free_space.proofs.CheckLaws.{room-has, list-no-room, list-room, first-stops, first-fits, first-goes}
 use Rattle.free_space.proofs.check.first_region.Statement.{statement}

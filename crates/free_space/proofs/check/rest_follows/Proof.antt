@@ -4,7 +4,7 @@ use native.Mathlib.Omega.{arith}
 use borrow.Author.Needs.{needs}
 use lib.ListN.{drop}
 use denote.Ref.{now}
-use Rattle.free_space.specs.Regions.{okFrom}
+use Rattle.free_regions.specs.Regions.{okFrom}
 use Rattle.free_space.specs.Runs.{decode}
 use Rattle.free_space.proofs.CheckLaws.{pass-stops, pass-fits, pass-goes, pass-ends}
 use Rattle.free_space.proofs.check.rest_follows.Statement.{statement}

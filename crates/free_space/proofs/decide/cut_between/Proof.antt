@@ -4,12 +4,12 @@ use Prim.Native.Nat.{_-_, _<_}
 use native.Mathlib.Omega.{arith}
 use borrow.Author.Needs.{needs}
 use denote.Ref.{now}
-use Rattle.free_space.specs.declared.region.FreeRegion.{FreeRegion}
-use Rattle.free_space.specs.Regions.{end, piece, spliced}
+use Rattle.free_regions.specs.declared.FreeRegion.{FreeRegion}
+use Rattle.free_regions.specs.Regions.{end, piece, spliced}
 use Rattle.free_space.specs.Runs.{regions}
 use Rattle.free_space.specs.Calls.{placed, keeping}
 use Rattle.free_space.specs.Decisions.{keptBy}
-use Rattle.free_space.proofs.OkLaws.{listed}
+use Rattle.free_space.proofs.ListLaws.{listed}
 use Rattle.free_space.proofs.CheckLaws.{read-fits}
 use Rattle.free_space.proofs.SpliceLaws.{kept-fitted, kept-same}
 use Rattle.free_space.proofs.CutLaws.{cut-none, cut-some}

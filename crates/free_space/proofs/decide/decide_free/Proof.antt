@@ -3,7 +3,7 @@ use Prim.Native.Nat.{_+_}
 use native.Mathlib.Omega.{arith}
 use borrow.Author.Needs.{needs}
 use denote.Ref.{now}
-use Rattle.free_space.specs.Regions.{region}
+use Rattle.free_regions.specs.Regions.{region}
 use Rattle.free_space.specs.Splices.{Meets}
 use Rattle.free_space.specs.Decisions.{keptBy}
 use Rattle.free_space.proofs.MeetLaws.{one-place}

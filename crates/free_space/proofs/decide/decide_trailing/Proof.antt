@@ -6,7 +6,7 @@ use borrow.Author.Tests.{not-true, not-false}
 use denote.Ref.{now}
 use Rattle.free_space.specs.declared.run.Patch.the-variants.{Empty}
 use Rattle.free_space.specs.Decisions.{givenBy}
-use Rattle.free_space.proofs.OkLaws.{listed}
+use Rattle.free_space.proofs.ListLaws.{listed}
 use Rattle.free_space.proofs.CheckLaws.{read-fits}
 use Rattle.free_space.proofs.SpliceLaws.{given-fitted}
 use Rattle.free_space.proofs.AnswerLaws.{trailing-bad, trailing-none, trailing-other, trailing-last}

@@ -5,7 +5,7 @@ use borrow.Author.Needs.{needs}
 use denote.Ref.{now}
 use Rattle.free_space.specs.Splices.{patch}
 use Rattle.free_space.specs.Decisions.{givenBy}
-use Rattle.free_space.proofs.OkLaws.{listed}
+use Rattle.free_space.proofs.ListLaws.{listed}
 use Rattle.free_space.proofs.CheckLaws.{read-fits}
 use Rattle.free_space.proofs.SpliceLaws.{given-fitted}
 use Rattle.free_space.proofs.AnswerLaws.{taken-is}

@@ -1,10 +1,10 @@
 use mathlib.Core.Path.{ap, _∙_}
 use Prim.Native.Nat.{ℕ}
 use denote.Ref.{now}
+use Rattle.free_regions.proofs.InteriorLaws.{units-serve}
 use Rattle.free_space.specs.Runs.{regions}
 use Rattle.free_space.specs.Calls.{placed, giving, taken}
 use Rattle.free_space.proofs.CheckLaws.{read-fits}
-use Rattle.free_space.proofs.UnitLaws.{units-serve}
 use Rattle.free_space.proofs.decide.take_units.Statement.{statement}
 use Rattle.free_space.proofs.decide.take_units.Tie as tie
 

@@ -2,7 +2,7 @@ use mathlib.Core.Path.{ap, subst}
 use Prim.Native.Nat.{ℕ}
 use borrow.Author.Needs.{needs}
 use denote.Ref.{now}
-use Rattle.free_space.specs.Regions.{best}
+use Rattle.free_regions.specs.Regions.{best}
 use Rattle.free_space.specs.Runs.{decode}
 use Rattle.free_space.specs.Splices.{Begins}
 use Rattle.free_space.proofs.fit.best_fit.Statement.{statement}

@@ -1,10 +1,9 @@
 use mathlib.Core.Path.{ap}
-use Prim.Native.Nat.{_-_}
 use native.Mathlib.Omega.{arith}
 use borrow.Author.Needs.{needs}
 use denote.Ref.{now}
-use Rattle.free_space.specs.declared.region.FreeRegion.{FreeRegion}
-use Rattle.free_space.proofs.OkLaws.{listed}
+use Rattle.free_regions.specs.declared.FreeRegion.{FreeRegion}
+use Rattle.free_space.proofs.ListLaws.{listed}
 use Rattle.free_space.proofs.CheckLaws.{read-fits}
 use Rattle.free_space.proofs.InsertLaws.{absorb-apart, absorb-touch}
 use Rattle.free_space.proofs.join.join_above.Statement.{statement}

@@ -3,8 +3,8 @@ use Prim.Native.Nat.{_-_, _<_}
 use native.Mathlib.Omega.{arith}
 use borrow.Author.Needs.{needs}
 use denote.Ref.{now}
-use Rattle.free_space.specs.Regions.{end}
-use Rattle.free_space.proofs.OkLaws.{listed}
+use Rattle.free_regions.specs.Regions.{end}
+use Rattle.free_space.proofs.ListLaws.{listed}
 use Rattle.free_space.proofs.CheckLaws.{read-fits}
 use Rattle.free_space.proofs.InsertLaws.{insert-apart, insert-touch}
 use Rattle.free_space.proofs.join.join_below.Statement.{statement}

@@ -4,12 +4,12 @@ use Prim.Native.Nat.{_≤_}
 use native.Mathlib.Omega.{arith}
 use lib.ListN.{take}
 use denote.Ref.{now}
-use Rattle.free_space.specs.declared.region.FreeRegion.{FreeRegion}
+use Rattle.free_regions.specs.declared.FreeRegion.{FreeRegion}
 use Rattle.free_space.specs.declared.run.Patch.the-variants.{One}
 use Rattle.free_space.specs.Runs.{regions}
 use Rattle.free_space.specs.Calls.{placed, keeping}
 use Rattle.free_space.specs.Decisions.{keptBy}
-use Rattle.free_space.proofs.OkLaws.{listed}
+use Rattle.free_space.proofs.ListLaws.{listed}
 use Rattle.free_space.proofs.SpliceLaws.{kept-fitted}
 use Rattle.free_space.proofs.join.put_between.Statement.{statement}
 use Rattle.free_space.proofs.join.put_between.Tie as tie

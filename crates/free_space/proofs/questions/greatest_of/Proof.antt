@@ -1,9 +1,10 @@
-use Prim.Native.Nat.{_-_, max}
-use mathlib.Core.Path.{ap, _∙_}
+use Prim.Native.Nat.{ℕ, _+_, _-_, max}
+use mathlib.Core.Path.{_≡_, ap, _∙_}
 use native.Mathlib.Omega.{arith}
 use borrow.Author.Needs.{needs}
 use denote.Ref.{now}
-use Rattle.free_space.proofs.OkLaws.{fit}
+use Rattle.free_regions.specs.Regions.{end}
+use Rattle.free_regions.proofs.OkLaws.{fit}
 use Rattle.free_space.proofs.QuestionLaws.{denied, held, Room, room, Passed, pass-no-room, pass-empty, pass-first, pass-none, pass-turn, pass-stop, pass-end}
 use Rattle.free_space.proofs.questions.greatest_of.Statement.{statement}
 use Rattle.free_space.proofs.questions.greatest_of.Tie as tie
@@ -70,13 +71,10 @@ returns-4 c =
 measured-requires-2 : tie.Need-measured-requires-2 Inv-loop μ-loop
 measured-requires-2 c κs = fit _ (c .before .before .region-at2 .result) (held (c .before .follows .ensures) (c .if4 .left)) .within
 
-greater-requires : tie.Need-greater-requires Inv-loop μ-loop
-greater-requires c κs = search needs
-
 add-end-2 : tie.Need-add-end-2 Inv-loop μ-loop
 add-end-2 c =
-    let r = c .before .before .before .before in
-    let f = fit _ (r .before .region-at2 .result) (held (r .follows .ensures) (c .before .before .before .if4 .left)) in
+    let r = c .before .before .before in
+    let f = fit _ (r .before .region-at2 .result) (held (r .follows .ensures) (c .before .before .if4 .left)) in
     record { fits = omega (arith, f .within) }
 
 add-i : tie.Need-add-i Inv-loop μ-loop
@@ -85,14 +83,26 @@ add-i c = search needs
 loop-less : tie.Need-loop-less Inv-loop μ-loop
 loop-less c = search needs
 
-loop-again : tie.Need-loop-again Inv-loop μ-loop
-loop-again c =
-    let r = c .before .before .before .before in
+-- k is the greatest measure with the region that was read
+turn : (s : tie.After-struct-known2 Inv-loop μ-loop) (k : ℕ) → let l = s .before .before .before .before .before .before in
+    let a = l .before .before .before .before .before .before .before .before .before .before .args in
+    k ≡ max (l .loop .most) (s .before .measured2 .result)
+    → Passed (a .what) (now (a .run)) (a .list .count) (l .loop .i + 1) (end (s .before .before .before .before .region-at2 .result)) k
+turn s k e =
+    let r = s .before .before .before in
     let l = r .before .before in
     let a = l .before .before .before .before .before .before .before .before .before .before .before .args in
     pass-turn _ _ (a .list) _ _ (r .before .region-at2 .ensures) (l .loop-test .taken) _ (l .before .loop .inv)
-    (held (r .follows .ensures) (c .before .before .before .if4 .left))
-    (c .before .greater .ensures ∙ ap (max (l .before .loop .most)) (c .before .before .measured2 .ensures))
+    (held (r .follows .ensures) (s .before .before .if4 .left)) (e ∙ ap (max (l .before .loop .most)) (s .before .measured2 .ensures))
+
+loop-again : tie.Need-loop-again Inv-loop μ-loop
+loop-again c = turn (c .before) _ (omega arith)
+
+loop-less-2 : tie.Need-loop-less-2 Inv-loop μ-loop
+loop-less-2 c = search needs
+
+loop-again-2 : tie.Need-loop-again-2 Inv-loop μ-loop
+loop-again-2 c = turn (c .before) _ (omega arith)
 
 returns-5 : tie.Need-returns-5 Inv-loop μ-loop
 returns-5 c =
@@ -118,9 +128,10 @@ greatest-of-spec =
     follows-requires
     returns-4
     measured-requires-2
-    greater-requires
     add-end-2
     add-i
     loop-less
     loop-again
+    loop-less-2
+    loop-again-2
     returns-5)

@@ -2,9 +2,9 @@ use mathlib.Core.Path.{ap, subst}
 use Prim.Native.Nat.{ℕ}
 use borrow.Author.Needs.{needs}
 use denote.Ref.{now}
-use Rattle.free_space.specs.Regions.{best}
+use Rattle.free_regions.specs.Regions.{best}
+use Rattle.free_regions.specs.Units.{interiorSpan}
 use Rattle.free_space.specs.Runs.{decode}
-use Rattle.free_space.specs.Units.{interiorSpan}
 use Rattle.free_space.specs.Splices.{Begins}
 use Rattle.free_space.proofs.units.best_units.Statement.{statement}
 use Rattle.free_space.proofs.units.best_units.Tie as tie

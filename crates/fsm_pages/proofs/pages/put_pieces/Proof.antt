@@ -1,103 +1,121 @@
-use mathlib.Core.Path.{ap, _∙_}
-use mathlib.Core.List.{List}
-use Prim.Native.Nat.{_+_, _-_, _*_, _≤_}
+use mathlib.Core.Path.{_∙_}
+use Prim.Native.Nat.{_+_, _≤_}
 use native.Mathlib.Omega.{arith}
-use native.Mathlib.Nat.{mod-lt}
 use denote.Ref.{now}
 use borrow.Author.Needs.{needs}
-use lib.ListN.{length, length-set}
-use Rattle.error.specs.Lent.{over}
+use lib.ListN.{length, set, length-set}
 use Rattle.error.proofs.OverLaws.{store-pair}
-use Rattle.fsm_sections.specs.declared.FreeSection.{FreeSection}
-use Rattle.fsm_sections.specs.Sections.{flat}
-use Rattle.fsm_pages.proofs.PieceLaws.{left, left-all, piece-some, Cutting, cut-start, cut-room, cut-step, cut-end, cut-place}
+use Rattle.fsm_pages.proofs.PieceLaws.{Walking, walk-start, room-some, walk-room, walk-step, walk-none, walk-last}
 use Rattle.fsm_pages.proofs.pages.put_pieces.Statement.{statement}
 use Rattle.fsm_pages.proofs.pages.put_pieces.Tie as tie
 
 abbrev Inv-loop : tie.InvT-loop
-Inv-loop page addr size out₀ from end a₀ k₀ out a k = Cutting page addr end from out₀ out a k
+Inv-loop page bits addr size out₀ from a₀ left₀ room₀ k₀ out a left room k = Walking page addr (addr + size) from out₀ out a left room k
 
 abbrev μ-loop : tie.MeasureT-loop
-μ-loop page addr size out₀ from end a₀ k₀ out a k = end - a
+μ-loop page bits addr size out₀ from a₀ left₀ room₀ k₀ out a left room k = left
 
--- the run has room for the pieces that the loop puts
-piece-room : (c : tie.After-slice-known Inv-loop μ-loop) → let a = c .before .args in a .from + 2 * length (left (a .page) (a .addr) (a .addr + a .size)) ≤ length (now (a .out))
-piece-room c = let a = c .before .args in omega (arith, ap length (left-all (a .page) (a .addr) (a .size)))
-
--- and for the next of them
-next-room : (c : tie.In-loop Inv-loop μ-loop) → let l = c .before .loop in l .k + 2 ≤ length (l .out)
-next-room c =
-    let s = c .before .before in
-    let a = s .before .args in
+-- the run has room for the piece that a turn puts, and for the last one
+turn-room : (c : tie.In-loop Inv-loop μ-loop) → let l = c .before .loop in l .k + 2 ≤ length (l .out)
+turn-room c =
+    let s = c .before .before .before .before in
+    let a = s .args in
     let l = c .before .loop in
-    cut-room (a .page) (a .addr) (a .addr + a .size) (a .from) (now (a .out)) (s .before .pre .0 .0) (piece-room s) (l .out) (l .a) (l .k) (l .inv) (c .loop-test .taken)
+    walk-room (a .page) (a .addr) (a .size) (a .from) (now (a .out)) (s .pre .0 .0) (s .pre .1) (l .out) (l .a) (l .left) (l .room) (l .k) (l .inv) (omega arith)
 
-add-end : tie.Need-add-end Inv-loop μ-loop
-add-end c = search needs
+last-room : (c : tie.Else1 Inv-loop μ-loop) → let l = c .before .before .loop in l .k + 2 ≤ length (l .out)
+last-room c =
+    let s = c .before .before .before .before .before in
+    let a = s .args in
+    let l = c .before .before .loop in
+    walk-room (a .page) (a .addr) (a .size) (a .from) (now (a .out)) (s .pre .0 .0) (s .pre .1) (l .out) (l .a) (l .left) (l .room) (l .k) (l .inv) (omega (arith, c .if1 .left))
+
+room-in-requires : tie.Need-room-in-requires Inv-loop μ-loop
+room-in-requires c κs = search needs
 
 loop-holds : tie.Need-loop-holds Inv-loop μ-loop
 loop-holds c =
-    let a = c .before .args in
-    cut-start (a .page) (a .addr) (a .addr + a .size) (a .from) (now (a .out)) (c .before .pre .0 .0) (piece-room c) (omega arith)
-
-sub-lesser : tie.Need-sub-lesser Inv-loop μ-loop
-sub-lesser c = search needs
-
-rem-lesser : tie.Need-rem-lesser Inv-loop μ-loop
-rem-lesser c = search needs
-
-sub-lesser-2 : tie.Need-sub-lesser-2 Inv-loop μ-loop
-sub-lesser-2 c = let a = c .before .before .before .args in omega (arith, mod-lt (c .before .loop .a) {m = a .page} (omega arith))
-
-lesser-requires : tie.Need-lesser-requires Inv-loop μ-loop
-lesser-requires c κs = search needs
+    let s = c .before .before in
+    let a = s .args in
+    walk-start (a .page) (a .addr) (a .size) (a .from) (now (a .out)) (s .pre .0 .0) (s .pre .1) _ (c .room-in .ensures)
 
 mul-out : tie.Need-mul-out Inv-loop μ-loop
-mul-out c = omega (arith, next-room (c .before))
+mul-out c = omega (arith, turn-room c)
 
 slice-write-out : tie.Need-slice-write-out Inv-loop μ-loop
-slice-write-out c = omega (arith, next-room (c .before))
+slice-write-out c = omega (arith, turn-room c)
 
 add-out : tie.Need-add-out Inv-loop μ-loop
-add-out c = omega (arith, next-room (c .before))
+add-out c = omega (arith, turn-room c)
 
 mul-out-2 : tie.Need-mul-out-2 Inv-loop μ-loop
-mul-out-2 c = omega (arith, next-room (c .before))
+mul-out-2 c = omega (arith, turn-room c)
 
 slice-write-out-2 : tie.Need-slice-write-out-2 Inv-loop μ-loop
-slice-write-out-2 c = let h = next-room (c .before) in simp length-set (omega (arith, h))
+slice-write-out-2 c = let h = turn-room c in simp length-set (omega (arith, h))
 
 add-a : tie.Need-add-a Inv-loop μ-loop
-add-a c = search needs
+add-a c = omega (arith, c .before .loop .inv .ends)
+
+sub-left : tie.Need-sub-left Inv-loop μ-loop
+sub-left c = search needs
 
 add-k : tie.Need-add-k Inv-loop μ-loop
-add-k c = omega (arith, next-room (c .before))
+add-k c = omega (arith, turn-room c)
 
 loop-less : tie.Need-loop-less Inv-loop μ-loop
 loop-less c =
-    let a = c .before .before .before .before .args in
-    omega (arith, piece-some (a .page) (c .before .before .loop .a) (a .addr + a .size) (c .before .before .before .before .pre .0 .0) (c .before .loop-test .taken), c .lesser .ensures)
+    let s = c .before .before .before .before in
+    let a = s .args in
+    let l = c .before .loop in
+    omega (arith, room-some (a .page) (a .addr) (a .size) (a .from) (now (a .out)) (s .pre .0 .0) (s .pre .1) (l .out) (l .a) (l .left) (l .room) (l .k) (l .inv))
 
 loop-again : tie.Need-loop-again Inv-loop μ-loop
 loop-again c =
-    let s = c .before .before .before in
-    let a = s .before .args in
-    let l = c .before .before .loop in
-    cut-step (a .page) (a .addr) (a .addr + a .size) (a .from) (now (a .out)) (s .before .pre .0 .0) (piece-room s) (l .out) (l .a) (l .k) (l .inv) (c .before .loop-test .taken)
-    _ (c .lesser .ensures) _ (store-pair (l .k) (l .a) (c .lesser .result) (l .out))
+    let s = c .before .before .before .before in
+    let a = s .args in
+    let l = c .before .loop in
+    walk-step (a .page) (a .addr) (a .size) (a .from) (now (a .out)) (s .pre .0 .0) (s .pre .1) (l .out) (l .a) (l .left) (l .room) (l .k) (l .inv) (c .loop-test .taken)
+    _ (store-pair (l .k) (l .a) (l .room) (l .out))
 
 same-length : tie.Need-same-length Inv-loop μ-loop
-same-length c = c .before .loop .inv .same-length
+same-length c = c .before .before .loop .inv .cut .same-length
 
 returns : tie.Need-returns Inv-loop μ-loop
 returns c =
-    let s = c .before .before in
-    let a = s .before .args in
-    let l = c .before .loop in
-    let e = left-all (a .page) (a .addr) (a .size) in (
-      cut-end (a .page) (a .addr) (a .addr + a .size) (a .from) (now (a .out)) (s .before .pre .0 .0) (piece-room s) (l .out) (l .a) (l .k) (l .inv) (c .loop-test .left) ∙ ap (λ (m : List FreeSection). over (a .from) (flat m) (now (a .out))) e,
-      cut-place (a .page) (a .addr) (a .addr + a .size) (a .from) (now (a .out)) (s .before .pre .0 .0) (piece-room s) (l .out) (l .a) (l .k) (l .inv) (c .loop-test .left) ∙ ap (λ (m : List FreeSection). a .from + 2 * length m) e,
-    )
+    let s = c .before .before .before .before .before in
+    let a = s .args in
+    let l = c .before .before .loop in
+    walk-none (a .page) (a .addr) (a .size) (a .from) (now (a .out)) (s .pre .0 .0) (s .pre .1) (l .out) (l .a) (l .left) (l .room) (l .k) (l .inv) (c .if1 .taken)
+
+mul-out-3 : tie.Need-mul-out-3 Inv-loop μ-loop
+mul-out-3 c = omega (arith, last-room c)
+
+slice-write-out-3 : tie.Need-slice-write-out-3 Inv-loop μ-loop
+slice-write-out-3 c = omega (arith, last-room c)
+
+add-out-2 : tie.Need-add-out-2 Inv-loop μ-loop
+add-out-2 c = omega (arith, last-room c)
+
+mul-out-4 : tie.Need-mul-out-4 Inv-loop μ-loop
+mul-out-4 c = omega (arith, last-room c)
+
+slice-write-out-4 : tie.Need-slice-write-out-4 Inv-loop μ-loop
+slice-write-out-4 c = let h = last-room c in simp length-set (omega (arith, h))
+
+add-result : tie.Need-add-result Inv-loop μ-loop
+add-result c = omega (arith, last-room c)
+
+same-length-2 : tie.Need-same-length-2 Inv-loop μ-loop
+same-length-2 c = let l = c .before .before .loop in length-set (set (l .out) (l .k) (l .a)) (l .k + 1) (l .left) ∙ length-set (l .out) (l .k) (l .a) ∙ l .inv .cut .same-length
+
+returns-2 : tie.Need-returns-2 Inv-loop μ-loop
+returns-2 c =
+    let s = c .before .before .before .before .before in
+    let a = s .args in
+    let l = c .before .before .loop in
+    walk-last (a .page) (a .addr) (a .size) (a .from) (now (a .out)) (s .pre .0 .0) (s .pre .1) (l .out) (l .a) (l .left) (l .room) (l .k) (l .inv) (c .before .loop-test .left) (c .if1 .left)
+    _ (store-pair (l .k) (l .a) (l .left) (l .out))
 
 pub put-pieces-spec : {M : Type 1} → statement M
 put-pieces-spec =
@@ -105,20 +123,25 @@ put-pieces-spec =
     (tie.spec
     Inv-loop
     μ-loop
-    add-end
+    room-in-requires
     loop-holds
-    sub-lesser
-    rem-lesser
-    sub-lesser-2
-    lesser-requires
     mul-out
     slice-write-out
     add-out
     mul-out-2
     slice-write-out-2
     add-a
+    sub-left
     add-k
     loop-less
     loop-again
     same-length
-    returns)
+    returns
+    mul-out-3
+    slice-write-out-3
+    add-out-2
+    mul-out-4
+    slice-write-out-4
+    add-result
+    same-length-2
+    returns-2)

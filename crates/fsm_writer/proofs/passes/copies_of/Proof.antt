@@ -24,7 +24,12 @@ add-total-2 : tie.Need-add-total-2 Inv-loop μ-loop
 add-total-2 c = search needs
 
 loop-holds : tie.Need-loop-holds Inv-loop μ-loop
-loop-holds c = (at-first (c .before .before .before .before .before .args .s) (now (c .before .before .before .before .before .args .a)) (now (c .before .before .before .before .before .args .b)) (now (c .before .before .before .before .before .args .c)) (c .before .before .before .before .before .pre .0), start-of (c .before .before .before .before .before .args .s) (now (c .before .before .before .before .before .args .a)) (now (c .before .before .before .before .before .args .b)) (now (c .before .before .before .before .before .args .c)) (c .before .before .before .before .before .pre .0) (times (section (c .before .before .before .before .before .args .addr) (c .before .before .before .before .before .args .size))))
+loop-holds c =
+    let s = c .before .before .before .before .before in
+    let a = s .args in (
+      at-first (a .s) (now (a .a)) (now (a .b)) (now (a .c)) (s .pre .0),
+      start-of (a .s) (now (a .a)) (now (a .b)) (now (a .c)) (s .pre .0) (times (section (a .addr) (a .size))),
+    )
 
 add-loop : tie.Need-add-loop Inv-loop μ-loop
 add-loop c = search needs
@@ -39,17 +44,45 @@ copies-in-requires : tie.Need-copies-in-requires Inv-loop μ-loop
 copies-in-requires c κs = search needs
 
 add-n : tie.Need-add-n Inv-loop μ-loop
-add-n c = omega (arith, take-times (c .before .before .before .before .before .before .before .before .before .args .s) (now (c .before .before .before .before .before .before .before .before .before .args .a)) (now (c .before .before .before .before .before .before .before .before .before .args .b)) (now (c .before .before .before .before .before .before .before .before .before .args .c)) (c .before .before .before .loop .i) (c .before .before .before .loop .j) (c .before .before .before .loop .k) (c .before .next-chain .result) (c .before .next-chain .ensures) (section (c .before .before .before .before .before .before .before .before .before .args .addr) (c .before .before .before .before .before .before .before .before .before .args .size)), c .copies-in .ensures, c .before .before .before .loop .inv .1, times-few (c .before .before .before .before .before .before .before .before .before .args .addr) (c .before .before .before .before .before .before .before .before .before .args .size) (sectionsOf (chainsOf (c .before .before .before .before .before .before .before .before .before .args .s) (now (c .before .before .before .before .before .before .before .before .before .args .a)) (now (c .before .before .before .before .before .before .before .before .before .args .b)) (now (c .before .before .before .before .before .before .before .before .before .args .c)))), c .before .before .before .before .before .before .before .before .before .pre .1)
+add-n c =
+    let s = c .before .before .before .before .before .before .before .before .before in
+    let a = s .args in
+    let l = sectionsOf (chainsOf (a .s) (now (a .a)) (now (a .b)) (now (a .c))) in
+    let loop = c .before .before .before .loop in
+    omega (
+      arith,
+      take-times (a .s) (now (a .a)) (now (a .b)) (now (a .c)) (loop .i) (loop .j) (loop .k) (c .before .next-chain .result)
+          (c .before .next-chain .ensures) (section (a .addr) (a .size)),
+      c .copies-in .ensures,
+      loop .inv .1,
+      times-few (a .addr) (a .size) l,
+      s .pre .1,
+    )
 
 loop-less : tie.Need-loop-less Inv-loop μ-loop
 loop-less c = omega (arith, c .before .next-chain .ensures .one-more)
 
 loop-again : tie.Need-loop-again Inv-loop μ-loop
-loop-again c = (c .before .next-chain .ensures .within, omega (arith, take-times (c .before .before .before .before .before .before .before .before .before .args .s) (now (c .before .before .before .before .before .before .before .before .before .args .a)) (now (c .before .before .before .before .before .before .before .before .before .args .b)) (now (c .before .before .before .before .before .before .before .before .before .args .c)) (c .before .before .before .loop .i) (c .before .before .before .loop .j) (c .before .before .before .loop .k) (c .before .next-chain .result) (c .before .next-chain .ensures) (section (c .before .before .before .before .before .before .before .before .before .args .addr) (c .before .before .before .before .before .before .before .before .before .args .size)), c .copies-in .ensures, c .before .before .before .loop .inv .1))
+loop-again c =
+    let a = c .before .before .before .before .before .before .before .before .before .args in
+    let loop = c .before .before .before .loop in (
+      c .before .next-chain .ensures .within,
+      omega (
+        arith,
+        take-times (a .s) (now (a .a)) (now (a .b)) (now (a .c)) (loop .i) (loop .j) (loop .k) (c .before .next-chain .result)
+            (c .before .next-chain .ensures) (section (a .addr) (a .size)),
+        c .copies-in .ensures,
+        loop .inv .1,
+      ),
+    )
 
 returns : tie.Need-returns Inv-loop μ-loop
 unfolding times
-returns c = end-of (c .before .before .before .before .before .before .before .args .s) (now (c .before .before .before .before .before .before .before .args .a)) (now (c .before .before .before .before .before .before .before .args .b)) (now (c .before .before .before .before .before .before .before .args .c)) (c .before .before .before .before .before .before .before .pre .0) (times (section (c .before .before .before .before .before .before .before .args .addr) (c .before .before .before .before .before .before .before .args .size))) refl _ _ _ _ (c .before .loop .inv .0) (omega arith) (c .before .loop .inv .1)
+returns c =
+    let s = c .before .before .before .before .before .before .before in
+    let a = s .args in
+    end-of (a .s) (now (a .a)) (now (a .b)) (now (a .c)) (s .pre .0) (times (section (a .addr) (a .size))) refl _ _ _ _ (c .before .loop .inv .0)
+    (omega arith) (c .before .loop .inv .1)
 
 pub copies-of-spec : {M : Type 1} → statement M
 copies-of-spec =

@@ -25,7 +25,13 @@ add-total-2 : tie.Need-add-total-2 Inv-loop μ-loop
 add-total-2 c = search needs
 
 loop-holds : tie.Need-loop-holds Inv-loop μ-loop
-loop-holds c = (at-first (c .before .before .before .before .before .args .s) (now (c .before .before .before .before .before .args .a)) (now (c .before .before .before .before .before .args .b)) (now (c .before .before .before .before .before .args .c)) (c .before .before .before .before .before .pre), addr-first (c .before .before .before .before .before .args .s) (now (c .before .before .before .before .before .args .a)) (now (c .before .before .before .before .before .args .b)) (now (c .before .before .before .before .before .args .c)) (c .before .before .before .before .before .pre) (c .before .before .before .before .before .args .z) (c .before .before .before .before .before .args .from), omega arith)
+loop-holds c =
+    let s = c .before .before .before .before .before in
+    let a = s .args in (
+      at-first (a .s) (now (a .a)) (now (a .b)) (now (a .c)) (s .pre),
+      addr-first (a .s) (now (a .a)) (now (a .b)) (now (a .c)) (s .pre) (a .z) (a .from),
+      omega arith,
+    )
 
 add-loop : tie.Need-add-loop Inv-loop μ-loop
 add-loop c = search needs
@@ -46,10 +52,27 @@ loop-less : tie.Need-loop-less Inv-loop μ-loop
 loop-less c = omega (arith, c .before .before .next-chain .ensures .one-more)
 
 loop-again : tie.Need-loop-again Inv-loop μ-loop
-loop-again c = (c .before .before .next-chain .ensures .within, omega (arith, take-addr (c .before .before .before .before .before .before .before .before .before .before .args .s) (now (c .before .before .before .before .before .before .before .before .before .before .args .a)) (now (c .before .before .before .before .before .before .before .before .before .before .args .b)) (now (c .before .before .before .before .before .before .before .before .before .before .args .c)) (c .before .before .before .before .loop .i) (c .before .before .before .before .loop .j) (c .before .before .before .before .loop .k) (c .before .before .next-chain .result) (c .before .before .next-chain .ensures) (c .before .before .before .before .before .before .before .before .before .before .args .z) (c .before .before .before .before .before .before .before .before .before .before .args .from), c .lesser .ensures, c .before .first-from .ensures, c .before .before .before .before .loop .inv .1), omega (arith, c .lesser .ensures, c .before .before .before .before .loop .inv .2))
+loop-again c =
+    let a = c .before .before .before .before .before .before .before .before .before .before .args in
+    let loop = c .before .before .before .before .loop in (
+      c .before .before .next-chain .ensures .within,
+      omega (
+        arith,
+        take-addr (a .s) (now (a .a)) (now (a .b)) (now (a .c)) (loop .i) (loop .j) (loop .k) (c .before .before .next-chain .result)
+            (c .before .before .next-chain .ensures) (a .z) (a .from),
+        c .lesser .ensures,
+        c .before .first-from .ensures,
+        loop .inv .1,
+      ),
+      omega (arith, c .lesser .ensures, loop .inv .2),
+    )
 
 returns : tie.Need-returns Inv-loop μ-loop
-returns c = addr-last (c .before .before .before .before .before .before .before .args .s) (now (c .before .before .before .before .before .before .before .args .a)) (now (c .before .before .before .before .before .before .before .args .b)) (now (c .before .before .before .before .before .before .before .args .c)) (c .before .before .before .before .before .before .before .pre) (c .before .before .before .before .before .before .before .args .z) (c .before .before .before .before .before .before .before .args .from) _ _ _ _ (c .before .loop .inv .0) (omega arith) (c .before .loop .inv .2) (c .before .loop .inv .1)
+returns c =
+    let s = c .before .before .before .before .before .before .before in
+    let a = s .args in
+    addr-last (a .s) (now (a .a)) (now (a .b)) (now (a .c)) (s .pre) (a .z) (a .from) _ _ _ _ (c .before .loop .inv .0) (omega arith)
+    (c .before .loop .inv .2) (c .before .loop .inv .1)
 
 pub least-addr-spec : {M : Type 1} → statement M
 least-addr-spec =

@@ -22,7 +22,10 @@ head-size-requires-2 : tie.Need-head-size-requires-2
 head-size-requires-2 c κs = search needs
 
 add-t11 : tie.Need-add-t11
-add-t11 c = omega (arith, c .head-size2 .ensures, pages-end (c .before .before .before .args .part) 0 (c .before .before .before .args .addr) (c .before .before .before .args .size) (c .before .enum-told2 .given .1) (c .before .before .before .pre .1))
+add-t11 c =
+    let s = c .before .before .before in
+    let a = s .args in
+    omega (arith, c .head-size2 .ensures, pages-end (a .part) 0 (a .addr) (a .size) (c .before .enum-told2 .given .1) (s .pre .1))
 
 sub-t12 : tie.Need-sub-t12
 sub-t12 c = search needs
@@ -43,13 +46,37 @@ div-pages : tie.Need-div-pages
 div-pages c = search needs
 
 add-one-chain : tie.Need-add-one-chain
-add-one-chain c = omega (arith, c .head-size3 .ensures, tail-end (c .before .before .before .args .part) 0 (c .before .before .before .args .addr) (c .before .before .before .args .size) (c .before .enum-told3 .given .1) (c .before .before .before .pre .1), div-mul-le-self (c .before .before .before .args .size - c .head-size3 .result) (c .before .before .before .args .page))
+add-one-chain c =
+    let s = c .before .before .before in
+    let a = s .args in
+    omega (
+      arith,
+      c .head-size3 .ensures,
+      tail-end (a .part) 0 (a .addr) (a .size) (c .before .enum-told3 .given .1) (s .pre .1),
+      div-mul-le-self (a .size - c .head-size3 .result) (a .page),
+    )
 
 mul-one-chain : tie.Need-mul-one-chain
-mul-one-chain c = omega (arith, c .head-size3 .ensures, tail-end (c .before .before .before .args .part) 0 (c .before .before .before .args .addr) (c .before .before .before .args .size) (c .before .enum-told3 .given .1) (c .before .before .before .pre .1), div-mul-le-self (c .before .before .before .args .size - c .head-size3 .result) (c .before .before .before .args .page))
+mul-one-chain c =
+    let s = c .before .before .before in
+    let a = s .args in
+    omega (
+      arith,
+      c .head-size3 .ensures,
+      tail-end (a .part) 0 (a .addr) (a .size) (c .before .enum-told3 .given .1) (s .pre .1),
+      div-mul-le-self (a .size - c .head-size3 .result) (a .page),
+    )
 
 add-one-chain-2 : tie.Need-add-one-chain-2
-add-one-chain-2 c = omega (arith, c .head-size3 .ensures, tail-end (c .before .before .before .args .part) 0 (c .before .before .before .args .addr) (c .before .before .before .args .size) (c .before .enum-told3 .given .1) (c .before .before .before .pre .1), div-mul-le-self (c .before .before .before .args .size - c .head-size3 .result) (c .before .before .before .args .page))
+add-one-chain-2 c =
+    let s = c .before .before .before in
+    let a = s .args in
+    omega (
+      arith,
+      c .head-size3 .ensures,
+      tail-end (a .part) 0 (a .addr) (a .size) (c .before .enum-told3 .given .1) (s .pre .1),
+      div-mul-le-self (a .size - c .head-size3 .result) (a .page),
+    )
 
 rem-one-chain : tie.Need-rem-one-chain
 rem-one-chain c = search needs
@@ -61,13 +88,21 @@ enum-told-4 : tie.Need-enum-told-4
 enum-told-4 c = search needs
 
 returns : tie.Need-returns
-returns c = head-chain (c .before .before .before .before .args .part) (c .before .before .before .before .args .page) (c .before .before .before .before .args .addr) (c .before .before .before .before .args .size) _ _ (c .before .before .enum-told .given .1) (c .before .head-size .ensures) (c .one-chain .ensures)
+returns c =
+    let a = c .before .before .before .before .args in
+    head-chain (a .part) (a .page) (a .addr) (a .size) _ _ (c .before .before .enum-told .given .1) (c .before .head-size .ensures)
+    (c .one-chain .ensures)
 
 returns-2 : tie.Need-returns-2
-returns-2 c = pages-chain (c .before .before .before .args .part) (c .before .before .before .args .page) (c .before .before .before .args .addr) (c .before .before .before .args .size) _ (c .before .enum-told2 .given .1) (c .head-size2 .ensures)
+returns-2 c =
+    let a = c .before .before .before .args in
+    pages-chain (a .part) (a .page) (a .addr) (a .size) _ (c .before .enum-told2 .given .1) (c .head-size2 .ensures)
 
 returns-3 : tie.Need-returns-3
-returns-3 c = tail-chain (c .before .before .before .before .args .part) (c .before .before .before .before .args .page) (c .before .before .before .before .args .addr) (c .before .before .before .before .args .size) _ _ (c .before .before .enum-told3 .given .1) (c .before .head-size3 .ensures) (c .one-chain2 .ensures)
+returns-3 c =
+    let a = c .before .before .before .before .args in
+    tail-chain (a .part) (a .page) (a .addr) (a .size) _ _ (c .before .before .enum-told3 .given .1) (c .before .head-size3 .ensures)
+    (c .one-chain2 .ensures)
 
 returns-4 : tie.Need-returns-4
 returns-4 c = whole-chain (c .before .before .args .part) (c .before .before .args .page) (c .before .before .args .addr) (c .before .before .args .size) (c .enum-told4 .given .1)

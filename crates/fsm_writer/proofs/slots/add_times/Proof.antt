@@ -1,6 +1,7 @@
 use mathlib.Core.Path.{refl}
 use native.Mathlib.Omega.{arith}
-use Rattle.fsm_writer.proofs.MeasureLaws.{times-over, times-low, great-enough}
+use Rattle.fsm_writer.proofs.StoredLaws.{great-enough}
+use Rattle.fsm_writer.proofs.MeasureLaws.{times-over, times-low}
 use borrow.Author.Needs.{needs}
 use Rattle.fsm_writer.proofs.slots.add_times.Statement.{statement}
 use Rattle.fsm_writer.proofs.slots.add_times.Tie as tie

@@ -47,7 +47,12 @@ is-late-requires : tie.Need-is-late-requires Inv-loop μ-loop
 is-late-requires c κs = search needs
 
 returns : tie.Need-returns Inv-loop μ-loop
-returns c = let a = c .before .before .before .before .before .before .before .args in any-found (λ r. ltb top (end r)) (a .n) (now (a .run)) (c .before .before .before .before .before .before .before .pre) (c .before .before .before .before .before .loop .i) (c .before .before .before .before .loop-test .taken) _ (c .before .is-late .ensures) (c .if1 .taken) (c .before .before .before .before .before .loop .inv .1)
+returns c =
+    let s = c .before .before .before .before .before .before .before in
+    let a = s .args in
+    let loop = c .before .before .before .before .before .loop in
+    any-found (λ r. ltb top (end r)) (a .n) (now (a .run)) (s .pre) (loop .i) (c .before .before .before .before .loop-test .taken) _
+    (c .before .is-late .ensures) (c .if1 .taken) (loop .inv .1)
 
 add-i : tie.Need-add-i Inv-loop μ-loop
 add-i c = search needs
@@ -56,10 +61,20 @@ loop-less : tie.Need-loop-less Inv-loop μ-loop
 loop-less c = search needs
 
 loop-again : tie.Need-loop-again Inv-loop μ-loop
-loop-again c = let a = c .before .before .before .before .before .before .before .args in (omega arith, any-turn (λ r. ltb top (end r)) (a .n) (now (a .run)) (c .before .before .before .before .before .before .before .pre) (c .before .before .before .before .before .loop .i) (c .before .before .before .before .loop-test .taken) _ (c .before .is-late .ensures) (c .if1 .left) (c .before .before .before .before .before .loop .inv .1))
+loop-again c =
+    let s = c .before .before .before .before .before .before .before in
+    let a = s .args in
+    let loop = c .before .before .before .before .before .loop in (
+      omega arith,
+      any-turn (λ r. ltb top (end r)) (a .n) (now (a .run)) (s .pre) (loop .i) (c .before .before .before .before .loop-test .taken) _
+          (c .before .is-late .ensures) (c .if1 .left) (loop .inv .1),
+    )
 
 returns-2 : tie.Need-returns-2 Inv-loop μ-loop
-returns-2 c = let a = c .before .before .before .args in any-none (λ r. ltb top (end r)) (a .n) (c .before .loop .i) (now (a .run)) (c .before .before .before .pre) (omega arith) (c .before .loop .inv .1)
+returns-2 c =
+    let s = c .before .before .before in
+    let a = s .args in
+    any-none (λ r. ltb top (end r)) (a .n) (c .before .loop .i) (now (a .run)) (s .pre) (omega arith) (c .before .loop .inv .1)
 
 pub any-late-spec : {M : Type 1} → statement M
 any-late-spec =

@@ -16,10 +16,18 @@ enum-known-measured-2 : tie.Need-enum-known-measured-2
 enum-known-measured-2 c = search needs
 
 returns : tie.Need-returns
-returns c = let a = c .before .before .before .before .before .before .before .args in len-refused (a .o) (sectionsOf (chainsOf (a .s) (now (a .a)) (now (a .b)) (now (a .c)))) (c .before .before .before .measure-of .result) (c .before .before .before .measure-of .ensures) _ (c .before .measured .given .1)
+returns c =
+    let a = c .before .before .before .before .before .before .before .args in
+    let l = sectionsOf (chainsOf (a .s) (now (a .a)) (now (a .b)) (now (a .c))) in
+    let measure-of = c .before .before .before .measure-of in
+    len-refused (a .o) l (measure-of .result) (measure-of .ensures) _ (c .before .measured .given .1)
 
 returns-2 : tie.Need-returns-2
-returns-2 c = let a = c .before .before .before .before .before .before .before .args in len-is (a .o) (sectionsOf (chainsOf (a .s) (now (a .a)) (now (a .b)) (now (a .c)))) (c .before .before .before .measure-of .result) (c .before .before .before .measure-of .ensures) _ (c .before .measured2 .given .1)
+returns-2 c =
+    let a = c .before .before .before .before .before .before .before .args in
+    let l = sectionsOf (chainsOf (a .s) (now (a .a)) (now (a .b)) (now (a .c))) in
+    let measure-of = c .before .before .before .measure-of in
+    len-is (a .o) l (measure-of .result) (measure-of .ensures) _ (c .before .measured2 .given .1)
 
 pub blocks-len-spec : {M : Type 1} → statement M
 blocks-len-spec =

@@ -2,7 +2,8 @@ use mathlib.Core.Path.{_∙_}
 use Prim.Native.Nat.{_+_, _*_}
 use native.Mathlib.Omega.{arith}
 use Rattle.fsm_writer.proofs.RowLaws.{width-small}
-use Rattle.fsm_writer.proofs.MeasureLaws.{stored-is, stored-not, groups-over, groups-in}
+use Rattle.fsm_writer.proofs.StoredLaws.{stored-is, stored-not}
+use Rattle.fsm_writer.proofs.MeasureLaws.{groups-over, groups-in}
 use borrow.Author.Needs.{needs}
 use Rattle.fsm_writer.proofs.slots.blocks_of.Statement.{statement}
 use Rattle.fsm_writer.proofs.slots.blocks_of.Tie as tie
@@ -29,7 +30,12 @@ enum-told : tie.Need-enum-told
 enum-told c = search needs
 
 returns : tie.Need-returns
-returns c = let a = c .before .before .before .before .args in groups-over (a .o) (a .n) (a .d) (c .before .before .before .enc-size .result) (c .before .before .before .enc-size .ensures) (stored-not (c .before .before .add-times .result) (83 + 2 * a .o + a .d * (c .before .before .before .enc-size .result + 8)) (c .before .before .add-times .ensures) _ (c .enum-told .given .1))
+returns c =
+    let a = c .before .before .before .before .args in
+    let enc-size = c .before .before .before .enc-size in
+    groups-over (a .o) (a .n) (a .d) (enc-size .result) (enc-size .ensures)
+    (stored-not (c .before .before .add-times .result) (83 + 2 * a .o + a .d * (enc-size .result + 8)) (c .before .before .add-times .ensures) _
+    (c .enum-told .given .1))
 
 add-add-times-3 : tie.Need-add-add-times-3
 add-add-times-3 c = search needs
@@ -38,7 +44,12 @@ add-times-requires-2 : tie.Need-add-times-requires-2
 add-times-requires-2 c κs = search needs
 
 returns-2 : tie.Need-returns-2
-returns-2 c = let a = c .before .before .before .before .before .before .args in c .add-times2 .ensures ∙ groups-in (a .o) (a .n) (a .d) (c .before .before .before .before .before .enc-size .result) (c .before .before .before .before .before .enc-size .ensures) _ (stored-is (c .before .before .before .before .add-times .result) (83 + 2 * a .o + a .d * (c .before .before .before .before .before .enc-size .result + 8)) (c .before .before .before .before .add-times .ensures) _ (c .before .before .groups .given .1) .0)
+returns-2 c =
+    let a = c .before .before .before .before .before .before .args in
+    let enc-size = c .before .before .before .before .before .enc-size in
+    let add-times = c .before .before .before .before .add-times in
+    c .add-times2 .ensures ∙ groups-in (a .o) (a .n) (a .d) (enc-size .result) (enc-size .ensures) _
+    (stored-is (add-times .result) (83 + 2 * a .o + a .d * (enc-size .result + 8)) (add-times .ensures) _ (c .before .before .groups .given .1) .0)
 
 pub blocks-of-spec : {M : Type 1} → statement M
 blocks-of-spec =

@@ -23,7 +23,17 @@ small-requires : tie.Need-small-requires
 small-requires c κs = search needs
 
 blocks-len-requires : tie.Need-blocks-len-requires
-blocks-len-requires c κs = let a = c .before .before .before .before .before .before .before .before .before .args in (small-asked (now (a .a)) (a .na) (now (a .b)) (a .nb) (now (a .c)) (a .nc) (a .page) (a .offset-size) (c .before .before .before .before .before .test-runs .result) (c .before .before .before .before .before .test-runs .ensures) (c .before .before .before .enum-told .given .1) (c .small .result) (c .small .ensures) .0, ((tests-show (now (a .a)) (a .na) (now (a .b)) (a .nb) (now (a .c)) (a .nc) (a .page) (a .offset-size) (c .before .before .before .before .before .test-runs .result) (c .before .before .before .before .before .test-runs .ensures) (c .before .before .before .enum-told .given .1)) .low, (tests-show (now (a .a)) (a .na) (now (a .b)) (a .nb) (now (a .c)) (a .nc) (a .page) (a .offset-size) (c .before .before .before .before .before .test-runs .result) (c .before .before .before .before .before .test-runs .ensures) (c .before .before .before .enum-told .given .1)) .high))
+blocks-len-requires c κs =
+    let a = c .before .before .before .before .before .before .before .before .before .args in
+    let test-runs = c .before .before .before .before .before .test-runs in
+    let enum-told = c .before .before .before .enum-told in
+    let t =
+    tests-show (now (a .a)) (a .na) (now (a .b)) (a .nb) (now (a .c)) (a .nc) (a .page) (a .offset-size) (test-runs .result) (test-runs .ensures)
+    (enum-told .given .1) in (
+      small-asked (now (a .a)) (a .na) (now (a .b)) (a .nb) (now (a .c)) (a .nc) (a .page) (a .offset-size) (test-runs .result) (test-runs .ensures)
+          (enum-told .given .1) (c .small .result) (c .small .ensures) .0,
+      (t .low, t .high),
+    )
 
 enum-told-3 : tie.Need-enum-told-3
 enum-told-3 c = search needs
@@ -32,19 +42,45 @@ large-requires : tie.Need-large-requires
 large-requires c κs = search needs
 
 blocks-len-requires-2 : tie.Need-blocks-len-requires-2
-blocks-len-requires-2 c κs = let a = c .before .before .before .before .before .before .before .before .before .args in (large-asked (now (a .a)) (a .na) (now (a .b)) (a .nb) (now (a .c)) (a .nc) (a .page) (a .offset-size) (c .before .before .before .before .before .test-runs .result) (c .before .before .before .before .before .test-runs .ensures) (c .before .before .before .enum-told .given .1) (c .large .result) (c .large .ensures) .0, ((tests-show (now (a .a)) (a .na) (now (a .b)) (a .nb) (now (a .c)) (a .nc) (a .page) (a .offset-size) (c .before .before .before .before .before .test-runs .result) (c .before .before .before .before .before .test-runs .ensures) (c .before .before .before .enum-told .given .1)) .low, (tests-show (now (a .a)) (a .na) (now (a .b)) (a .nb) (now (a .c)) (a .nc) (a .page) (a .offset-size) (c .before .before .before .before .before .test-runs .result) (c .before .before .before .before .before .test-runs .ensures) (c .before .before .before .enum-told .given .1)) .high))
+blocks-len-requires-2 c κs =
+    let a = c .before .before .before .before .before .before .before .before .before .args in
+    let test-runs = c .before .before .before .before .before .test-runs in
+    let enum-told = c .before .before .before .enum-told in
+    let t =
+    tests-show (now (a .a)) (a .na) (now (a .b)) (a .nb) (now (a .c)) (a .nc) (a .page) (a .offset-size) (test-runs .result) (test-runs .ensures)
+    (enum-told .given .1) in (
+      large-asked (now (a .a)) (a .na) (now (a .b)) (a .nb) (now (a .c)) (a .nc) (a .page) (a .offset-size) (test-runs .result) (test-runs .ensures)
+          (enum-told .given .1) (c .large .result) (c .large .ensures) .0,
+      (t .low, t .high),
+    )
 
 returns : tie.Need-returns
 unfolding slotLen
-returns c = let a = c .before .before .before .before .before .before .before .args in tests-refuse (now (a .a)) (a .na) (now (a .b)) (a .nb) (now (a .c)) (a .nc) (a .page) (a .offset-size) (c .before .before .before .test-runs .result) (c .before .before .before .test-runs .ensures) _ (c .before .tested .given .1) _
+returns c =
+    let a = c .before .before .before .before .before .before .before .args in
+    let test-runs = c .before .before .before .test-runs in
+    tests-refuse (now (a .a)) (a .na) (now (a .b)) (a .nb) (now (a .c)) (a .nc) (a .page) (a .offset-size) (test-runs .result) (test-runs .ensures) _
+    (c .before .tested .given .1) _
 
 returns-2 : tie.Need-returns-2
 unfolding slotLen
-returns-2 c = let a = c .before .before .before .before .before .before .before .before .before .before .args in small-is (now (a .a)) (a .na) (now (a .b)) (a .nb) (now (a .c)) (a .nc) (a .page) (a .offset-size) (c .before .before .before .before .before .before .test-runs .result) (c .before .before .before .before .before .before .test-runs .ensures) (c .before .before .before .before .enum-told .given .1) (c .before .small .result) (λ x. x) (lenOf (a .offset-size)) (λ p q h. len-same p q h (a .offset-size)) (a .slot) (c .before .before .enum-told2 .given .1) (c .before .small .ensures) (c .blocks-len .ensures)
+returns-2 c =
+    let a = c .before .before .before .before .before .before .before .before .before .before .args in
+    let test-runs = c .before .before .before .before .before .before .test-runs in
+    small-is (now (a .a)) (a .na) (now (a .b)) (a .nb) (now (a .c)) (a .nc) (a .page) (a .offset-size) (test-runs .result) (test-runs .ensures)
+    (c .before .before .before .before .enum-told .given .1) (c .before .small .result) (λ x. x) (lenOf (a .offset-size))
+    (λ p q h. len-same p q h (a .offset-size)) (a .slot) (c .before .before .enum-told2 .given .1) (c .before .small .ensures)
+    (c .blocks-len .ensures)
 
 returns-3 : tie.Need-returns-3
 unfolding slotLen
-returns-3 c = let a = c .before .before .before .before .before .before .before .before .before .before .args in large-is (now (a .a)) (a .na) (now (a .b)) (a .nb) (now (a .c)) (a .nc) (a .page) (a .offset-size) (c .before .before .before .before .before .before .test-runs .result) (c .before .before .before .before .before .before .test-runs .ensures) (c .before .before .before .before .enum-told .given .1) (c .before .large .result) (λ x. x) (lenOf (a .offset-size)) (λ p q h. len-same p q h (a .offset-size)) (a .slot) (c .before .before .enum-told3 .given .1) (c .before .large .ensures) (c .blocks-len2 .ensures)
+returns-3 c =
+    let a = c .before .before .before .before .before .before .before .before .before .before .args in
+    let test-runs = c .before .before .before .before .before .before .test-runs in
+    large-is (now (a .a)) (a .na) (now (a .b)) (a .nb) (now (a .c)) (a .nc) (a .page) (a .offset-size) (test-runs .result) (test-runs .ensures)
+    (c .before .before .before .before .enum-told .given .1) (c .before .large .result) (λ x. x) (lenOf (a .offset-size))
+    (λ p q h. len-same p q h (a .offset-size)) (a .slot) (c .before .before .enum-told3 .given .1) (c .before .large .ensures)
+    (c .blocks-len2 .ensures)
 
 pub slot-len-spec : {M : Type 1} → statement M
 slot-len-spec =

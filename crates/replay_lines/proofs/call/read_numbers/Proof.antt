@@ -6,7 +6,7 @@ use Rattle.replay_lines.proofs.call.read_numbers.Statement.{statement}
 use Rattle.replay_lines.proofs.call.read_numbers.Tie as tie
 
 abbrev Inv-loop : tie.InvT-loop
-Inv-loop text out₀ n₀ at₀ out n at = (at ≤ length text) × (length out ≡ length out₀)
+Inv-loop text out₀ n₀ at₀ out n at = (at ≤ length text) × (length out ≡ length out₀) × (n ≤ length out₀)
 
 abbrev μ-loop : tie.MeasureT-loop
 μ-loop text out₀ n₀ at₀ out n at = length text - at

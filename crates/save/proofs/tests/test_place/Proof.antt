@@ -3,7 +3,7 @@ use Prim.Native.Nat.{_+_, _≤_}
 use native.Mathlib.Omega.{arith}
 use lib.ListN.{length}
 use denote.Ref.{now}
-use Rattle.save.specs.Saving.{three}
+use Rattle.free_lists.specs.Lists.{three}
 use Rattle.save.proofs.PlaceLaws.{not-longer}
 use Rattle.save.proofs.OrderLaws.{place-outside, message-there, place-version, place-strategy, place-blocks, place-way, place-room}
 use Rattle.save.proofs.tests.test_place.Statement.{statement}

@@ -1,0 +1,4 @@
+pub mod CallLaws
+pub mod HistoryLaws
+pub mod SharingLaws
+pub mod TrailingLaws

@@ -1,0 +1,96 @@
+use Prim.Native.Nat.{_+_, _-_}
+use mathlib.Core.Path.{refl}
+use native.Mathlib.Omega.{arith}
+use borrow.Author.Needs.{needs}
+use Rattle.free_lists.proofs.SharingLaws.{order-fits, Compared, no-more, no-others, pass-left, pass-right, both}
+use Rattle.free_lists.proofs.share_two.Statement.{statement}
+use Rattle.free_lists.proofs.share_two.Tie as tie
+
+abbrev Inv-loop : tie.InvT-loop
+Inv-loop a n b m i₀ j₀ i j = Compared a n b m i j
+
+abbrev μ-loop : tie.MeasureT-loop
+μ-loop a n b m i₀ j₀ i j = (n - i) + (m - j)
+
+loop-holds : tie.Need-loop-holds Inv-loop μ-loop
+loop-holds c = record { same = refl }
+
+returns : tie.Need-returns Inv-loop μ-loop
+returns c = let l = c .before .before in no-others (l .loop .inv) (l .before .before .before .pre .1) (c .if1 .taken)
+
+region-at-requires : tie.Need-region-at-requires Inv-loop μ-loop
+region-at-requires c κs = omega (arith, c .before .before .before .before .before .pre .0 .room)
+
+region-at-requires-2 : tie.Need-region-at-requires-2 Inv-loop μ-loop
+region-at-requires-2 c κs = omega (arith, c .before .before .before .before .before .before .pre .1 .room)
+
+add-if2 : tie.Need-add-if2 Inv-loop μ-loop
+add-if2 c =
+    let l = c .before .before .before .before .before in
+    let f = order-fits (l .before .before .before .pre .0) _ _ (c .before .before .region-at .ensures) (c .before .before .before .before .loop-test .taken) in
+    record { fits = omega (arith, f .within) }
+
+add-i : tie.Need-add-i Inv-loop μ-loop
+add-i c = search needs
+
+loop-less : tie.Need-loop-less Inv-loop μ-loop
+loop-less c = search needs
+
+loop-again : tie.Need-loop-again Inv-loop μ-loop
+loop-again c =
+    let t = c .before .before .before in
+    let l = t .before .before .before in
+    let s = l .before .before .before .before in
+    pass-left (l .before .loop .inv) (s .pre .0) (s .pre .1) _ _ (t .before .region-at .ensures) (t .region-at2 .ensures) (l .loop-test .taken) (t .before .before .if1 .left) (omega arith)
+
+add-if3 : tie.Need-add-if3 Inv-loop μ-loop
+add-if3 c =
+    let t = c .before .before .before .before in
+    let l = t .before .before .before in
+    let f = order-fits (l .before .before .before .before .pre .1) _ _ (t .region-at2 .ensures) (t .before .before .if1 .left) in
+    record { fits = omega (arith, f .within) }
+
+returns-2 : tie.Need-returns-2 Inv-loop μ-loop
+returns-2 c =
+    let t = c .before .before .before .before .before .before in
+    let l = t .before .before .before in
+    let s = l .before .before .before .before in
+    both (l .before .loop .inv) (s .pre .0) (s .pre .1) _ _ (t .before .region-at .ensures) (t .region-at2 .ensures) (l .loop-test .taken) (t .before .before .if1 .left)
+    (omega arith) (omega arith)
+
+add-j : tie.Need-add-j Inv-loop μ-loop
+add-j c = search needs
+
+loop-less-2 : tie.Need-loop-less-2 Inv-loop μ-loop
+loop-less-2 c = search needs
+
+loop-again-2 : tie.Need-loop-again-2 Inv-loop μ-loop
+loop-again-2 c =
+    let t = c .before .before .before .before .before .before in
+    let l = t .before .before .before in
+    let s = l .before .before .before .before in
+    pass-right (l .before .loop .inv) (s .pre .0) (s .pre .1) _ _ (t .before .region-at .ensures) (t .region-at2 .ensures) (l .loop-test .taken) (t .before .before .if1 .left) (omega arith)
+
+returns-3 : tie.Need-returns-3 Inv-loop μ-loop
+returns-3 c = no-more (c .before .loop .inv) (c .before .before .before .before .pre .0) (c .loop-test .left)
+
+pub share-two-spec : {M : Type 1} → statement M
+share-two-spec =
+    tie.close
+    (tie.spec
+    Inv-loop
+    μ-loop
+    loop-holds
+    returns
+    region-at-requires
+    region-at-requires-2
+    add-if2
+    add-i
+    loop-less
+    loop-again
+    add-if3
+    returns-2
+    add-j
+    loop-less-2
+    loop-again-2
+    returns-3)

@@ -1,0 +1,4 @@
+pub mod Lists
+pub mod Trailing
+pub mod History
+pub mod Walks

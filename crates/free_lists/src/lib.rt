@@ -1,0 +1,248 @@
+// What is asked of the three lists of a file together.
+ghost use mathlib.Core.Path.{_≡_};
+ghost use Prim.Native.Nat.{_+_, _*_, _<_, max};
+ghost use lib.ListN.{length};
+ghost use Rattle.error.specs.Answers.{checkedOutcome, numberOutcome};
+ghost use Rattle.free_regions.specs.Regions.{shareBytes};
+ghost use Rattle.free_space.specs.Runs.{regionAt, decode};
+ghost use Rattle.free_lists.specs.Lists.{three, areLists, sharedByte, together};
+ghost use Rattle.free_lists.specs.Trailing.{falling, walk, runStart};
+ghost use Rattle.free_lists.specs.Walks.{InOrder, AllInOrder, counted, remaining, height, Onward};
+use error::Checked;
+use error::Number;
+use error::Refusal;
+use free_regions::FreeRegion;
+use free_space::check::is_list;
+use free_space::list::FreeList;
+
+// Whether all three are lists: refusal 3 alone.
+pub fn are_lists(
+    meta: &[u64],
+    meta_list: FreeList,
+    raw: &[u64],
+    raw_list: FreeList,
+    unclassified: &[u64],
+    unclassified_list: FreeList,
+) -> bool
+    ensures { λ r. ⌜ r ≡ areLists (three (now (meta .entry)) «meta_list» (now (raw .entry)) «raw_list» (now (unclassified .entry)) «unclassified_list») ⌝ }
+{
+    if !is_list(meta, meta_list) {
+        return false;
+    }
+    if !is_list(raw, raw_list) {
+        return false;
+    }
+    is_list(unclassified, unclassified_list)
+}
+
+// The i-th region.
+fn region_at(run: &[u64], i: usize) -> FreeRegion
+    requires { ⌜ 2 * i + 1 < length (now run) ⌝ }
+    ensures { λ r. ⌜ r ≡ regionAt (now (run .entry)) i ⌝ }
+{
+    FreeRegion {
+        addr: run[2 * i],
+        len: run[2 * i + 1],
+    }
+}
+
+// Whether two lists share a byte: of the two regions at hand, the one that ends first is passed.
+fn share_two(a: &[u64], n: usize, b: &[u64], m: usize) -> bool
+    requires { ⌜ InOrder (now a) n × InOrder (now b) m ⌝ }
+    ensures { λ r. ⌜ r ≡ shareBytes (decode n (now (a .entry))) (decode m (now (b .entry))) ⌝ }
+{
+    let mut i = 0;
+    let mut j = 0;
+    while i < n {
+        if m <= j {
+            return false;
+        }
+        let r = region_at(a, i);
+        let s = region_at(b, j);
+        if r.addr + r.len <= s.addr {
+            i += 1;
+        } else {
+            if r.addr < s.addr + s.len {
+                return true;
+            }
+            j += 1;
+        }
+    }
+    false
+}
+
+// How many regions of each of three lists there are to look at.
+struct Cursors {
+    meta: usize,
+    raw: usize,
+    unclassified: usize,
+}
+
+// Whether two of three lists share a byte.
+fn share_any(meta: &[u64], raw: &[u64], unclassified: &[u64], all: Cursors) -> bool
+    requires { ⌜ AllInOrder (now meta) (now raw) (now unclassified) all ⌝ }
+    ensures { λ r. ⌜ r ≡ sharedByte (counted (now (meta .entry)) (now (raw .entry)) (now (unclassified .entry)) all) ⌝ }
+{
+    if share_two(meta, all.meta, raw, all.raw) {
+        return true;
+    }
+    if share_two(meta, all.meta, unclassified, all.unclassified) {
+        return true;
+    }
+    share_two(raw, all.raw, unclassified, all.unclassified)
+}
+
+// Refusals 3 and 5 of three lists that are given together.
+pub fn check_lists(
+    meta: &[u64],
+    meta_list: FreeList,
+    raw: &[u64],
+    raw_list: FreeList,
+    unclassified: &[u64],
+    unclassified_list: FreeList,
+) -> Checked
+    ensures { λ r. ⌜ checkedOutcome r ≡ together (three (now (meta .entry)) «meta_list» (now (raw .entry)) «raw_list» (now (unclassified .entry)) «unclassified_list») ⌝ }
+{
+    if !are_lists(
+        meta,
+        meta_list,
+        raw,
+        raw_list,
+        unclassified,
+        unclassified_list,
+    ) {
+        return Checked::Refused(Refusal::NotAList);
+    }
+    let all = Cursors {
+        meta: meta_list.count,
+        raw: raw_list.count,
+        unclassified: unclassified_list.count,
+    };
+    if share_any(meta, raw, unclassified, all) {
+        return Checked::Refused(Refusal::SharedAddress);
+    }
+    Checked::Fine
+}
+
+// The region that the walk comes to next, and the cursors after it.
+enum Reached {
+    At { region: FreeRegion, rest: Cursors },
+    Nothing,
+}
+
+// One above the address of the last of n regions; 0 for none.
+fn height_of(run: &[u64], n: usize) -> u64
+    requires { ⌜ InOrder (now run) n ⌝ }
+    ensures { λ r. ⌜ r ≡ height n (now (run .entry)) ⌝ }
+{
+    if n == 0 {
+        return 0;
+    }
+    let last = region_at(run, n - 1);
+    last.addr + 1
+}
+
+fn greater(a: u64, b: u64) -> u64
+    ensures { λ r. ⌜ r ≡ max a b ⌝ }
+{
+    if a < b { b } else { a }
+}
+
+// The last region of the list that reaches highest; on a tie the first such list's.
+fn highest(meta: &[u64], raw: &[u64], unclassified: &[u64], at: Cursors) -> Reached
+    requires { ⌜ AllInOrder (now meta) (now raw) (now unclassified) at ⌝ }
+    ensures { λ h. ⌜ Onward (now (meta .entry)) (now (raw .entry)) (now (unclassified .entry)) at h ⌝ }
+{
+    let a = height_of(meta, at.meta);
+    let b = height_of(raw, at.raw);
+    let c = height_of(unclassified, at.unclassified);
+    if greater(b, c) <= a {
+        if a == 0 {
+            return Reached::Nothing;
+        }
+        let last = at.meta - 1;
+        return Reached::At {
+            region: region_at(meta, last),
+            rest: Cursors {
+                meta: last,
+                raw: at.raw,
+                unclassified: at.unclassified,
+            },
+        };
+    }
+    if c <= b {
+        let last = at.raw - 1;
+        return Reached::At {
+            region: region_at(raw, last),
+            rest: Cursors {
+                meta: at.meta,
+                raw: last,
+                unclassified: at.unclassified,
+            },
+        };
+    }
+    let last = at.unclassified - 1;
+    Reached::At {
+        region: region_at(unclassified, last),
+        rest: Cursors {
+            meta: at.meta,
+            raw: at.raw,
+            unclassified: last,
+        },
+    }
+}
+
+// Where the walk from the end of file down the regions of three lists ends.
+fn walk_down(meta: &[u64], raw: &[u64], unclassified: &[u64], all: Cursors, eof: u64) -> u64
+    requires { ⌜ AllInOrder (now meta) (now raw) (now unclassified) all ⌝ }
+    ensures { λ r. ⌜ r ≡ walk eof (falling (remaining (now (meta .entry)) (now (raw .entry)) (now (unclassified .entry)) all)) ⌝ }
+{
+    let mut start = eof;
+    let mut at = all;
+    loop {
+        let next = highest(meta, raw, unclassified, at);
+        let Reached::At { region: r, rest } = next else {
+            return start;
+        };
+        if r.addr + r.len < start {
+            return start;
+        }
+        at = rest;
+        if r.addr < start {
+            start = r.addr;
+        }
+    }
+}
+
+// The lowest address of the run of free bytes that reaches the end of file, over three lists; `eof` itself where nothing there is free.
+pub fn trailing_run_start(
+    meta: &[u64],
+    meta_list: FreeList,
+    raw: &[u64],
+    raw_list: FreeList,
+    unclassified: &[u64],
+    unclassified_list: FreeList,
+    eof: u64,
+) -> Number
+    ensures { λ r. ⌜ numberOutcome r ≡ runStart (three (now (meta .entry)) «meta_list» (now (raw .entry)) «raw_list» (now (unclassified .entry)) «unclassified_list») eof ⌝ }
+{
+    let checked = check_lists(
+        meta,
+        meta_list,
+        raw,
+        raw_list,
+        unclassified,
+        unclassified_list,
+    );
+    match checked {
+        Checked::Refused(r) => Number::Refused(r),
+        Checked::Fine => {
+            let all = Cursors {
+                meta: meta_list.count,
+                raw: raw_list.count,
+                unclassified: unclassified_list.count,
+            };
+            Number::Is(walk_down(meta, raw, unclassified, all, eof))
+        }
+    }
+}

@@ -1,0 +1,110 @@
+-- Regions of free bytes, and what the list calls make of a list of regions. Assumes nothing.
+--   region     the region of an address and a length
+--   end        one past a region's last byte
+--   In, Free   a byte lies in a region; in some region of a list: document 01's "free"
+--   fitsFrom   a region that begins at a place or later, is not empty and ends within 64 bits
+--   okFrom     regions in order, each after the end of the one before with a gap of a byte or more
+--   meets      two regions share a byte
+--   shares     a region shares a byte with one of a list
+--   shareBytes   two lists share a byte
+--   piece      a number of bytes from an address on, as regions: none where it is 0
+--   join       the region from the lower address to the higher end of two that touch
+--   insert     a list with a region put in, touching regions folded into one (`free`)
+--   cut        what is left of a region outside a range
+--   absorb     a region with those that it reaches folded into it
+--   cutAll     a list without the bytes of a range (`take_range`)
+--   around     what is left of a region on either side of a range within it (an allocation)
+--   spliced    a list with the regions from a place up to another replaced
+--   Found, best   the place of the region of which the fewest bytes suffice, the lowest place on a tie
+--   better     the region at a place against the best of those above it
+use Prim.Native.Nat.{ℕ, suc, _+_, _-_, _≤_, _<_, min, max}
+use mathlib.Core.Bool.{Bool, true, false, cond, _&&_, _||_}
+use mathlib.Core.List.{List, [], _∷_, _++_}
+use mathlib.Core.Logic.{_⊎_}
+use lib.Dec.{leb, ltb, eqb}
+use lib.ListN.{take, drop}
+use Rattle.fields.specs.Ranges.{top}
+use Rattle.free_regions.specs.declared.FreeRegion.{FreeRegion}
+
+abbrev pub region : ℕ → ℕ → FreeRegion
+region a l = record { addr = a; len = l }
+
+abbrev pub end : FreeRegion → ℕ
+end r = r .addr + r .len
+
+abbrev pub In : FreeRegion → ℕ → Type 0
+In r x = (r .addr ≤ x) × (x < end r)
+
+abbrev pub Free : List FreeRegion → ℕ → Type 0
+Free [] x = ⊥
+Free (r ∷ rs) x = In r x ⊎ Free rs x
+
+-- ---- refusals 3 and 5
+
+abbrev pub fitsFrom : ℕ → FreeRegion → Bool
+fitsFrom low r = ltb 0 (r .len) && (leb (end r) top && leb low (r .addr))
+
+abbrev pub okFrom : ℕ → List FreeRegion → Bool
+okFrom low [] = true
+okFrom low (r ∷ rs) = fitsFrom low r && okFrom (suc (end r)) rs
+
+abbrev pub meets : FreeRegion → FreeRegion → Bool
+meets r s = ltb (max (r .addr) (s .addr)) (min (end r) (end s))
+
+abbrev pub shares : FreeRegion → List FreeRegion → Bool
+shares r [] = false
+shares r (s ∷ ss) = meets r s || shares r ss
+
+abbrev pub shareBytes : List FreeRegion → List FreeRegion → Bool
+shareBytes [] ss = false
+shareBytes (r ∷ rs) ss = shares r ss || shareBytes rs ss
+
+-- ---- `free`
+
+abbrev pub join : FreeRegion → FreeRegion → FreeRegion
+join r s = region (min (r .addr) (s .addr)) (max (end r) (end s) - min (r .addr) (s .addr))
+
+-- the regions that r reaches fold into it
+abbrev pub absorb : FreeRegion → List FreeRegion → List FreeRegion
+absorb r [] = r ∷ []
+absorb r (s ∷ ss) = cond (leb (s .addr) (end r)) (absorb (join r s) ss) (r ∷ s ∷ ss)
+
+-- the regions that end below r stay before it
+abbrev pub insert : FreeRegion → List FreeRegion → List FreeRegion
+insert r [] = r ∷ []
+insert r (s ∷ ss) = cond (ltb (end s) (r .addr)) (s ∷ insert r ss) (absorb r (s ∷ ss))
+
+-- ---- `take_range` and allocations
+
+abbrev pub piece : ℕ → ℕ → List FreeRegion
+piece a len = cond (eqb len 0) [] (region a len ∷ [])
+
+-- what is left of a region outside a up to e
+abbrev pub cut : ℕ → ℕ → FreeRegion → List FreeRegion
+cut a e r = piece (r .addr) (min (end r) a - r .addr) ++ piece (max e (r .addr)) (end r - max e (r .addr))
+
+abbrev pub cutAll : ℕ → ℕ → List FreeRegion → List FreeRegion
+cutAll a e [] = []
+cutAll a e (r ∷ rs) = cut a e r ++ cutAll a e rs
+
+abbrev pub around : FreeRegion → ℕ → ℕ → List FreeRegion
+around r start len = piece (r .addr) (start - r .addr) ++ piece (start + len) (end r - (start + len))
+
+abbrev pub spliced : List FreeRegion → ℕ → ℕ → List FreeRegion → List FreeRegion
+spliced rs i j new = take i rs ++ (new ++ drop j rs)
+
+-- ---- best fit
+
+pub data Found : Type 0 where
+  none : Found
+  at : ℕ → ℕ → Found
+
+-- the region at i, of which span bytes can serve, against the best of those above it
+abbrev pub better : ℕ → ℕ → ℕ → Found → Found
+better len i span none = cond (leb len span) (at i span) none
+better len i span (at j s) = cond (leb len span && leb span s) (at i span) (at j s)
+
+-- span gives the bytes of a region that can serve; i is the place of the first
+abbrev pub best : (FreeRegion → ℕ) → ℕ → ℕ → List FreeRegion → Found
+best span len i [] = none
+best span len i (r ∷ rs) = better len i (span r) (best span len (suc i) rs)

@@ -1,0 +1,253 @@
+-- All pieces of sections: how many there are, how many are whole pages, and whether an address of one does not fit the offset size. Assumes nothing.
+use mathlib.Core.Path.{_≡_, refl, sym, ap, ap₂, _∙_}
+use mathlib.Core.Logic.{_⊎_, inl, inr, ⊎-elim}
+use Prim.Native.Nat.{ℕ, zero, suc, _+_, _-_, _*_, _/_, _^_, _≤_, _<_}
+use native.Mathlib.Nat.{le-div-iff-mul-le, div-lt-iff-lt-mul, div-mul-le-self, mul-le-mul-right}
+use native.Mathlib.Omega.{arith}
+use mathlib.Core.Bool.{Bool, true, false, cond, _||_, not}
+use mathlib.Core.List.{List, [], _∷_, _++_}
+use lib.Dec.{ltb, leb}
+use lib.ListN.{length, length-append, drop}
+use borrow.Author.Tests.{leb-true, le-leb, ne-eqb}
+use Rattle.error.specs.declared.Number.{Number}
+use Rattle.error.specs.declared.Number.the-variants as number
+use Rattle.error.specs.declared.Refusal.{Refusal}
+use Rattle.error.specs.Outcome.{answer, refused, sat}
+use Rattle.error.specs.Answers.{numberOutcome}
+use Rattle.error.proofs.OutcomeLaws.{first-pass}
+use Rattle.fsm_sections.specs.declared.FreeSection.{FreeSection}
+use Rattle.fsm_sections.specs.declared.Chain.{Chain}
+use Rattle.fsm_sections.specs.declared.Part.the-variants.{Pages}
+use Rattle.fsm_sections.specs.Sections.{section, decode}
+use Rattle.fsm_sections.specs.Pages.{pageEnd, cutAt, piecesFrom, pieces, split, belowPage, fromPage, slot0, slot2, slot6}
+use Rattle.fsm_sections.specs.Sources.{partOf}
+use Rattle.fsm_sections.proofs.PagesLaws.{page-end-above, pieces-none, pieces-more, below-or-not}
+use Rattle.fsm_sections.proofs.SizesLaws.{length-chain}
+use Rattle.fsm_sections.proofs.SlotLaws.{from-pieces}
+use Rattle.fsm_sections.proofs.SourceLaws.{pairAt}
+use Rattle.fsm_writer.specs.Serializing.{wide, anyOf, anyWide}
+use Rattle.fsm_pages.specs.Split.{isRun, endsAbove, splitCount}
+use Rattle.fsm_pages.proofs.RunLaws.{opens, ended, fits-at}
+
+-- ---- the number of pieces
+
+module _ (page n : ℕ) (xs : List ℕ) (p : 0 < page) (run : isRun xs n ≡ true) (fits : endsAbove (decode n xs) ≡ false) where
+  counted : splitCount xs n page ≡ answer (sat (length (split page (decode n xs))))
+  unfolding splitCount
+  counted = first-pass _ (answer (sat (length (split page (decode n xs))))) (ne-eqb page 0 (λ e. omega arith), (ap not run, (fits, tt)))
+
+  module _ (v : Number) (e : numberOutcome v ≡ splitCount xs n page) where
+    pub piece-number : (m : ℕ) → v ≡ number.Is m → m ≡ sat (length (split page (decode n xs)))
+    piece-number m h = let z : answer m ≡ answer (sat (length (split page (decode n xs)))) = sym (ap numberOutcome h) ∙ e ∙ counted in cc
+
+    -- it is not refused
+    pub piece-refused : (r : Refusal) → v ≡ number.Refused r → 0 ≡ sat (length (split page (decode n xs)))
+    piece-refused r h =
+        let w : refused r ≡ answer (sat (length (split page (decode n xs)))) = sym (ap numberOutcome h) ∙ e ∙ counted in
+        let z : _≡_ {A = ℕ} 0 1 = cc in
+        absurd (omega arith)
+
+-- ---- a test of some section
+
+pub any-append : (test : FreeSection → Bool) (l m : List FreeSection) → anyOf test (l ++ m) ≡ (anyOf test l || anyOf test m)
+unfolding anyOf
+any-append test [] m = refl
+any-append test (s ∷ l) m = pick (test s) (any-append test l m)
+  where
+    pick : (t : Bool) → anyOf test (l ++ m) ≡ (anyOf test l || anyOf test m) → (t || anyOf test (l ++ m)) ≡ ((t || anyOf test l) || anyOf test m)
+    pick true e = refl
+    pick false e = e
+
+-- below a page or not
+pub any-parts : (test : FreeSection → Bool) (page : ℕ) (l : List FreeSection) → (anyOf test (belowPage page l) || anyOf test (fromPage page l)) ≡ anyOf test l
+unfolding anyOf belowPage fromPage
+any-parts test page [] = refl
+any-parts test page (s ∷ l) = pick (ltb (s .size) page) (any-parts test page l)
+  where
+    pick : (t : Bool) → (anyOf test (belowPage page l) || anyOf test (fromPage page l)) ≡ anyOf test l
+        → (anyOf test (cond t (s ∷ belowPage page l) (belowPage page l)) || anyOf test (cond t (fromPage page l) (s ∷ fromPage page l))) ≡ (test s || anyOf test l)
+    pick true e = assoc (test s) (anyOf test (belowPage page l)) (anyOf test (fromPage page l)) ∙ ap (λ (x : Bool). test s || x) e
+      where
+        assoc : (x y z : Bool) → ((x || y) || z) ≡ (x || (y || z))
+        assoc true y z = refl
+        assoc false y z = refl
+    pick false e = swap (anyOf test (belowPage page l)) (test s) (anyOf test (fromPage page l)) ∙ ap (λ (x : Bool). test s || x) e
+      where
+        swap : (y x z : Bool) → (y || (x || z)) ≡ (x || (y || z))
+        swap true true z = refl
+        swap true false z = refl
+        swap false x z = refl
+
+-- the pieces of slots 0, 2 and 6 are those of the metadata and raw sections, and the unclassified
+pub any-slots : (test : FreeSection → Bool) (page : ℕ) (meta raw uncl : List FreeSection)
+    → (anyOf test (split page meta) || (anyOf test (split page raw) || anyOf test uncl))
+    ≡ (anyOf test (slot0 page meta) || (anyOf test (slot2 page raw) || anyOf test (slot6 page meta raw uncl)))
+any-slots test page meta raw uncl =
+    let m = split page meta in
+    let r = split page raw in
+    ap₂ (λ (x y : Bool). x || (y || anyOf test uncl)) (sym (any-parts test page m)) (sym (any-parts test page r))
+    ∙ order (anyOf test (belowPage page m)) (anyOf test (fromPage page m)) (anyOf test (belowPage page r)) (anyOf test (fromPage page r)) (anyOf test uncl)
+    ∙ ap (λ (x : Bool). anyOf test (belowPage page m) || (anyOf test (belowPage page r) || x))
+    (sym (any-append test (fromPage page m) (fromPage page r ++ uncl) ∙ ap (λ (x : Bool). anyOf test (fromPage page m) || x) (any-append test (fromPage page r) uncl)))
+  where
+    order : (a b c d e : Bool) → ((a || b) || ((c || d) || e)) ≡ (a || (c || (b || (d || e))))
+    order true b c d e = refl
+    order false true true d e = refl
+    order false true false d e = refl
+    order false false true d e = refl
+    order false false false d e = refl
+
+-- ---- an address does not fit
+
+pub wide-mono : (o a b : ℕ) → a ≤ b → (wide o a || wide o b) ≡ wide o b
+wide-mono o a b h = pick (leb (256 ^ o) a) (leb-true (256 ^ o) a)
+  where
+    pick : (t : Bool) → (t ≡ true → 256 ^ o ≤ a) → (t || wide o b) ≡ wide o b
+    pick true f = let q : 256 ^ o ≤ a = f refl in sym (le-leb (256 ^ o) b (omega arith))
+    pick false f = refl
+
+or-false-right : (t : Bool) → (t || false) ≡ t
+or-false-right true = refl
+or-false-right false = refl
+
+-- the last piece has the greatest address
+wide-from : (o fuel page a e m : ℕ) → 0 < page → e ≤ a + fuel → a < e → a ≤ m → (e - 1) / page * page ≤ m → (m ≡ a) ⊎ (m ≡ (e - 1) / page * page)
+    → anyWide o (piecesFrom fuel page a e) ≡ wide o m
+unfolding anyOf
+wide-from o zero page a e m p h l u v w = absurd (omega arith)
+wide-from o (suc fuel) page a e m p h l u v w =
+    ap (anyWide o) (pieces-more fuel page a e l) ∙ ⊎-elim (more (wide-from o fuel page (pageEnd page a) e m p)) last (below-or-not (pageEnd page a) e)
+  where
+    rest : List FreeSection
+    rest = piecesFrom fuel page (cutAt page a e) e
+
+    more : (e ≤ pageEnd page a + fuel → pageEnd page a < e → pageEnd page a ≤ m → (e - 1) / page * page ≤ m → (m ≡ pageEnd page a) ⊎ (m ≡ (e - 1) / page * page)
+        → anyWide o (piecesFrom fuel page (pageEnd page a) e) ≡ wide o m)
+        → pageEnd page a < e → (wide o a || anyWide o rest) ≡ wide o m
+    more ih k =
+        let z : cutAt page a e ≡ pageEnd page a = omega arith in
+        let q : a < pageEnd page a = page-end-above page a p in
+        let d : suc (a / page) ≤ (e - 1) / page = le-div-iff-mul-le {k = page} {x = suc (a / page)} {y = e - 1} p .1 (omega arith) in
+        let g : pageEnd page a ≤ (e - 1) / page * page = mul-le-mul-right page d in
+        let y : (m ≡ pageEnd page a) ⊎ (m ≡ (e - 1) / page * page) = ⊎-elim (λ (y : m ≡ a). absurd (omega arith)) (λ (y : m ≡ (e - 1) / page * page). inr y) w in
+        let i : anyWide o (piecesFrom fuel page (pageEnd page a) e) ≡ wide o m = ih (omega arith) k (omega arith) v y in
+        ap (λ (b : Bool). wide o a || b) (ap (λ (n : ℕ). anyWide o (piecesFrom fuel page n e)) z ∙ i) ∙ wide-mono o a m u
+
+    last : e ≤ pageEnd page a → (wide o a || anyWide o rest) ≡ wide o m
+    last k =
+        let z : cutAt page a e ≡ e = omega arith in
+        let j : anyWide o rest ≡ false = ap (λ (n : ℕ). anyWide o (piecesFrom fuel page n e)) z ∙ ap (anyWide o) (pieces-none fuel page e e (omega arith)) in
+        let n : (e - 1) / page < suc (a / page) = div-lt-iff-lt-mul {k = page} {x = e - 1} {y = suc (a / page)} p .1 (omega arith) in
+        let g : (e - 1) / page * page ≤ a / page * page = mul-le-mul-right page (omega arith) in
+        let r : m ≡ a = ⊎-elim (λ (y : m ≡ a). y) (λ (y : m ≡ (e - 1) / page * page). omega (arith, div-mul-le-self a page)) w in
+        ap (λ (b : Bool). wide o a || b) j ∙ or-false-right (wide o a) ∙ ap (wide o) (sym r)
+
+module _ (o page addr size : ℕ) (p : 0 < page) where
+  pub wide-none : size ≡ 0 → false ≡ anyWide o (pieces page (section addr size))
+  unfolding pieces anyOf
+  wide-none z = sym (ap (anyWide o) (pieces-none size page addr (addr + size) (omega arith)))
+
+  module _ (some : size ≡ 0 → ⊥) where
+    abbrev at : ℕ
+    at = (addr + (size - 1)) / page * page
+
+    last-is : (addr + size - 1) / page * page ≡ at
+    last-is = let e : addr + size - 1 ≡ addr + (size - 1) = omega arith in ap (λ (n : ℕ). n / page * page) e
+
+    pub at-fits : at ≤ addr + (size - 1)
+    at-fits = div-mul-le-self (addr + (size - 1)) page
+
+    pub wide-first : at < addr → wide o addr ≡ anyWide o (pieces page (section addr size))
+    unfolding pieces
+    wide-first h = sym (wide-from o size page addr (addr + size) addr p (omega arith) (omega arith) (omega arith) (omega (arith, last-is)) (inl refl))
+
+    pub wide-last : addr ≤ at → wide o at ≡ anyWide o (pieces page (section addr size))
+    unfolding pieces
+    wide-last h = sym (wide-from o size page addr (addr + size) at p (omega arith) (omega arith) h (omega (arith, last-is)) (inr (sym last-is)))
+
+-- ---- the passes over all sections
+
+module _ (page n : ℕ) (xs : List ℕ) (room : 2 * n ≤ length xs) where
+  abbrev after : ℕ → List FreeSection
+  after i = split page (drop i (decode n xs))
+
+  after-more : (i : ℕ) → i < n → after i ≡ pieces page (pairAt xs i) ++ after (i + 1)
+  unfolding split
+  after-more i h = ap (split page) (opens n xs room i h)
+
+  after-none : (i : ℕ) → n ≤ i → after i ≡ []
+  unfolding split
+  after-none i h = ap (split page) (ended n xs room i h)
+
+  module _ (o i : ℕ) (e : anyWide o (after i) ≡ anyWide o (split page (decode n xs))) where
+    pub any-wide-found : i < n → (t : Bool) → t ≡ anyWide o (pieces page (pairAt xs i)) → t ≡ true → true ≡ anyWide o (split page (decode n xs))
+    any-wide-found h t f g =
+        let test : FreeSection → Bool = λ s. wide o (s .addr) in
+        sym (ap (λ (x : Bool). x || anyWide o (after (i + 1))) (sym f ∙ g)) ∙ sym (any-append test (pieces page (pairAt xs i)) (after (i + 1))) ∙ sym (ap (anyWide o) (after-more i h)) ∙ e
+
+    pub any-wide-turn : i < n → (t : Bool) → t ≡ anyWide o (pieces page (pairAt xs i)) → t ≡ false → anyWide o (after (i + 1)) ≡ anyWide o (split page (decode n xs))
+    any-wide-turn h t f g =
+        let test : FreeSection → Bool = λ s. wide o (s .addr) in
+        sym (ap (λ (x : Bool). x || anyWide o (after (i + 1))) (sym f ∙ g)) ∙ sym (any-append test (pieces page (pairAt xs i)) (after (i + 1))) ∙ sym (ap (anyWide o) (after-more i h)) ∙ e
+
+    pub any-wide-end : n ≤ i → false ≡ anyWide o (split page (decode n xs))
+    unfolding anyOf
+    any-wide-end h = sym (ap (anyWide o) (after-none i h)) ∙ e
+
+-- ---- how many whole pages
+
+from-append : (page : ℕ) (l m : List FreeSection) → fromPage page (l ++ m) ≡ fromPage page l ++ fromPage page m
+unfolding fromPage
+from-append page [] m = refl
+from-append page (x ∷ l) m = pick (ltb (x .size) page) (from-append page l m)
+  where
+    pick : (t : Bool) → fromPage page (l ++ m) ≡ fromPage page l ++ fromPage page m
+        → cond t (fromPage page (l ++ m)) (x ∷ fromPage page (l ++ m)) ≡ cond t (fromPage page l) (x ∷ fromPage page l) ++ fromPage page m
+    pick true e = e
+    pick false e = ap (λ (k : List FreeSection). x ∷ k) e
+
+pub length-parts : (page : ℕ) (l : List FreeSection) → length (belowPage page l) + length (fromPage page l) ≡ length l
+unfolding belowPage fromPage
+length-parts page [] = refl
+length-parts page (s ∷ l) = pick (ltb (s .size) page) (length-parts page l)
+  where
+    pick : (t : Bool) → length (belowPage page l) + length (fromPage page l) ≡ length l
+        → length (cond t (s ∷ belowPage page l) (belowPage page l)) + length (cond t (fromPage page l) (s ∷ fromPage page l)) ≡ suc (length l)
+    pick true e = omega arith
+    pick false e = omega arith
+
+module _ (page n : ℕ) (xs : List ℕ) where
+  abbrev pages : ℕ → ℕ
+  pages i = length (fromPage page (split page (drop i (decode n xs))))
+
+  pub record Paging (m i : ℕ) : Type 0 where
+    pub within : i ≤ n
+    pub fits : endsAbove (drop i (decode n xs)) ≡ false
+    pub few : m ≤ 2 ^ 64 - 1
+    pub number : sat (m + pages i) ≡ sat (pages 0)
+
+  module _ (p : 0 < page) (room : 2 * n ≤ length xs) where
+    pages-more : (i : ℕ) → i < n → pages i ≡ partOf Pages page (pairAt xs i) .count + pages (i + 1)
+    pages-more i h =
+        let r = partOf Pages page (pairAt xs i) in
+        ap (λ (m : List FreeSection). length (fromPage page m)) (after-more page n xs room i h)
+        ∙ ap length (from-append page (pieces page (pairAt xs i)) (after page n xs room (i + 1)))
+        ∙ length-append (fromPage page (pieces page (pairAt xs i))) (fromPage page (after page n xs room (i + 1)))
+        ∙ ap (λ (k : ℕ). k + pages (i + 1)) (ap length (from-pieces page (pairAt xs i) p) ∙ length-chain (r .addr) (r .size) (r .count))
+
+    pages-none : (i : ℕ) → n ≤ i → pages i ≡ 0
+    unfolding fromPage
+    pages-none i h = ap (λ (m : List FreeSection). length (fromPage page m)) (after-none page n xs room i h)
+
+    pub paging-start : endsAbove (decode n xs) ≡ false → Paging 0 0
+    paging-start h = record { within = omega arith; fits = h; few = omega arith; number = let e : 0 + pages 0 ≡ pages 0 = omega arith in ap sat e }
+
+    pub paging-turn : (m i : ℕ) → Paging m i → i < n → (c : Chain) (r : ℕ) → c ≡ partOf Pages page (pairAt xs i) → r ≡ sat (m + c .count) → Paging r (i + 1)
+    unfolding sat
+    paging-turn m i q h c r e f =
+        let g : c .count ≡ partOf Pages page (pairAt xs i) .count = ap (λ (x : Chain). x .count) e in
+        record { within = omega arith; fits = fits-at n xs room i h (q .fits) .1; few = omega arith; number = omega (arith, q .number, pages-more i h) }
+
+    pub paging-end : (m i : ℕ) → Paging m i → n ≤ i → m ≡ sat (pages 0)
+    unfolding sat
+    paging-end m i q h = omega (arith, q .number, q .few, pages-none i h)

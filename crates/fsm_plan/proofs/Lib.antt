@@ -1,0 +1,11 @@
+pub mod AddrLaws
+pub mod NextLaws
+pub mod SharingLaws
+pub mod OrderLaws
+pub mod SmallLaws
+pub mod LargeLaws
+pub mod AllPiecesLaws
+pub mod LengthLaws
+pub mod PlanLaws
+pub mod PlannedLaws
+pub mod Cases

@@ -1,0 +1,111 @@
+use mathlib.Core.Path.{_≡_, refl}
+use mathlib.Core.Bool.{false}
+use Prim.Native.Nat.{_-_, _≤_}
+use native.Mathlib.Omega.{arith}
+use denote.Ref.{now}
+use lib.ListN.{drop}
+use borrow.Author.Needs.{needs}
+use Rattle.fsm_sections.specs.Sections.{decode}
+use Rattle.fsm_sections.specs.Pages.{split}
+use Rattle.fsm_writer.specs.Serializing.{anyWide}
+use Rattle.fsm_pages.specs.Split.{endsAbove}
+use Rattle.fsm_pages.proofs.RunLaws.{fits-at}
+use Rattle.fsm_plan.proofs.AllPiecesLaws.{any-wide-found, any-wide-turn, any-wide-end}
+use Rattle.fsm_plan.proofs.pieces.wide_pieces.Statement.{statement}
+use Rattle.fsm_plan.proofs.pieces.wide_pieces.Tie as tie
+
+abbrev Inv-loop : tie.InvT-loop
+Inv-loop sections count page o i₀ i = (i ≤ count) × (endsAbove (drop i (decode count sections)) ≡ false) × (anyWide o (split page (drop i (decode count sections))) ≡ anyWide o (split page (decode count sections)))
+
+abbrev μ-loop : tie.MeasureT-loop
+μ-loop sections count page o i₀ i = count - i
+
+loop-holds : tie.Need-loop-holds Inv-loop μ-loop
+loop-holds c = (omega arith, c .before .pre .1 .1, refl)
+
+mul-wide-piece : tie.Need-mul-wide-piece Inv-loop μ-loop
+mul-wide-piece c = search needs
+
+mul-wide-piece-2 : tie.Need-mul-wide-piece-2 Inv-loop μ-loop
+mul-wide-piece-2 c = search needs
+
+shared-slice-read-wide-piece : tie.Need-shared-slice-read-wide-piece Inv-loop μ-loop
+shared-slice-read-wide-piece c = search needs
+
+mul-wide-piece-3 : tie.Need-mul-wide-piece-3 Inv-loop μ-loop
+mul-wide-piece-3 c = search needs
+
+add-wide-piece : tie.Need-add-wide-piece Inv-loop μ-loop
+add-wide-piece c = search needs
+
+mul-wide-piece-4 : tie.Need-mul-wide-piece-4 Inv-loop μ-loop
+mul-wide-piece-4 c = search needs
+
+shared-slice-read-wide-piece-2 : tie.Need-shared-slice-read-wide-piece-2 Inv-loop μ-loop
+shared-slice-read-wide-piece-2 c = search needs
+
+wide-piece-requires : tie.Need-wide-piece-requires Inv-loop μ-loop
+wide-piece-requires c κs =
+    let c2 = c .before .before in
+    let c3 = c2 .before in
+    let c5 = c3 .before .before in
+    let a = c5 .args in
+    let l = c3 .loop in
+    (c5 .pre .0 .0, fits-at (a .count) (now (a .sections)) (c5 .pre .1 .0) (l .i) (c2 .loop-test .taken) (l .inv .1) .0, c5 .pre .0 .1)
+
+returns : tie.Need-returns Inv-loop μ-loop
+returns c =
+    let c4 = c .before .before .before .before in
+    let c5 = c4 .before in
+    let c7 = c5 .before .before in
+    let a = c7 .args in
+    let l = c5 .loop in
+    any-wide-found (a .page) (a .count) (now (a .sections)) (c7 .pre .1 .0) (a .o) (l .i) (l .inv .2) (c4 .loop-test .taken) _ (c .before .wide-piece .ensures)
+    (c .if1 .taken)
+
+add-i : tie.Need-add-i Inv-loop μ-loop
+add-i c = search needs
+
+loop-less : tie.Need-loop-less Inv-loop μ-loop
+loop-less c = search needs
+
+loop-again : tie.Need-loop-again Inv-loop μ-loop
+loop-again c =
+    let c4 = c .before .before .before .before in
+    let c5 = c4 .before in
+    let c7 = c5 .before .before in
+    let a = c7 .args in
+    let l = c5 .loop in (
+      omega arith,
+      fits-at (a .count) (now (a .sections)) (c7 .pre .1 .0) (l .i) (c4 .loop-test .taken) (l .inv .1) .1,
+      any-wide-turn (a .page) (a .count) (now (a .sections))
+          (c7 .pre .1 .0) (a .o) (l .i) (l .inv .2) (c4 .loop-test .taken) _ (c .before .wide-piece .ensures) (c .if1 .left),
+    )
+
+returns-2 : tie.Need-returns-2 Inv-loop μ-loop
+returns-2 c =
+    let c3 = c .before .before .before in
+    let a = c3 .args in
+    let l = c .before .loop in
+    any-wide-end (a .page) (a .count) (now (a .sections)) (c3 .pre .1 .0) (a .o) (l .i) (l .inv .2) (c .loop-test .left)
+
+pub wide-pieces-spec : {M : Type 1} → statement M
+wide-pieces-spec =
+    tie.close
+    (tie.spec
+    Inv-loop
+    μ-loop
+    loop-holds
+    mul-wide-piece
+    mul-wide-piece-2
+    shared-slice-read-wide-piece
+    mul-wide-piece-3
+    add-wide-piece
+    mul-wide-piece-4
+    shared-slice-read-wide-piece-2
+    wide-piece-requires
+    returns
+    add-i
+    loop-less
+    loop-again
+    returns-2)

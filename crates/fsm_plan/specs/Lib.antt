@@ -1,0 +1,3 @@
+pub mod Managers
+pub mod Order
+pub mod Plan

@@ -1,0 +1,58 @@
+-- The managers of a paged file: which sections each slot has, the blocks they give and where these stand. Assumes nothing.
+--   Manager        a slot's sections, and the class that its entries carry
+--   manager, unused   a manager of a class and sections; a slot that is not used
+--   managersOf     the twelve slots of three runs of sections: metadata pieces below a page in slot 0, raw ones in slot 2, whole pages of either in slot 6 with the
+--                  unclassified unsplit; class 1 for slots 0 and 2, class 2 for slot 6
+--   managerSize    how many bytes a manager's blocks occupy: FSHD, then FSSE at its allocated length; none without sections
+--   managerBytes   a manager's blocks at an address
+--   sizeOf         how many bytes the blocks of managers occupy
+--   blocksFrom     the blocks of managers from an address on, slot by slot
+--   slotsFrom      where each manager's FSHD then stands, the undefined address for one without sections
+use Prim.Native.Nat.{ℕ, _+_}
+use mathlib.Core.Bool.{cond}
+use mathlib.Core.List.{List, [], _∷_, _++_}
+use lib.Dec.{eqb}
+use lib.ListN.{length, replicate}
+use Rattle.fields.specs.Ranges.{top}
+use Rattle.fsm_sections.specs.declared.FreeSection.{FreeSection}
+use Rattle.fsm_sections.specs.Pages.{slot0, slot2, slot6}
+use Rattle.fsm_blocks.specs.Fshd.{fshdBytes, fshdSize}
+use Rattle.fsm_blocks.specs.Managers.{Settings, headerFor, fsseFor, fsseUsed}
+
+pub record Manager : Type 0 where
+  pub class : ℕ
+  pub sections : List FreeSection
+
+abbrev pub manager : ℕ → List FreeSection → Manager
+manager class l = record { class = class; sections = l }
+
+abbrev pub unused : Manager
+unused = manager 0 []
+
+abbrev pub managersOf : ℕ → List FreeSection → List FreeSection → List FreeSection → List Manager
+managersOf page meta raw unclassified =
+    manager 1 (slot0 page meta) ∷ unused ∷ manager 1 (slot2 page raw) ∷ unused ∷ unused ∷ unused
+    ∷ manager 2 (slot6 page meta raw unclassified) ∷ unused ∷ unused ∷ unused ∷ unused ∷ unused ∷ []
+
+module _ (O : ℕ) (set : Settings) where
+  abbrev pub managerSize : Manager → ℕ
+  managerSize m = cond (eqb (length (m .sections)) 0) 0 (fshdSize O + (fsseUsed O set (m .sections) + set .surplus))
+
+  unfoldable pub sizeOf : List Manager → ℕ
+  sizeOf [] = 0
+  sizeOf (m ∷ ms) = managerSize m + sizeOf ms
+
+  unfoldable pub slotsFrom : ℕ → List Manager → List ℕ
+  slotsFrom a [] = []
+  slotsFrom a (m ∷ ms) = cond (eqb (length (m .sections)) 0) top a ∷ slotsFrom (a + managerSize m) ms
+
+  module _ (sum : List ℕ → ℕ) where
+    abbrev pub managerBytes : ℕ → Manager → List ℕ
+    managerBytes a m =
+        cond (eqb (length (m .sections)) 0) []
+        (fshdBytes sum O (headerFor O set (a + fshdSize O) (m .sections))
+        ++ (fsseFor O set sum a (m .class) (m .sections) ++ replicate (set .surplus) 0))
+
+    unfoldable pub blocksFrom : ℕ → List Manager → List ℕ
+    blocksFrom a [] = []
+    blocksFrom a (m ∷ ms) = managerBytes a m ++ blocksFrom (a + managerSize m) ms
