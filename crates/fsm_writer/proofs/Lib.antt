@@ -19,4 +19,5 @@ pub mod SpanLaws
 pub mod StoredLaws
 pub mod TableLaws
 pub mod TallyLaws
+pub mod VerifiedLaws
 pub mod WriterLaws
