@@ -1,12 +1,12 @@
 -- Laws of sums, ranges and multiples: the cases of each definition, and what the first multiple of a unit is. Assumes nothing.
 use mathlib.Core.Path.{_≡_, refl, sym, ap, _∙_}
 use mathlib.Core.Bool.{Bool, true, false, _&&_, _||_, not}
-use Prim.Native.Nat.{ℕ, suc, _+_, _-_, _*_, _/_, _%_, _^_, _≤_, _<_}
+use Prim.Native.Nat.{ℕ, suc, _+_, _-_, _*_, _/_, _%_, _≤_, _<_}
 use native.Mathlib.Nat.{div-add-mod', mod-lt, suc-mul}
 use native.Mathlib.Omega.{arith}
 use borrow.Author.Tests.{lt-ltb, le-ltb, eq-eqb, ne-eqb}
 use lib.Arith.{digits-div}
-use lib.Dec.{ltb, eqb}
+use lib.Dec.{eqb}
 use Rattle.error.specs.declared.Refusal.the-variants.{Width, Page, Overflow, Short}
 use Rattle.error.specs.Outcome.{answer, refused, sat}
 use Rattle.error.proofs.OutcomeLaws.{refuses, passes, first-holds, first-passes}

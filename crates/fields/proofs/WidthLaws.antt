@@ -6,7 +6,7 @@ use native.Mathlib.Nat.{lt-of-lt-of-le, le-trans, lt-of-not-le, not-le-of-lt, po
 use native.Mathlib.Omega.{arith}
 use borrow.Author.Tests.{ltb-true, ltb-false, le-leb, lt-leb}
 use lib.Count.{leadingZeros, leading-length}
-use lib.Dec.{ltb, leb, lit≤}
+use lib.Dec.{ltb, lit≤}
 use lib.Pow.{pow-mono, pow-add}
 use Rattle.fields.specs.Width.{validWidth, leastFrom, encSize, Least}
 

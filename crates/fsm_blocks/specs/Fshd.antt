@@ -1,6 +1,7 @@
 -- The Free-space Manager Header, FSHD, by the offset size O: its fields, bytes and reading. From the HDF5 File Format Specification,
 -- section III.H, with lengths of 8 bytes as document 01 has them. Assumes nothing.
 --   Header       all that stands in a header but its signature and its checksum
+--   signature    four letters as a row of fields
 --   fshdRow      the header as a row of fields: their widths give the offsets that document 01 lists
 --   sealed       bytes with their checksum behind them; `sum` is the checksum of bytes
 --   fshdBytes    a header's bytes

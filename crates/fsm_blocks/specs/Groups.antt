@@ -5,6 +5,7 @@
 --   groupBytes    groups: count, size, entries
 --   entrySize, headSize   how many bytes an entry takes; a count with its size
 --   Entries       the addresses of some entries, how many sections are still to come, and the bytes left
+--   behind        an entry's address before those of the entries behind it
 --   readEntries   c entries where `left` sections are still to come: an entry that passes the payload or is beyond the total is refused
 --   readMore      the sections of a group before those read behind it
 --   readGroups    groups until `left` sections are read; zero-count groups are allowed, bytes left over are not looked at

@@ -3,3 +3,4 @@ pub mod ShiftLaws
 pub mod PieceLaws
 pub mod SplitLaws
 pub mod Cases
+pub mod InverseLaws

@@ -31,32 +31,52 @@ fn is_run(run: &[u64], count: usize) -> bool
     count <= run.len() / 2
 }
 
-// The bits of the power of two that a page may be.
-fn bits_of(page: u64) -> u32
-    ensures { λ r. ⌜ r < 64 ⌝ }
+// By what an address is divided by a page: the bits of the power of two that the page may be, and 2^32 divided by it.
+struct Divisor {
+    bits: u32,
+    inverse: u64,
+}
+
+fn divisor_of(page: u64) -> Divisor
+    requires { ⌜ 0 < page ⌝ }
+    ensures { λ r. ⌜ (r .bits < 64) × (r .inverse ≡ 2 ^ 32 / page) ⌝ }
 {
-    let bits = u64::trailing_zeros(page);
-    if bits < 64 { bits } else { 0 }
+    let zeros = u64::trailing_zeros(page);
+    let bits = if zeros < 64 { zeros } else { 0 };
+    Divisor {
+        bits: bits,
+        inverse: 4294967296 / page,
+    }
 }
 
 // How many pages n bytes fill. A page that is a power of two divides by a shift.
-fn pages_in(n: u64, page: u64, bits: u32) -> u64
-    requires { ⌜ (0 < page) × (bits < 64) ⌝ }
+fn pages_in(n: u64, page: u64, by: Divisor) -> u64
+    requires { ⌜ (0 < page) × ((by .bits < 64) × (by .inverse ≡ 2 ^ 32 / page)) ⌝ }
     ensures { λ r. ⌜ r ≡ n / page ⌝ }
 {
+    let bits = by.bits;
     if page == 1u64 << bits {
         return n >> bits;
     }
     n / page
 }
 
-// How many bytes there are from an address up to the next page multiple.
-fn room_in(page: u64, bits: u32, addr: u64) -> u64
-    requires { ⌜ (0 < page) × (bits < 64) ⌝ }
+// How many bytes there are from an address up to the next page multiple. An address below 2^32 is divided by a multiplication, which
+// gives its page or the one before it.
+fn room_in(page: u64, by: Divisor, addr: u64) -> u64
+    requires { ⌜ (0 < page) × ((by .bits < 64) × (by .inverse ≡ 2 ^ 32 / page)) ⌝ }
     ensures { λ r. ⌜ r ≡ page - addr % page ⌝ }
 {
+    let bits = by.bits;
     if page == 1u64 << bits {
         return page - (addr - ((addr >> bits) << bits));
+    }
+    if addr < 4294967296 {
+        let over = addr - ((addr * by.inverse) >> 32) * page;
+        if over < page {
+            return page - over;
+        }
+        return page - (over - page);
     }
     page - addr % page
 }
@@ -67,7 +87,7 @@ fn pieces_in(sections: &[u64], count: usize, page: u64) -> Number
     requires room { ⌜ 2 * count ≤ length (now sections) ⌝ }
     ensures { λ r. ⌜ numberOutcome r ≡ firstOf (when (endsAbove (decode count (now (sections .entry)))) Overflow ∷ []) (answer (sat (length (split page (decode count (now (sections .entry))))))) ⌝ }
 {
-    let bits = bits_of(page);
+    let by = divisor_of(page);
     let mut some: u64 = 0;
     let mut more: u64 = 0;
     let mut i = 0;
@@ -77,9 +97,9 @@ fn pieces_in(sections: &[u64], count: usize, page: u64) -> Number
         if 18446744073709551615 - size < addr {
             return Number::Refused(Refusal::Overflow);
         }
-        let room = room_in(page, bits, addr);
+        let room = room_in(page, by, addr);
         if room < size {
-            more = sum_of(more, 1 + pages_in(size - room - 1, page, bits));
+            more = sum_of(more, 1 + pages_in(size - room - 1, page, by));
         }
         if size != 0 {
             some += 1;
@@ -103,15 +123,15 @@ pub fn split_count(sections: &[u64], count: usize, page: u64) -> Number
 }
 
 // Puts the pieces of a section into the run, and gives the place behind them.
-fn put_pieces(page: u64, bits: u32, addr: u64, size: u64, out: &mut [u64], from: usize) -> usize
-    requires fits { ⌜ (0 < page) × (bits < 64) × (addr + size < 2 ^ 64) ⌝ }
+fn put_pieces(page: u64, by: Divisor, addr: u64, size: u64, out: &mut [u64], from: usize) -> usize
+    requires fits { ⌜ (0 < page) × ((by .bits < 64) × (by .inverse ≡ 2 ^ 32 / page)) × (addr + size < 2 ^ 64) ⌝ }
     requires room { ⌜ from + 2 * length (pieces page (section addr size)) ≤ length (now out) ⌝ }
     ensures put { λ _. ⌜ now (out .exit) ≡ over from (flat (pieces page (section addr size))) (now (out .entry)) ⌝ }
     ensures next { λ r. ⌜ r ≡ from + 2 * length (pieces page (section addr size)) ⌝ }
 {
     let mut a = addr;
     let mut left = size;
-    let mut room = room_in(page, bits, addr);
+    let mut room = room_in(page, by, addr);
     let mut k = from;
     while room < left {
         out[k] = a;
@@ -137,11 +157,11 @@ fn put_split(sections: &[u64], count: usize, page: u64, out: &mut [u64])
     requires room { ⌜ 2 * length (split page (decode count (now sections))) ≤ length (now out) ⌝ }
     ensures { λ _. ⌜ now (out .exit) ≡ over 0 (flat (split page (decode count (now (sections .entry))))) (now (out .entry)) ⌝ }
 {
-    let bits = bits_of(page);
+    let by = divisor_of(page);
     let mut k = 0;
     let mut i = 0;
     while i < count {
-        k = put_pieces(page, bits, sections[2 * i], sections[2 * i + 1], out, k);
+        k = put_pieces(page, by, sections[2 * i], sections[2 * i + 1], out, k);
         i += 1;
     }
 }

@@ -5,7 +5,6 @@ use native.Mathlib.Omega.{arith}
 use mathlib.Core.Bool.{Bool, true, false, cond, _&&_, _||_, not}
 use mathlib.Core.List.{List, [], _∷_, _++_}
 use lib.Dec.{ltb}
-use lib.ListN.{length}
 use borrow.Author.Tests.{not-false, le-ltb}
 use Rattle.error.specs.declared.Checked.the-variants as checked
 use Rattle.error.specs.declared.Number.{Number}

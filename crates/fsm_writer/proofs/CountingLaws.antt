@@ -72,10 +72,12 @@ module _ (q : Part) (page : ℕ) where
     none-left i h = drop-of-length-le (chainsIn q page (decode n run)) {i = i} (omega (arith, length-map (decode n run) (partOf q page), length-decode n run (g .room)))
 
     module _ (i : ℕ) (h : i < n) where
-      pub region-fits : PartFits q (pairAt run i)
-      region-fits =
-          subst (PartFits q) (decode-at n i run (section 0 0) h (g .room))
-          (all-getD (PartFits q) (decode n run) i (section 0 0) (omega (arith, length-decode n run (g .room))) (g .fit))
+      pub region-fits : (0 < page) × PartFits q (pairAt run i)
+      region-fits = (
+        g .some,
+        subst (PartFits q) (decode-at n i run (section 0 0) h (g .room))
+            (all-getD (PartFits q) (decode n run) i (section 0 0) (omega (arith, length-decode n run (g .room))) (g .fit)),
+      )
 
       module _ (r : Chain) (e : r ≡ partOf q page (pairAt run i)) where
         pub region-chain : drop i (chainsIn q page (decode n run)) ≡ r ∷ drop (i + 1) (chainsIn q page (decode n run))

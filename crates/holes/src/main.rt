@@ -1,7 +1,27 @@
 // Lists the sections that an image on standard input tracks as free: slot, address and size, a line for each.
+ghost use mathlib.Core.Path.{_≡_};
+ghost use Prim.Native.Nat.{_+_};
+ghost use lib.ListN.{length};
+ghost use Rattle.holes_text.specs.Holes.{imageLimit, textLimit};
+use holes_text::IMAGE_LIMIT;
 use holes_text::holes_text;
-use holes_text::image_buffer;
-use holes_text::text_buffer;
+
+// Memory for the bytes of an image: one more than the limit, so that a longer one is noticed.
+fn image_buffer() -> [u8; IMAGE_LIMIT + 1]
+    ensures { λ r. ⌜ imageLimit + 1 ≡ length r ⌝ }
+{
+    [0; IMAGE_LIMIT + 1]
+}
+
+// The bytes of the longest text.
+const TEXT_LIMIT: usize = 92178;
+
+// Memory that holds any text that `holes_text` writes.
+fn text_buffer() -> [u8; TEXT_LIMIT]
+    ensures { λ r. ⌜ textLimit ≡ length r ⌝ }
+{
+    [0; TEXT_LIMIT]
+}
 
 fn main() {
     let mut image = image_buffer();

@@ -1,10 +1,10 @@
 // The text that the program `holes` prints for an image.
 ghost use mathlib.Core.Path.{_≡_};
-ghost use Prim.Native.Nat.{_+_, _*_};
+ghost use Prim.Native.Nat.{_*_};
 ghost use lib.ListN.{length};
 ghost use Rattle.error.specs.Lent.{with};
 ghost use Rattle.listing.specs.Text.{written};
-ghost use Rattle.holes_text.specs.Holes.{imageLimit, sectionLimit, textLimit, holesText};
+ghost use Rattle.holes_text.specs.Holes.{sectionLimit, holesText};
 use error::Refusal;
 use image::ImageAnswer;
 use image::read_image;
@@ -13,23 +13,6 @@ use listing::write_refusal;
 
 // The bytes of the longest image that is read.
 pub const IMAGE_LIMIT: usize = 65536;
-
-// Memory for the bytes of an image: one more than the limit, so that a longer one is noticed.
-pub fn image_buffer() -> [u8; IMAGE_LIMIT + 1]
-    ensures { λ r. ⌜ imageLimit + 1 ≡ length r ⌝ }
-{
-    [0; IMAGE_LIMIT + 1]
-}
-
-// The bytes of the longest text.
-pub const TEXT_LIMIT: usize = 92178;
-
-// Memory that holds any text that `holes_text` writes.
-pub fn text_buffer() -> [u8; TEXT_LIMIT]
-    ensures { λ r. ⌜ textLimit ≡ length r ⌝ }
-{
-    [0; TEXT_LIMIT]
-}
 
 // The sections that are listed at the most.
 pub const SECTION_LIMIT: usize = 2048;

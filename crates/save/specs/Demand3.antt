@@ -11,6 +11,9 @@
 --   long, frame    nothing outside blocks and message changes
 --   anew           any save with its message there, also one of other lists, begins over what a cut left as over the image before the save
 --   again          so the same save begins again with any scratch that has room, and ends in the same record and image
+--   lists          the three lists after the calls
+--   blocks, all, T   the bytes of the plan's blocks; the stores of the save, in order; how many they are
+--   cut            record and image after k steps
 --   recordAt       the record of the save after k stores
 --   S, R, G        the sections of slots 0, 2 and 6, by size and then address
 --   Demand3, Demand   all this of one save; of every one

@@ -1,5 +1,5 @@
 -- Stores of single bytes into an image, and the stores of a save in their order. Assumes nothing.
---   Store        a byte and the place in the image that it goes to
+--   Store, store   a byte and the place in the image that it goes to; the store of a place and a byte
 --   noStore      what stands for a store where a list has none
 --   make         the image with a store made
 --   run          the image with stores made, one after another

@@ -1,9 +1,10 @@
-use mathlib.Core.Path.{ap, subst}
+use mathlib.Core.Path.{_≡_, ap, subst}
 use Prim.Native.Nat.{ℕ}
 use borrow.Author.Needs.{needs}
 use denote.Ref.{now}
 use Rattle.free_regions.specs.Regions.{best}
 use Rattle.free_regions.specs.Units.{interiorSpan}
+use Rattle.free_space.specs.declared.check.Head.{Head}
 use Rattle.free_space.specs.Runs.{decode}
 use Rattle.free_space.specs.Splices.{Begins}
 use Rattle.free_space.proofs.units.best_units.Statement.{statement}
@@ -21,22 +22,21 @@ enum-told-2 c = search needs
 enum-known-h : tie.Need-enum-known-h
 enum-known-h c = search needs
 
+-- what is known by the answer of the first region's test
+begins : (c : tie.After-first-region) (h : Head) → c .first-region .result ≡ h → let a = c .before .before .args in Begins (now (a .run)) (a .list) h
+begins c h e = let a = c .before .before .args in subst (Begins (now (a .run)) (a .list)) e (c .first-region .ensures)
+
 units-after-requires : tie.Need-units-after-requires
-units-after-requires c κs =
-    let a = c .before .before .before .before .before .args in
-    (subst (Begins (now (a .run)) (a .list)) (c .before .h .given .1) (c .before .before .before .first-region .ensures), c .before .before .before .before .before .pre)
+units-after-requires c κs = (begins (c .before .before .before) _ (c .before .h .given .1), c .before .before .before .before .before .pre)
 
 returns : tie.Need-returns
-returns c =
-    let a = c .before .before .before .before .args in
-    subst (Begins (now (a .run)) (a .list)) (c .enum-told .given .1) (c .before .before .first-region .ensures)
+returns c = begins (c .before .before) _ (c .enum-told .given .1)
 
 returns-2 : tie.Need-returns-2
 returns-2 c =
     let a = c .before .before .before .before .args in
-    let xs = now (a .run) in
-    let h = subst (Begins xs (a .list)) (c .enum-told2 .given .1) (c .before .before .first-region .ensures) in
-    (h .0, ap (λ (n : ℕ). best (interiorSpan (a .unit)) (a .len) 0 (decode n xs)) (h .1))
+    let h = begins (c .before .before) _ (c .enum-told2 .given .1) in
+    (h .0, ap (λ (n : ℕ). best (interiorSpan (a .unit)) (a .len) 0 (decode n (now (a .run)))) (h .1))
 
 returns-3 : tie.Need-returns-3
 returns-3 c = c .units-after .ensures

@@ -13,13 +13,13 @@ use Rattle.fsm_pages.proofs.pages.pieces_in.Statement.{statement}
 use Rattle.fsm_pages.proofs.pages.pieces_in.Tie as tie
 
 abbrev Inv-loop : tie.InvT-loop
-Inv-loop sections count page bits some₀ more₀ i₀ some more i = Counting page count sections some more i
+Inv-loop sections count page by some₀ more₀ i₀ some more i = Counting page count sections some more i
 
 abbrev μ-loop : tie.MeasureT-loop
-μ-loop sections count page bits some₀ more₀ i₀ some more i = count - i
+μ-loop sections count page by some₀ more₀ i₀ some more i = count - i
 
-bits-of-requires : tie.Need-bits-of-requires Inv-loop μ-loop
-bits-of-requires c κs = search needs
+divisor-of-requires : tie.Need-divisor-of-requires Inv-loop μ-loop
+divisor-of-requires c κs = search needs
 
 loop-holds : tie.Need-loop-holds Inv-loop μ-loop
 loop-holds c = let s = c .before .before in count-start (s .args .page) (s .args .count) (now (s .args .sections)) (s .pre .1)
@@ -55,7 +55,7 @@ returns c =
     count-above (s .args .page) (s .args .count) (now (s .args .sections)) (s .pre .1) (l .some) (l .more) (l .i) (l .inv) (c .before .before .before .loop-test .taken) (c .if1 .taken)
 
 room-in-requires : tie.Need-room-in-requires Inv-loop μ-loop
-room-in-requires c κs = let s = c .before .before .before .before .before .before .before in (s .pre .0, c .before .before .before .before .before .bits-of .ensures)
+room-in-requires c κs = let s = c .before .before .before .before .before .before .before in (s .pre .0, c .before .before .before .before .before .divisor-of .ensures)
 
 sub-pages-in : tie.Need-sub-pages-in Inv-loop μ-loop
 sub-pages-in c = search needs
@@ -64,7 +64,7 @@ sub-pages-in-2 : tie.Need-sub-pages-in-2 Inv-loop μ-loop
 sub-pages-in-2 c = search needs
 
 pages-in-requires : tie.Need-pages-in-requires Inv-loop μ-loop
-pages-in-requires c κs = let s = c .before .before .before .before .before .before .before .before .before in (s .pre .0, c .before .before .before .before .before .before .before .bits-of .ensures)
+pages-in-requires c κs = let s = c .before .before .before .before .before .before .before .before .before in (s .pre .0, c .before .before .before .before .before .before .before .divisor-of .ensures)
 
 add-sum-of : tie.Need-add-sum-of Inv-loop μ-loop
 add-sum-of c =
@@ -130,7 +130,7 @@ pieces-in-spec =
     (tie.spec
     Inv-loop
     μ-loop
-    bits-of-requires
+    divisor-of-requires
     loop-holds
     mul-addr
     mul-addr-2

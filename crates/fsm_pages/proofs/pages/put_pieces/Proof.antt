@@ -10,10 +10,10 @@ use Rattle.fsm_pages.proofs.pages.put_pieces.Statement.{statement}
 use Rattle.fsm_pages.proofs.pages.put_pieces.Tie as tie
 
 abbrev Inv-loop : tie.InvT-loop
-Inv-loop page bits addr size out₀ from a₀ left₀ room₀ k₀ out a left room k = Walking page addr (addr + size) from out₀ out a left room k
+Inv-loop page addr size out₀ from a₀ left₀ room₀ k₀ out a left room k = Walking page addr (addr + size) from out₀ out a left room k
 
 abbrev μ-loop : tie.MeasureT-loop
-μ-loop page bits addr size out₀ from a₀ left₀ room₀ k₀ out a left room k = left
+μ-loop page addr size out₀ from a₀ left₀ room₀ k₀ out a left room k = left
 
 -- the run has room for the piece that a turn puts, and for the last one
 turn-room : (c : tie.In-loop Inv-loop μ-loop) → let l = c .before .loop in l .k + 2 ≤ length (l .out)

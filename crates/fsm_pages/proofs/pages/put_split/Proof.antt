@@ -7,13 +7,13 @@ use Rattle.fsm_pages.proofs.pages.put_split.Statement.{statement}
 use Rattle.fsm_pages.proofs.pages.put_split.Tie as tie
 
 abbrev Inv-loop : tie.InvT-loop
-Inv-loop sections count page out₀ bits k₀ i₀ out k i = Putting page count sections out₀ out k i
+Inv-loop sections count page out₀ by k₀ i₀ out k i = Putting page count sections out₀ out k i
 
 abbrev μ-loop : tie.MeasureT-loop
-μ-loop sections count page out₀ bits k₀ i₀ out k i = count - i
+μ-loop sections count page out₀ by k₀ i₀ out k i = count - i
 
-bits-of-requires : tie.Need-bits-of-requires Inv-loop μ-loop
-bits-of-requires c κs = search needs
+divisor-of-requires : tie.Need-divisor-of-requires Inv-loop μ-loop
+divisor-of-requires c κs = search needs
 
 loop-holds : tie.Need-loop-holds Inv-loop μ-loop
 loop-holds c = let s = c .before .before .before in put-start (s .args .page) (s .args .count) (now (s .args .sections)) (s .pre .1 .0) (now (s .args .out)) (s .pre .1 .1 .0) (s .pre .1 .1 .1)
@@ -45,7 +45,7 @@ put-pieces-requires c κs =
     let s = b .before .before .before in
     let l = c .before .before .before .before .loop in
     let h = c .before .before .before .loop-test .taken in (
-      (s .pre .0, b .bits-of .ensures, fits-at (s .args .count) (now (s .args .sections)) (s .pre .1 .0) (l .i) h (l .inv .fits) .0),
+      (s .pre .0, b .divisor-of .ensures, fits-at (s .args .count) (now (s .args .sections)) (s .pre .1 .0) (l .i) h (l .inv .fits) .0),
       put-room (s .args .page) (s .args .count) (now (s .args .sections)) (s .pre .1 .0) (now (s .args .out)) (l .out) (l .k) (l .i) (l .inv) h,
     )
 
@@ -78,7 +78,7 @@ put-split-spec =
     (tie.spec
     Inv-loop
     μ-loop
-    bits-of-requires
+    divisor-of-requires
     loop-holds
     mul-put-pieces
     mul-put-pieces-2

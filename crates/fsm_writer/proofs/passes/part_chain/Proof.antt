@@ -1,5 +1,5 @@
 use native.Mathlib.Omega.{arith}
-use Prim.Native.Nat.{_-_}
+use Prim.Native.Nat.{_+_, _-_, _*_, _/_, _<_, _^_}
 use native.Mathlib.Nat.{div-mul-le-self}
 use Rattle.fsm_sections.proofs.SourceLaws.{head-chain, pages-chain, tail-chain, whole-chain, pages-end, tail-end}
 use borrow.Author.Needs.{needs}
@@ -45,8 +45,12 @@ sub-body c = search needs
 div-pages : tie.Need-div-pages
 div-pages c = search needs
 
-add-one-chain : tie.Need-add-one-chain
-add-one-chain c =
+-- the tail begins at an address that fits
+begins : (c : tie.After-head-size3) →
+    let a = c .before .before .before .args in
+    let h = c .head-size3 .result in
+    a .addr + h + (a .size - h) / a .page * a .page < 2 ^ 64
+begins c =
     let s = c .before .before .before in
     let a = s .args in
     omega (
@@ -55,28 +59,15 @@ add-one-chain c =
       tail-end (a .part) 0 (a .addr) (a .size) (c .before .enum-told3 .given .1) (s .pre .1),
       div-mul-le-self (a .size - c .head-size3 .result) (a .page),
     )
+
+add-one-chain : tie.Need-add-one-chain
+add-one-chain c = omega (arith, begins c)
 
 mul-one-chain : tie.Need-mul-one-chain
-mul-one-chain c =
-    let s = c .before .before .before in
-    let a = s .args in
-    omega (
-      arith,
-      c .head-size3 .ensures,
-      tail-end (a .part) 0 (a .addr) (a .size) (c .before .enum-told3 .given .1) (s .pre .1),
-      div-mul-le-self (a .size - c .head-size3 .result) (a .page),
-    )
+mul-one-chain c = omega (arith, begins c)
 
 add-one-chain-2 : tie.Need-add-one-chain-2
-add-one-chain-2 c =
-    let s = c .before .before .before in
-    let a = s .args in
-    omega (
-      arith,
-      c .head-size3 .ensures,
-      tail-end (a .part) 0 (a .addr) (a .size) (c .before .enum-told3 .given .1) (s .pre .1),
-      div-mul-le-self (a .size - c .head-size3 .result) (a .page),
-    )
+add-one-chain-2 c = omega (arith, begins c)
 
 rem-one-chain : tie.Need-rem-one-chain
 rem-one-chain c = search needs

@@ -1,6 +1,8 @@
 use borrow.Author.Needs.{needs}
 use denote.Ref.{now}
+use Prim.Native.Nat.{_+_, _≤_}
 use native.Mathlib.Omega.{arith}
+use Rattle.fields.specs.Ranges.{top}
 use Rattle.save.proofs.SumLaws.{first-refused, second-refused, third-refused, above-refused, sum-low, offsets-are}
 use Rattle.save.proofs.tests.plan_offsets.Statement.{statement}
 use Rattle.save.proofs.tests.plan_offsets.Tie as tie
@@ -65,63 +67,49 @@ returns-3 c =
 ends-above-requires : tie.Need-ends-above-requires
 ends-above-requires c κs = search needs
 
+-- the start and the three lengths have a sum that fits
+low : (c : tie.Else1) →
+    let third = c .before .before .before in
+    let second = third .before .before .before .before in
+    let first = second .before .before .before .before in
+    first .before .before .before .before .before .before .args .start + (first .first .given .0 .0 + second .second .given .0 .0 + third .third .given .0 .0) ≤ top
+low c =
+    let third = c .before .before .before in
+    let second = third .before .before .before .before in
+    let first = second .before .before .before .before in
+    let s = first .before .before .before .before .before .before in
+    let a = s .args in
+    sum-low (now (a .meta)) (a .meta-list) (now (a .raw)) (a .raw-list) (now (a .unclassified)) (a .unclassified-list) (a .page) (a .start) (s .pre .0) (s .pre .1)
+    _ (first .before .before .slot-len .ensures) _ (first .first .given .1) _ (second .before .before .slot-len2 .ensures) _ (second .second .given .1)
+    _ (third .before .before .slot-len3 .ensures) _ (third .third .given .1) _ (c .before .ends-above .ensures) (c .if1 .left)
+
 returns-4 : tie.Need-returns-4
 returns-4 c =
-    let a = c .before .before .before .before .before .before .before .before .before .before .before .before .before .before .before .before .before .args in
-    let pre = c .before .before .before .before .before .before .before .before .before .before .before .before .before .before .before .before .before .pre in
-    let slot-len = c .before .before .before .before .before .before .before .before .before .before .before .before .before .slot-len in
-    let first = c .before .before .before .before .before .before .before .before .before .before .before .first in
-    let slot-len2 = c .before .before .before .before .before .before .before .before .before .slot-len2 in
-    let second = c .before .before .before .before .before .before .before .second in
-    let slot-len3 = c .before .before .before .before .before .slot-len3 in
-    let third = c .before .before .before .third in
-    above-refused (now (a .meta)) (a .meta-list) (now (a .raw)) (a .raw-list) (now (a .unclassified)) (a .unclassified-list) (a .page) (a .start) (pre .0) (pre .1) _
-    (slot-len .ensures) _ (first .given .1) _ (slot-len2 .ensures) _ (second .given .1) _ (slot-len3 .ensures) _ (third .given .1) _ (c .before .ends-above .ensures)
-    (c .if1 .taken)
+    let third = c .before .before .before in
+    let second = third .before .before .before .before in
+    let first = second .before .before .before .before in
+    let s = first .before .before .before .before .before .before in
+    let a = s .args in
+    above-refused (now (a .meta)) (a .meta-list) (now (a .raw)) (a .raw-list) (now (a .unclassified)) (a .unclassified-list) (a .page) (a .start) (s .pre .0) (s .pre .1)
+    _ (first .before .before .slot-len .ensures) _ (first .first .given .1) _ (second .before .before .slot-len2 .ensures) _ (second .second .given .1)
+    _ (third .before .before .slot-len3 .ensures) _ (third .third .given .1) _ (c .before .ends-above .ensures) (c .if1 .taken)
 
 add-large : tie.Need-add-large
-add-large c =
-    let a = c .before .before .before .before .before .before .before .before .before .before .before .before .before .before .before .before .before .args in
-    let pre = c .before .before .before .before .before .before .before .before .before .before .before .before .before .before .before .before .before .pre in
-    let slot-len = c .before .before .before .before .before .before .before .before .before .before .before .before .before .slot-len in
-    let first = c .before .before .before .before .before .before .before .before .before .before .before .first in
-    let slot-len2 = c .before .before .before .before .before .before .before .before .before .slot-len2 in
-    let second = c .before .before .before .before .before .before .before .second in
-    let slot-len3 = c .before .before .before .before .before .slot-len3 in
-    let third = c .before .before .before .third in
-    let q = sum-low (now (a .meta)) (a .meta-list) (now (a .raw)) (a .raw-list) (now (a .unclassified)) (a .unclassified-list) (a .page) (a .start) (pre .0) (pre .1) _
-    (slot-len .ensures) _ (first .given .1) _ (slot-len2 .ensures) _ (second .given .1) _ (slot-len3 .ensures) _ (third .given .1) _ (c .before .ends-above .ensures)
-    (c .if1 .left) in
-    omega arith
+add-large c = omega (arith, low c)
 
 add-t25 : tie.Need-add-t25
-add-t25 c =
-    let a = c .before .before .before .before .before .before .before .before .before .before .before .before .before .before .before .before .before .args in
-    let pre = c .before .before .before .before .before .before .before .before .before .before .before .before .before .before .before .before .before .pre in
-    let slot-len = c .before .before .before .before .before .before .before .before .before .before .before .before .before .slot-len in
-    let first = c .before .before .before .before .before .before .before .before .before .before .before .first in
-    let slot-len2 = c .before .before .before .before .before .before .before .before .before .slot-len2 in
-    let second = c .before .before .before .before .before .before .before .second in
-    let slot-len3 = c .before .before .before .before .before .slot-len3 in
-    let third = c .before .before .before .third in
-    let q = sum-low (now (a .meta)) (a .meta-list) (now (a .raw)) (a .raw-list) (now (a .unclassified)) (a .unclassified-list) (a .page) (a .start) (pre .0) (pre .1) _
-    (slot-len .ensures) _ (first .given .1) _ (slot-len2 .ensures) _ (second .given .1) _ (slot-len3 .ensures) _ (third .given .1) _ (c .before .ends-above .ensures)
-    (c .if1 .left) in
-    omega arith
+add-t25 c = omega (arith, low c)
 
 returns-5 : tie.Need-returns-5
 returns-5 c =
-    let a = c .before .before .before .before .before .before .before .before .before .before .before .before .before .before .before .before .before .args in
-    let pre = c .before .before .before .before .before .before .before .before .before .before .before .before .before .before .before .before .before .pre in
-    let slot-len = c .before .before .before .before .before .before .before .before .before .before .before .before .before .slot-len in
-    let first = c .before .before .before .before .before .before .before .before .before .before .before .first in
-    let slot-len2 = c .before .before .before .before .before .before .before .before .before .slot-len2 in
-    let second = c .before .before .before .before .before .before .before .second in
-    let slot-len3 = c .before .before .before .before .before .slot-len3 in
-    let third = c .before .before .before .third in
-    offsets-are (now (a .meta)) (a .meta-list) (now (a .raw)) (a .raw-list) (now (a .unclassified)) (a .unclassified-list) (a .page) (a .start) (pre .0) (pre .1) _
-    (slot-len .ensures) _ (first .given .1) _ (slot-len2 .ensures) _ (second .given .1) _ (slot-len3 .ensures) _ (third .given .1) _ (c .before .ends-above .ensures)
-    (c .if1 .left)
+    let third = c .before .before .before in
+    let second = third .before .before .before .before in
+    let first = second .before .before .before .before in
+    let s = first .before .before .before .before .before .before in
+    let a = s .args in
+    offsets-are (now (a .meta)) (a .meta-list) (now (a .raw)) (a .raw-list) (now (a .unclassified)) (a .unclassified-list) (a .page) (a .start) (s .pre .0) (s .pre .1)
+    _ (first .before .before .slot-len .ensures) _ (first .first .given .1) _ (second .before .before .slot-len2 .ensures) _ (second .second .given .1)
+    _ (third .before .before .slot-len3 .ensures) _ (third .third .given .1) _ (c .before .ends-above .ensures) (c .if1 .left)
 
 pub plan-offsets-spec : {M : Type 1} → statement M
 plan-offsets-spec =

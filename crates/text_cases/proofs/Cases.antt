@@ -1,0 +1,25 @@
+-- The cases, by computation from the definitions. Assumes nothing.
+use mathlib.Core.Path.{refl}
+use Rattle.decimal.specs.Decimal.{digits, decimal}
+use Rattle.listing.specs.Listing.{slotText, slotsText, listingText, refusedText, slotsOf}
+use Rattle.replay_lines.specs.Words.{isCall, spelledBy, halfDigit}
+use Rattle.text_cases.specs.Cases.{Cases}
+
+pub cases : Cases
+unfolding digits decimal slotText slotsText listingText refusedText slotsOf isCall spelledBy halfDigit
+cases = record {
+  two-bytes = refl;
+  past-the-end = refl;
+  word-of-ten = refl;
+  head-line = refl;
+  line = refl;
+  first-slot = refl;
+  two-slots = refl;
+  refusal-7 = refl;
+  name-and-number = refl;
+  longer-name = refl;
+  spelled-ten = refl;
+  hex-171 = refl;
+  refusal-of-one = refl;
+  refusal-of-two = refl;
+}
