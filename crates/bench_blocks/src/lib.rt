@@ -6,7 +6,7 @@ ghost use Rattle.fsm_blocks.specs.Answers.{sectionsOutcome};
 ghost use Rattle.fsm_blocks.specs.Reading.{persisted};
 ghost use Rattle.fsm_writer.specs.Serializing.{writtenOutcome, writtenFshd, writtenFsse};
 ghost use Rattle.fsm_pages.specs.Split.{splitOutcome, splitInto};
-ghost use Rattle.bench_blocks.specs.Numbers.{orTop, leftOrTop};
+ghost use Rattle.fields.specs.Ranges.{orTop, leftOrTop};
 use fields::address::BaseAddress;
 use fsm_blocks::fsse::SectionsAnswer;
 use fsm_blocks::persisted::read_persisted_sections;

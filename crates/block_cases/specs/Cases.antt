@@ -13,7 +13,7 @@ use Rattle.error.specs.declared.Refusal.the-variants.{Page, NotAList, Overflow,
 use Rattle.error.specs.Outcome.{Outcome, answer, refused, andThen}
 use Rattle.error.specs.Lent.{with}
 use Rattle.fields.specs.Le.{leBytes}
-use Rattle.fields.specs.Ranges.{top}
+use Rattle.fields.specs.Ranges.{top, orTop}
 use Rattle.fsm_sections.specs.Sections.{section}
 use Rattle.fsm_blocks.specs.declared.header.FsmHeader.{FsmHeader}
 use Rattle.fsm_blocks.specs.Fshd.{taken, parsedFshd}
@@ -22,7 +22,7 @@ use Rattle.fsm_blocks.specs.Named.{managerCount}
 use Rattle.fsm_blocks.specs.Reading.{parsedFsse, persisted}
 use Rattle.fsm_lengths.specs.Lengths.{fsseLen}
 use Rattle.fsm_pages.specs.Split.{splitCount, splitInto}
-use Rattle.split_records.specs.Records.{orTop, splitRecords}
+use Rattle.split_records.specs.Records.{splitRecords}
 
 abbrev pub header : ℕ → ℕ → List ℕ
 header total serialized =

@@ -8,13 +8,15 @@
 --   undefinedAt       `is_undefined_addr`: as the Rust, all ones at offset sizes 2, 4 and 8, no address at the other sizes; refusal 1 outside 1 to 8
 --   firstMultiple     the first multiple of a page at or after a number
 --   alignedUp         `align_up`: that multiple; refusal 2 for page 0, refusal 4 above top
+--   orTop             the number that an outcome has, all ones for a refusal or Nothing: what a C interface shows of it; leftOrTop that number and the lent memory
 --   rangeOutcome, undefinedOutcome   the outcome that an answer of the code stands for
 use Prim.Native.Nat.{ℕ, _+_, _-_, _*_, _/_, _^_}
 use mathlib.Core.Bool.{Bool, _&&_, _||_, not}
 use mathlib.Core.List.{[], _∷_}
 use lib.Dec.{ltb, eqb}
 use Rattle.error.specs.declared.Refusal.the-variants.{Width, Page, Overflow, Short}
-use Rattle.error.specs.Outcome.{Outcome, answer, refused, when, firstOf, sat}
+use Rattle.error.specs.Outcome.{Outcome, answer, nothing, refuse, refused, when, firstOf, sat}
+use Rattle.error.specs.Lent.{With, with, Left}
 use Rattle.fields.specs.declared.convert.SliceRange.{SliceRange}
 use Rattle.fields.specs.declared.convert.SliceRange.the-variants as slice
 use Rattle.fields.specs.declared.convert.Undefined.{Undefined}
@@ -59,3 +61,11 @@ firstMultiple a u = (a + (u - 1)) / u * u
 unfoldable pub alignedUp : ℕ → ℕ → Outcome ℕ
 alignedUp value page =
     firstOf (when (eqb page 0) Page ∷ when (ltb top (firstMultiple value page)) Overflow ∷ []) (answer (firstMultiple value page))
+
+abbrev pub orTop : Outcome ℕ → ℕ
+orTop (answer n) = n
+orTop nothing = top
+orTop (refuse n vs) = top
+
+abbrev pub leftOrTop : {M : Type 0} → Left ℕ M → With ℕ M
+leftOrTop d = with (orTop (d .outcome)) (d .memory)

@@ -20,8 +20,8 @@ use Rattle.free_regions.proofs.ShareLaws.{shares-empty}
 use Rattle.free_space.specs.declared.list.FreeList.{FreeList}
 use Rattle.free_space.specs.declared.decide.Decision.the-variants.{Refused, Nothing}
 use Rattle.free_space.specs.Runs.{regionAt, regions, isList}
-use Rattle.free_space.specs.Calls.{Gave, giving, placed, taken, serve, keeping, freedRegions, leftRegions, allocated, allocatedUnits, freed, rangeTaken, trailingTaken}
-use Rattle.free_space.specs.Decisions.{partUnit, ifList, givenBy, keptBy}
+use Rattle.free_space.specs.Calls.{Gave, giving, placed, taken, serve, keeping, freedRegions, leftRegions, allocated, allocatedUnits, freed, rangeTaken, trailingTaken, partUnit}
+use Rattle.free_space.specs.Decisions.{ifList, givenBy, keptBy}
 use Rattle.free_space.proofs.DecodeLaws.{decode-at, length-decode}
 use Rattle.free_space.proofs.ListLaws.{listed}
 use Rattle.free_space.proofs.SpliceLaws.{kept-same}

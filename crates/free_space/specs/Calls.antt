@@ -4,6 +4,7 @@
 --   keptOutcome, givenOutcome   the outcome that an answer of the code stands for
 --   notList       refusal 3: the run and the record are no list
 --   overflows     refusal 4: address plus length exceeds 2^64 - 1
+--   partUnit      refusal 6: a length that is no multiple of its nonzero unit
 --   noRoom        refusal 14: the regions are more than the run's capacity
 --   placed        the outcome of a call that leaves these regions
 --   keeping, giving   the record alone; the record with an address given out
@@ -51,6 +52,9 @@ notList xs l = when (not (isList xs l)) NotAList
 
 abbrev pub overflows : ℕ → ℕ → Condition
 overflows a len = when (ltb top (a + len)) Overflow
+
+abbrev pub partUnit : ℕ → ℕ → Bool
+partUnit len unit = not (eqb unit 0) && not (eqb (len % unit) 0)
 
 abbrev pub noRoom : List ℕ → List FreeRegion → Condition
 noRoom xs rs = when (ltb (capacity xs) (length rs)) (OverCapacity (length rs) (capacity xs))
@@ -104,7 +108,7 @@ allocated xs l len =
 -- from the front of its interior
 unfoldable pub allocatedUnits : List ℕ → FreeList → ℕ → ℕ → Outcome (With Gave (List ℕ))
 allocatedUnits xs l len unit =
-    firstOf (notList xs l ∷ when (not (eqb unit 0) && not (eqb (len % unit) 0)) PartUnit ∷ [])
+    firstOf (notList xs l ∷ when (partUnit len unit) PartUnit ∷ [])
     (cond (eqb len 0) nothing (serve (interiorStart unit) xs l len (best (interiorSpan unit) len 0 (regions xs l))))
 
 -- ---- `take_trailing`

@@ -1,6 +1,5 @@
 -- What a decision stands for: a call decides first, and then carries its decision out. No public contract cites this file. Assumes nothing.
 --   fitted     a change, where the run has room for the regions that it leaves; else refusal 14
---   partUnit   a length that is no multiple of its nonzero unit
 --   ifList     a decision, or refusal 3 where the test for it fails
 --   leave      the outcome of a call that leaves these regions
 --   givenBy    the outcome of a decision, for a call that gives an address out
@@ -8,11 +7,11 @@
 --   Apt        a decision that can be carried out
 --   Gives      a decision with this outcome that can be carried out, for a call that gives an address out
 --   Keeps      the same for one that gives nothing out
-use Prim.Native.Nat.{ℕ, _+_, _-_, _*_, _%_, _≤_}
+use Prim.Native.Nat.{ℕ, _+_, _-_, _*_, _≤_}
 use mathlib.Core.Path.{_≡_}
-use mathlib.Core.Bool.{Bool, cond, _&&_, not}
+use mathlib.Core.Bool.{Bool, cond}
 use mathlib.Core.List.{List}
-use lib.Dec.{ltb, eqb}
+use lib.Dec.{ltb}
 use lib.ListN.{length}
 use Rattle.error.specs.declared.Refusal.the-variants.{NotAList, OverCapacity}
 use Rattle.error.specs.Outcome.{Outcome, answer, nothing, refused}
@@ -31,9 +30,6 @@ abbrev pub fitted : ℕ → ℕ → ℕ → ℕ → ℕ → Patch → Decision
 fitted given n a lo hi p =
     let needed = lo + length (patch p) + (n - hi) in
     cond (ltb given needed) (Refused (OverCapacity needed given)) (Change a lo hi p)
-
-abbrev pub partUnit : ℕ → ℕ → Bool
-partUnit len unit = not (eqb unit 0) && not (eqb (len % unit) 0)
 
 abbrev pub ifList : Bool → Decision → Decision
 ifList isList d = cond isList d (Refused NotAList)

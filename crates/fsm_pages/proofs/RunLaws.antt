@@ -14,7 +14,7 @@ use Rattle.fields.specs.Ranges.{top}
 use Rattle.fsm_sections.specs.Sections.{section, decode}
 use Rattle.fsm_sections.specs.Pages.{end}
 use Rattle.fsm_sections.proofs.SourceLaws.{pairAt, length-decode, decode-at}
-use Rattle.fsm_pages.specs.Split.{isEven, isRun, endsAbove}
+use Rattle.fsm_sections.specs.Runs.{isEven, isRun, endsAbove}
 
 -- ---- a run
 

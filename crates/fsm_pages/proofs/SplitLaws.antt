@@ -19,7 +19,8 @@ use Rattle.fsm_sections.specs.Pages.{pieces, split}
 use Rattle.fsm_sections.proofs.SourceLaws.{pairAt}
 use Rattle.fsm_blocks.specs.Reading.{intoRun}
 use Rattle.fsm_blocks.proofs.PutLaws.{over-flat}
-use Rattle.fsm_pages.specs.Split.{isRun, endsAbove, splitTests, splitCount, splitInto}
+use Rattle.fsm_sections.specs.Runs.{isRun, endsAbove}
+use Rattle.fsm_pages.specs.Split.{splitTests, splitCount, splitInto}
 use Rattle.fsm_pages.proofs.RunLaws.{opens, ended, run-room, above-found, above-turn, above-none, fits-at}
 use Rattle.fsm_pages.proofs.PieceLaws.{behind, pieces-number, behind-none, behind-some}
 

@@ -1,36 +1,22 @@
 -- `split_at_pages` over lent runs of pairs. Assumes nothing.
---   isRun          a run of pairs and a count: even, and no more than its capacity; what refusal 3 tests of runs of sections
---   isEven         a lent output run of pairs
---   endsAbove      some section ends above 2^64 - 1
 --   splitTests     refusals 2, 3, 4
 --   splitCount     those; then how many pieces there are, at most 2^64 - 1
 --   splitInto      refusals 2, 3, 4, then 14 with the exact number of pieces (at most 2^64 - 1); the pieces in input order
 --   splitOutcome   the outcome that an answer of the code stands for
-use Prim.Native.Nat.{ℕ, _/_, _%_}
-use mathlib.Core.Bool.{Bool, false, _&&_, _||_, not}
+use Prim.Native.Nat.{ℕ}
+use mathlib.Core.Bool.{not}
 use mathlib.Core.List.{List, [], _∷_}
-use lib.Dec.{leb, ltb, eqb}
+use lib.Dec.{eqb}
 use lib.ListN.{length}
 use Rattle.error.specs.declared.Refusal.the-variants.{Page, NotAList, Overflow}
 use Rattle.error.specs.Outcome.{Outcome, answer, refused, Condition, when, firstOf, sat}
 use Rattle.error.specs.Lent.{With}
-use Rattle.fields.specs.Ranges.{top}
-use Rattle.fsm_sections.specs.declared.FreeSection.{FreeSection}
 use Rattle.fsm_sections.specs.Sections.{decode}
-use Rattle.fsm_sections.specs.Pages.{end, split}
+use Rattle.fsm_sections.specs.Pages.{split}
+use Rattle.fsm_sections.specs.Runs.{isEven, isRun, endsAbove}
 use Rattle.fsm_blocks.specs.Reading.{intoRun}
 use Rattle.fsm_pages.specs.declared.pages.Split.{Split}
 use Rattle.fsm_pages.specs.declared.pages.Split.the-variants as code
-
-abbrev pub isEven : List ℕ → Bool
-isEven xs = eqb (length xs % 2) 0
-
-abbrev pub isRun : List ℕ → ℕ → Bool
-isRun xs n = isEven xs && leb n (length xs / 2)
-
-abbrev pub endsAbove : List FreeSection → Bool
-endsAbove [] = false
-endsAbove (s ∷ l) = ltb top (end s) || endsAbove l
 
 abbrev pub splitTests : List ℕ → ℕ → ℕ → List Condition
 splitTests xs n page = when (eqb page 0) Page ∷ when (not (isRun xs n)) NotAList ∷ when (endsAbove (decode n xs)) Overflow ∷ []

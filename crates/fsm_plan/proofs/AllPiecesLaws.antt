@@ -26,7 +26,8 @@ use Rattle.fsm_sections.proofs.SizesLaws.{length-chain}
 use Rattle.fsm_sections.proofs.SlotLaws.{from-pieces}
 use Rattle.fsm_sections.proofs.SourceLaws.{pairAt}
 use Rattle.fsm_writer.specs.Serializing.{wide, anyOf, anyWide}
-use Rattle.fsm_pages.specs.Split.{isRun, endsAbove, splitCount}
+use Rattle.fsm_sections.specs.Runs.{isRun, endsAbove}
+use Rattle.fsm_pages.specs.Split.{splitCount}
 use Rattle.fsm_pages.proofs.RunLaws.{opens, ended, fits-at}
 
 -- ---- the number of pieces

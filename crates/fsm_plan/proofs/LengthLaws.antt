@@ -21,13 +21,12 @@ use Rattle.fsm_sections.specs.Sections.{decode, space, All}
 use Rattle.fsm_sections.specs.Pages.{end, slot0, slot2, slot6}
 use Rattle.fsm_writer.specs.declared.slots.Slot.the-variants.{Small, Large}
 use Rattle.fsm_writer.specs.Serializing.{blocksSize}
-use Rattle.fsm_writer.specs.Slots as slots
 use Rattle.fsm_writer.specs.Slots.{runTests, sizeTests, lenOf, slotLen}
 use Rattle.fsm_writer.proofs.RunsLaws.{Tested, tests-show, large-given}
 use Rattle.fsm_plan.specs.declared.plan.Lengths.{Lengths}
 use Rattle.fsm_plan.specs.declared.plan.Measured.{Measured}
 use Rattle.fsm_plan.specs.declared.plan.Measured.the-variants as measured
-use Rattle.fsm_pages.specs.Split.{isRun, endsAbove}
+use Rattle.fsm_sections.specs.Runs.{isRun, endsAbove}
 use Rattle.fsm_plan.specs.Plan.{lengthsAre, lengthsTests, lengthsOf, Ready, lengthsOutcome}
 
 -- ---- the length of one slot
@@ -73,11 +72,11 @@ module _ (xs : List ℕ) (n : ℕ) (ys : List ℕ) (m : ℕ) (zs : List ℕ) (k 
   -- the tests of one run are among those of three
   one-run : NoneHolds tests → NoneHolds (runTests ys m ys m ys m page O)
   one-run h =
-      let r = and-true (slots.isRun xs n) (slots.isRun ys m && slots.isRun zs k) (not-false (slots.isRun xs n && (slots.isRun ys m && slots.isRun zs k)) (h .1 .1 .0)) in
-      let s = and-true (slots.isRun ys m) (slots.isRun zs k) (r .1) in
-      let f = or-false (slots.endsAbove (decode n xs)) (slots.endsAbove (decode m ys) || slots.endsAbove (decode k zs)) (h .1 .1 .1 .0) in
-      let g = or-false (slots.endsAbove (decode m ys)) (slots.endsAbove (decode k zs)) (f .1) in
-      (h .0, (h .1 .0, (three (slots.isRun ys m) (s .0), (late (slots.endsAbove (decode m ys)) (g .0), tt))))
+      let r = and-true (isRun xs n) (isRun ys m && isRun zs k) (not-false (isRun xs n && (isRun ys m && isRun zs k)) (h .1 .1 .0)) in
+      let s = and-true (isRun ys m) (isRun zs k) (r .1) in
+      let f = or-false (endsAbove (decode n xs)) (endsAbove (decode m ys) || endsAbove (decode k zs)) (h .1 .1 .1 .0) in
+      let g = or-false (endsAbove (decode m ys)) (endsAbove (decode k zs)) (f .1) in
+      (h .0, (h .1 .0, (three (isRun ys m) (s .0), (late (endsAbove (decode m ys)) (g .0), tt))))
     where
       three : (t : Bool) → t ≡ true → not (t && (t && t)) ≡ false
       three t e = rw e

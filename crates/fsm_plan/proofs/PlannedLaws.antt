@@ -31,7 +31,7 @@ use Rattle.fsm_writer.specs.Serializing.{ofRun, wide, anyOf, anyWide, blocksSiz
 use Rattle.fsm_writer.specs.Slots.{sizeTests}
 use Rattle.fsm_plan.specs.declared.plan.PagedManagerPlan.{PagedManagerPlan}
 use Rattle.fsm_plan.specs.Managers.{manager, managersOf, managerSize, sizeOf, slotsFrom}
-use Rattle.fsm_pages.specs.Split.{isEven}
+use Rattle.fsm_sections.specs.Runs.{isEven}
 use Rattle.fsm_plan.specs.Order.{turned, byAddr, InOrder, repeats}
 use Rattle.fsm_plan.specs.Plan.{addressIn, endAt, planAt, wideBlock, wideBlocks, lengthsAre, countsAre, planTotal, planBehind, lengthsTests, planned}
 use Rattle.fsm_plan.proofs.OrderLaws.{turned-twice, times-turned}

@@ -44,7 +44,7 @@ use Rattle.fsm_plan.specs.declared.plan.PagedManagerPlan.{PagedManagerPl
 use Rattle.fsm_plan.specs.declared.plan.SectionCounts.{SectionCounts}
 use Rattle.fsm_plan.specs.declared.plan.Planned.{Planned}
 use Rattle.fsm_plan.specs.declared.plan.Planned.the-variants as code
-use Rattle.fsm_pages.specs.Split.{isEven, isRun, endsAbove}
+use Rattle.fsm_sections.specs.Runs.{isEven, isRun, endsAbove}
 use Rattle.fsm_plan.specs.Order.{byAddr, repeats, sourceOf}
 
 abbrev pub addressIn : ℕ → ℕ → ℕ

@@ -7,7 +7,7 @@ ghost use Rattle.error.specs.Outcome.{sat};
 ghost use Rattle.fsm_sections.specs.Sections.{section, decode};
 ghost use Rattle.fsm_sections.specs.Pages.{pieces, split, fromPage};
 ghost use Rattle.fsm_writer.specs.Serializing.{wide, anyWide};
-ghost use Rattle.fsm_pages.specs.Split.{isRun, endsAbove};
+ghost use Rattle.fsm_sections.specs.Runs.{isRun, endsAbove};
 use crate::chains::pages_of;
 use error::Number;
 use fields::number::sum_of;

@@ -10,7 +10,7 @@ ghost use Rattle.fsm_sections.specs.Sections.{decode, flat};
 ghost use Rattle.fsm_sections.specs.Pages.{split, fromPage, slot0, slot2};
 ghost use Rattle.fsm_sections.specs.Sources.{Given};
 ghost use Rattle.fsm_blocks.specs.Fshd.{fshdSize};
-ghost use Rattle.fsm_pages.specs.Split.{isRun, endsAbove};
+ghost use Rattle.fsm_sections.specs.Runs.{isRun, endsAbove};
 ghost use Rattle.fsm_plan.specs.Order.{sourceOf};
 ghost use Rattle.fsm_plan.specs.Plan.{addressIn, endAt, planAt, wideBlock, wideBlocks, Placed, lengthsOf, lengthsOutcome};
 ghost use Rattle.fsm_plan.specs.Plan.{planned, planSections, planCount, wideSections, planFor, Ready, plannedOutcome};

@@ -3,3 +3,4 @@ pub mod Chains
 pub mod Pages
 pub mod Sources
 pub mod Passes
+pub mod Runs

@@ -30,7 +30,8 @@ use Rattle.fsm_sections.specs.Passes.{Numbers}
 use Rattle.fsm_sections.proofs.AllLaws.{all-append, all-map}
 use Rattle.fsm_sections.proofs.SlotLaws.{sections-append, slot0-runs, slot6-runs, same-order}
 use Rattle.fsm_writer.specs.Serializing.{anyOf}
-use Rattle.fsm_writer.specs.Slots.{isRun, endsAbove, runTests}
+use Rattle.fsm_sections.specs.Runs.{isRun, endsAbove}
+use Rattle.fsm_writer.specs.Slots.{runTests}
 
 -- ---- tests of one run
 
@@ -51,8 +52,12 @@ module _ (xs : List ℕ) (n : ℕ) where
   pub run-room : isRun xs n ≡ true → 2 * n ≤ length xs
   run-room e = let p : n ≤ length xs / 2 = leb-true n (length xs / 2) (and-true (eqb (length xs % 2) 0) (leb n (length xs / 2)) e .1) in omega arith
 
-none-above : (rs : List FreeSection) → endsAbove rs ≡ false → All (λ r. end r ≤ top) rs
+pub ends-any : (rs : List FreeSection) → endsAbove rs ≡ anyOf (λ r. ltb top (end r)) rs
 unfolding anyOf
+ends-any [] = refl
+ends-any (r ∷ rs) = ap (λ (t : Bool). ltb top (end r) || t) (ends-any rs)
+
+none-above : (rs : List FreeSection) → endsAbove rs ≡ false → All (λ r. end r ≤ top) rs
 none-above [] e = tt
 none-above (r ∷ rs) e = let p = or-false (ltb top (end r)) (endsAbove rs) e in (ltb-false top (end r) (p .0), none-above rs (p .1))
 

@@ -3,18 +3,16 @@
 --   slotOf           the sections of a slot: Small has the pieces below a page of the first list's regions, Large the whole pages of the first two lists'
 --                    and the third's unsplit
 --   slotBytes        the blocks of sections at an address, at offset size 8 with the starting settings: FSHD, and its FSSE right behind it; none without sections
---   isRun            a run of pairs and a count: even, and no more than its capacity
---   endsAbove        some region ends above top
 --   runTests         refusals 1, 2, 3, and 4 for a region that ends above top
 --   sizeTests        refusal 4: the sizes add up above top, or the blocks' length is above it
 --   lenOf            the length of the blocks of sections, with those refusals
 --   slotLen          `slot_len`: the same for a slot
 --   writtenBlocks    the blocks of sections at the front of the lent bytes: refusals 4, 14
 --   writtenSlot      `write_slot`: the same for a slot
-use Prim.Native.Nat.{ℕ, _+_, _/_, _%_}
-use mathlib.Core.Bool.{Bool, cond, _&&_, _||_, not}
+use Prim.Native.Nat.{ℕ, _+_}
+use mathlib.Core.Bool.{cond, _&&_, _||_, not}
 use mathlib.Core.List.{List, [], _∷_, _++_}
-use lib.Dec.{ltb, leb, eqb}
+use lib.Dec.{ltb, eqb}
 use lib.ListN.{length}
 use Rattle.error.specs.declared.Refusal.the-variants.{Width, Page, NotAList, Overflow, OverCapacity}
 use Rattle.error.specs.Outcome.{Outcome, answer, Condition, when, firstOf}
@@ -24,12 +22,13 @@ use Rattle.fields.specs.Width.{validWidth}
 use Rattle.checksum.specs.Lookup3.{lookup3}
 use Rattle.fsm_sections.specs.declared.FreeSection.{FreeSection}
 use Rattle.fsm_sections.specs.Sections.{decode, space}
-use Rattle.fsm_sections.specs.Pages.{end, slot0, slot6}
+use Rattle.fsm_sections.specs.Pages.{slot0, slot6}
+use Rattle.fsm_sections.specs.Runs.{isRun, endsAbove}
 use Rattle.fsm_blocks.specs.Fshd.{fshdBytes, fshdSize}
 use Rattle.fsm_blocks.specs.Managers.{startingSet, headerFor, fsseFor}
 use Rattle.fsm_writer.specs.declared.slots.Slot.{Slot}
 use Rattle.fsm_writer.specs.declared.slots.Slot.the-variants.{Small, Large}
-use Rattle.fsm_writer.specs.Serializing.{anyOf, blocksSize}
+use Rattle.fsm_writer.specs.Serializing.{blocksSize}
 
 -- ---- sections and their blocks
 
@@ -58,12 +57,6 @@ writtenBlocks address class l out =
     (answer (with (blocksSize 8 l) (over 0 (slotBytes address class l) out)))
 
 -- ---- the entries
-
-abbrev pub isRun : List ℕ → ℕ → Bool
-isRun xs n = eqb (length xs % 2) 0 && leb n (length xs / 2)
-
-abbrev pub endsAbove : List FreeSection → Bool
-endsAbove rs = anyOf (λ r. ltb top (end r)) rs
 
 module _ (xs : List ℕ) (n : ℕ) (ys : List ℕ) (m : ℕ) (zs : List ℕ) (k page O : ℕ) where
   abbrev pub runTests : List Condition

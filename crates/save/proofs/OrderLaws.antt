@@ -21,8 +21,8 @@ use Rattle.save_step.specs.Stores.{messageLen}
 use Rattle.save.specs.declared.tests.Offsets.{Offsets}
 use Rattle.save.specs.declared.tests.Tested.{Tested}
 use Rattle.save.specs.declared.tests.Tested.the-variants as code
-use Rattle.save.specs.Saving.{blockLen, tooLarge, messageIn, blocksOut, conditions}
-use Rattle.save.specs.Beginning.{offsetsOf, anyInTheWay, placeTests, lateTests, testedOutcome}
+use Rattle.save.specs.Saving.{blockLen, tooLarge, messageIn, blocksOut, conditions, anyInTheWay, placeTests, lateTests}
+use Rattle.save.specs.Beginning.{offsetsOf, testedOutcome}
 use Rattle.save.proofs.TieLaws.{total}
 use Rattle.save.proofs.SumLaws.{sums}
 

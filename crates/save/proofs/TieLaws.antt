@@ -31,8 +31,9 @@ use Rattle.fsm_blocks.specs.Fshd.{fshdBytes, fshdSize}
 use Rattle.fsm_blocks.specs.Managers.{startingSet, headerFor, fsseFor, fsseUsed}
 use Rattle.fsm_writer.specs.declared.slots.Slot.{Slot}
 use Rattle.fsm_writer.specs.declared.slots.Slot.the-variants.{Small, Large}
-use Rattle.fsm_writer.specs.Serializing.{anyOf, blocksSize}
-use Rattle.fsm_writer.specs.Slots.{isRun, endsAbove, runTests, sizeTests, slotBytes, lenOf, slotLen}
+use Rattle.fsm_writer.specs.Serializing.{blocksSize}
+use Rattle.fsm_sections.specs.Runs.{isRun, endsAbove}
+use Rattle.fsm_writer.specs.Slots.{runTests, sizeTests, slotBytes, lenOf, slotLen}
 use Rattle.fsm_writer.proofs.MeasureLaws.{size-least, size-none}
 use Rattle.fsm_plan.specs.Managers.{manager, managerSize, managerBytes, sizeOf, slotsFrom, blocksFrom}
 use Rattle.save.specs.Saving.{small, smallRaw, large, blockLen, blockBytes, slotAddrs}
@@ -49,7 +50,6 @@ decode-sections (suc n) (a ∷ []) = refl
 decode-sections (suc n) (a ∷ l ∷ xs) = ap (λ (t : List FreeSection). section a l ∷ t) (decode-sections n xs)
 
 none-late : (rs : List FreeSection) → All (Ends top) rs → endsAbove rs ≡ false
-unfolding anyOf
 none-late [] h = refl
 none-late (r ∷ rs) h = rw (le-ltb top (end r) (h .0)) (none-late rs (h .1))
 
@@ -63,7 +63,7 @@ fine xs l e =
     let n = l .count in
     record {
       run = rw (eq-eqb (length xs % 2) 0 (p .even), le-leb n (length xs / 2) (omega (arith, p .room)));
-      ends = rw (decode-sections n xs) (none-late _ (list-ends 0 top (regionsIn n xs) (ok-prop 0 (regionsIn n xs) .0 (p .ok))));
+      ends = rw (decode-sections n xs) (none-late (map (λ r. section (r .addr) (r .len)) (regionsIn n xs)) (list-ends 0 top (regionsIn n xs) (ok-prop 0 (regionsIn n xs) .0 (p .ok))));
     }
 
 module _ (slot : Slot) (xs : List ℕ) (k : FreeList) (ys : List ℕ) (l : FreeList) (zs : List ℕ) (m : FreeList) (page : ℕ) (some : 0 < page)

@@ -1,8 +1,5 @@
 -- What the contracts of the private functions of a beginning say. No public contract cites this file. Assumes nothing.
 --   offsetsOf     where the blocks of slots 2 and 6 begin and where all end, counted from `start`
---   anyInTheWay   a free region of one of the three lists ends past `start` or meets the message
---   placeTests    refusals 8, 9, 13 and 14, by the length of the blocks
---   lateTests     refusal 5 before them
 --   testedOutcome   the outcome that an answer of the code stands for
 --   slotAt        a slot's address: undefined where its blocks, between two offsets, are none
 --   slotsAt       the twelve slots of the message by the offsets
@@ -12,14 +9,12 @@
 --   ScratchFits   what the tests leave for the writing
 use mathlib.Core.Path.{_≡_}
 use Prim.Native.Nat.{ℕ, _+_, _≤_, _<_}
-use mathlib.Core.Bool.{Bool, true, false, cond, _&&_, _||_, not}
+use mathlib.Core.Bool.{true, false, cond}
 use mathlib.Core.List.{List, [], _∷_}
-use lib.Dec.{ltb, eqb}
-use lib.ListN.{getD}
-use Rattle.error.specs.declared.Refusal.the-variants as refusal
-use Rattle.error.specs.Outcome.{Outcome, answer, refused, Condition, when}
+use lib.Dec.{eqb}
+use Rattle.error.specs.Outcome.{Outcome, answer, refused}
 use Rattle.fields.specs.Ranges.{top}
-use Rattle.free_lists.specs.Lists.{Lists, metadata, raw, unclassified, areLists, sharedByte}
+use Rattle.free_lists.specs.Lists.{Lists, areLists}
 use Rattle.fsm_sections.specs.declared.FreeSection.{FreeSection}
 use Rattle.fsm_sections.specs.Sections.{decode}
 use Rattle.fsm_writer.specs.declared.slots.Slot.{Slot}
@@ -32,7 +27,7 @@ use Rattle.save_step.specs.Stores.{messageLen}
 use Rattle.save.specs.declared.tests.Offsets.{Offsets}
 use Rattle.save.specs.declared.tests.Tested.{Tested}
 use Rattle.save.specs.declared.tests.Tested.the-variants as code
-use Rattle.save.specs.Saving.{small, smallRaw, large, tooLarge, inTheWay, messageIn, blocksOut}
+use Rattle.save.specs.Saving.{small, smallRaw, large, tooLarge}
 
 abbrev pub offsetsOf : ℕ → Lists → Offsets
 offsetsOf page ls =
@@ -41,24 +36,6 @@ offsetsOf page ls =
     record { raw = first; large = second; len = second + blocksSize 8 (large page ls) }
 
 -- ---- the tests
-
-abbrev pub anyInTheWay : ℕ → ℕ → Lists → Bool
-anyInTheWay start place ls = inTheWay start place (ls metadata) || (inTheWay start place (ls raw) || inTheWay start place (ls unclassified))
-
--- of L block bytes; `given` is the length of the scratch
-module _ (ls : Lists) (L start place : ℕ) (image : List ℕ) (given : ℕ) where
-  abbrev pub placeTests : List Condition
-  placeTests =
-      let version = getD image place 0 in
-      let code = getD image (place + 1) 0 in
-      when (messageIn place image && not (eqb version 1)) (refusal.MessageVersion version)
-      ∷ when (messageIn place image && ltb 3 code) (refusal.Strategy code)
-      ∷ when (not (messageIn place image) || (blocksOut L start place image || anyInTheWay start place ls)) refusal.Place
-      ∷ when (ltb given (L + messageLen)) (refusal.OverCapacity (L + messageLen) given)
-      ∷ []
-
-  abbrev pub lateTests : List Condition
-  lateTests = when (sharedByte ls) refusal.SharedAddress ∷ placeTests
 
 abbrev pub testedOutcome : Tested → Outcome Offsets
 testedOutcome (code.Fine o) = answer o

@@ -11,8 +11,9 @@
 --   messageIn      the 125 bytes at the place are in the image
 --   blocksOut      there are blocks, and they leave the image or overlap the message
 --   endsPast       a region ends past an address
---   inTheWay       a free region ends past `start` or meets the message
+--   inTheWay, anyInTheWay   a free region of a list, of three, ends past `start` or meets the message
 --   misplaced      refusal 13: message or blocks leave the image, they overlap each other, or a free region is in the way
+--   placeTests     refusals 8, 9, 13 and 14, by the length of the blocks; lateTests 5 before them
 --   conditions     all refusals of a beginning, in their order
 --   fresh          the record of a save of which no store is made
 --   filled         the scratch with all blocks and then the message, the rest as it was
@@ -96,28 +97,35 @@ messageIn place image = leb (place + messageLen) (length image)
 abbrev pub blocksOut : ℕ → ℕ → ℕ → List ℕ → Bool
 blocksOut L start place image = ltb 0 L && (ltb (length image) (start + L) || meets (region start L) (region place messageLen))
 
-module _ (ls : Lists) (page start place : ℕ) where
-  abbrev pub misplaced : List ℕ → Bool
-  misplaced image =
-      not (messageIn place image)
-      || (blocksOut (blockLen page ls) start place image
-      || (inTheWay start place (ls metadata) || (inTheWay start place (ls raw) || inTheWay start place (ls unclassified))))
+abbrev pub anyInTheWay : ℕ → ℕ → Lists → Bool
+anyInTheWay start place ls = inTheWay start place (ls metadata) || (inTheWay start place (ls raw) || inTheWay start place (ls unclassified))
 
+-- of L block bytes; `given` is the length of the scratch
+module _ (ls : Lists) (L start place : ℕ) (image : List ℕ) (given : ℕ) where
+  abbrev pub misplaced : Bool
+  misplaced = not (messageIn place image) || (blocksOut L start place image || anyInTheWay start place ls)
+
+  abbrev pub placeTests : List Condition
+  placeTests =
+      let version = getD image place 0 in
+      let code = getD image (place + 1) 0 in
+      when (messageIn place image && not (eqb version 1)) (refusal.MessageVersion version)
+      ∷ when (messageIn place image && ltb 3 code) (refusal.Strategy code)
+      ∷ when misplaced refusal.Place
+      ∷ when (ltb given (L + messageLen)) (refusal.OverCapacity (L + messageLen) given)
+      ∷ []
+
+  abbrev pub lateTests : List Condition
+  lateTests = when (sharedByte ls) refusal.SharedAddress ∷ placeTests
+
+module _ (ls : Lists) (page start place : ℕ) where
   -- `given` is the length of the scratch
   abbrev pub conditions : List ℕ → ℕ → List Condition
   conditions image given =
-      let version = getD image place 0 in
-      let code = getD image (place + 1) 0 in
-      let needed = blockLen page ls + messageLen in
       when (eqb page 0) refusal.Page
       ∷ when (not (areLists ls)) refusal.NotAList
       ∷ when (tooLarge page start ls) refusal.Overflow
-      ∷ when (sharedByte ls) refusal.SharedAddress
-      ∷ when (messageIn place image && not (eqb version 1)) (refusal.MessageVersion version)
-      ∷ when (messageIn place image && ltb 3 code) (refusal.Strategy code)
-      ∷ when (misplaced image) refusal.Place
-      ∷ when (ltb given needed) (refusal.OverCapacity needed given)
-      ∷ []
+      ∷ lateTests ls (blockLen page ls) start place image given
 
   abbrev pub fresh : Save
   fresh = record { start = start; place = place; len = blockLen page ls; done = 0 }

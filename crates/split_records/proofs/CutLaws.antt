@@ -14,7 +14,7 @@ use Rattle.fsm_sections.specs.Sections.{section, decode}
 use Rattle.fsm_sections.specs.Pages.{end, pieces, split}
 use Rattle.fsm_sections.proofs.PagesLaws.{pieces-none}
 use Rattle.fsm_sections.proofs.SourceLaws.{pairAt}
-use Rattle.fsm_pages.specs.Split.{endsAbove}
+use Rattle.fsm_sections.specs.Runs.{endsAbove}
 use Rattle.fsm_pages.proofs.PieceLaws.{left, pieceSize, left-more, left-all}
 use Rattle.fsm_pages.proofs.RunLaws.{opens, ended, fits-at}
 use Rattle.split_records.specs.Records.{cutOff, piecesLeft}

@@ -12,7 +12,8 @@ use Rattle.error.specs.Lent.{With, with, over}
 use Rattle.fsm_sections.specs.declared.FreeSection.{FreeSection}
 use Rattle.fsm_sections.specs.Sections.{decode, flat}
 use Rattle.fsm_sections.specs.Pages.{split}
-use Rattle.fsm_pages.specs.Split.{isRun, endsAbove, splitInto}
+use Rattle.fsm_sections.specs.Runs.{isRun, endsAbove}
+use Rattle.fsm_pages.specs.Split.{splitInto}
 use Rattle.split_records.specs.Records.{atFront, splitRecords}
 
 length-flat : (l : List FreeSection) → length (flat l) ≡ 2 * length l

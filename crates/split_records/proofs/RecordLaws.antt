@@ -18,7 +18,8 @@ use Rattle.fsm_sections.specs.Sections.{section, decode}
 use Rattle.fsm_sections.specs.Pages.{split}
 use Rattle.fsm_pages.specs.declared.pages.Split.{Split}
 use Rattle.fsm_pages.specs.declared.pages.Split.the-variants as code
-use Rattle.fsm_pages.specs.Split.{endsAbove, splitTests, splitCount, splitOutcome}
+use Rattle.fsm_sections.specs.Runs.{endsAbove}
+use Rattle.fsm_pages.specs.Split.{splitTests, splitCount, splitOutcome}
 use Rattle.fsm_pages.proofs.RunLaws.{run-room}
 use Rattle.fsm_pages.proofs.SplitLaws.{Splits}
 use Rattle.split_records.specs.Records.{atFront, refusals, splitRecords, splitAnswer, piecesIn, piecesLeft}

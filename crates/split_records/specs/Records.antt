@@ -4,7 +4,6 @@
 --   splitRecords   `split_at_pages`: the pieces in input order at the front of the lent run, or the first refusal
 --   splitAnswer    the same without the run: how many pieces there are, where a run of `room` records holds them
 --   piecesIn       how many pieces an outcome announces; a refusal none
---   orTop          the number that an outcome has, all ones for a refusal; leftOrTop that number and the records
 --   cutOff         sections with the first bytes of the first one cut off
 --   piecesLeft     the pieces that are left where d bytes of section i are cut
 use Prim.Native.Nat.{ℕ, _+_, _-_}
@@ -13,8 +12,7 @@ use lib.Dec.{ltb}
 use lib.ListN.{length, drop}
 use Rattle.error.specs.declared.Refusal.the-variants.{OverCapacity}
 use Rattle.error.specs.Outcome.{Outcome, answer, nothing, refuse, Condition, when, firstOf, sat}
-use Rattle.error.specs.Lent.{With, with, Left}
-use Rattle.fields.specs.Ranges.{top}
+use Rattle.error.specs.Lent.{With, with}
 use Rattle.fsm_sections.specs.declared.FreeSection.{FreeSection}
 use Rattle.fsm_sections.specs.Sections.{section, decode}
 use Rattle.fsm_sections.specs.Pages.{split}
@@ -40,14 +38,6 @@ abbrev pub piecesIn : Outcome ℕ → ℕ
 piecesIn (answer n) = n
 piecesIn nothing = 0
 piecesIn (refuse n vs) = 0
-
-abbrev pub orTop : Outcome ℕ → ℕ
-orTop (answer n) = n
-orTop nothing = top
-orTop (refuse n vs) = top
-
-abbrev pub leftOrTop : Left ℕ (List FreeSection) → With ℕ (List FreeSection)
-leftOrTop d = with (orTop (d .outcome)) (d .memory)
 
 abbrev pub cutOff : ℕ → List FreeSection → List FreeSection
 cutOff d [] = []

@@ -45,7 +45,8 @@ use Rattle.fsm_pages.specs.declared.pages.Split.{Split}
 use Rattle.fsm_pages.specs.Split.{splitOutcome}
 use Rattle.fsm_pages.proofs.pages.Split as S
 use Rattle.fsm_pages.proofs.pages.Split.Laws as S′
-use Rattle.split_records.specs.Records.{splitRecords, orTop, leftOrTop}
+use Rattle.fields.specs.Ranges.{orTop, leftOrTop}
+use Rattle.split_records.specs.Records.{splitRecords}
 use Rattle.split_records.proofs.WalkTypes.{word, sectionsTy, outTy, Arg, lent, LentOwn}
 use Rattle.split_records.proofs.split_at_pages as cut
 use Rattle.split_records.proofs.split_at_pages.Symbol as cut-def

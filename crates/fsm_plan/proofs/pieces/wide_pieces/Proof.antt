@@ -8,7 +8,7 @@ use borrow.Author.Needs.{needs}
 use Rattle.fsm_sections.specs.Sections.{decode}
 use Rattle.fsm_sections.specs.Pages.{split}
 use Rattle.fsm_writer.specs.Serializing.{anyWide}
-use Rattle.fsm_pages.specs.Split.{endsAbove}
+use Rattle.fsm_sections.specs.Runs.{endsAbove}
 use Rattle.fsm_pages.proofs.RunLaws.{fits-at}
 use Rattle.fsm_plan.proofs.AllPiecesLaws.{any-wide-found, any-wide-turn, any-wide-end}
 use Rattle.fsm_plan.proofs.pieces.wide_pieces.Statement.{statement}

@@ -1,20 +1,27 @@
 use borrow.Author.Needs.{needs}
-use mathlib.Core.Path.{_≡_, refl}
+use mathlib.Core.Path.{_≡_, refl, sym, _∙_}
 use Prim.Native.Nat.{_-_, _≤_}
 use native.Mathlib.Omega.{arith}
 use denote.Ref.{now}
 use lib.Dec.{ltb}
+use mathlib.Core.Bool.{Bool}
+use mathlib.Core.List.{List}
 use lib.ListN.{drop}
 use Rattle.fields.specs.Ranges.{top}
 use Rattle.fsm_sections.specs.Sections.{decode}
 use Rattle.fsm_sections.specs.Pages.{end}
-use Rattle.fsm_writer.specs.Slots.{endsAbove}
+use Rattle.fsm_sections.specs.declared.FreeSection.{FreeSection}
+use Rattle.fsm_writer.specs.Serializing.{anyOf}
+use Rattle.fsm_writer.proofs.RunsLaws.{ends-any}
 use Rattle.fsm_writer.proofs.SerializeLaws.{any-found, any-turn, any-none}
 use Rattle.fsm_writer.proofs.slots.any_late.Statement.{statement}
 use Rattle.fsm_writer.proofs.slots.any_late.Tie as tie
 
+abbrev late : List FreeSection → Bool
+late = anyOf (λ r. ltb top (end r))
+
 abbrev Inv-loop : tie.InvT-loop
-Inv-loop run n i₀ i = (i ≤ n) × (endsAbove (drop i (decode n run)) ≡ endsAbove (decode n run))
+Inv-loop run n i₀ i = (i ≤ n) × (late (drop i (decode n run)) ≡ late (decode n run))
 
 abbrev μ-loop : tie.MeasureT-loop
 μ-loop run n i₀ i = n - i
@@ -53,6 +60,7 @@ returns c =
     let loop = c .before .before .before .before .before .loop in
     any-found (λ r. ltb top (end r)) (a .n) (now (a .run)) (s .pre) (loop .i) (c .before .before .before .before .loop-test .taken) _
     (c .before .is-late .ensures) (c .if1 .taken) (loop .inv .1)
+    ∙ sym (ends-any (decode (a .n) (now (a .run))))
 
 add-i : tie.Need-add-i Inv-loop μ-loop
 add-i c = search needs
@@ -75,6 +83,7 @@ returns-2 c =
     let s = c .before .before .before in
     let a = s .args in
     any-none (λ r. ltb top (end r)) (a .n) (c .before .loop .i) (now (a .run)) (s .pre) (omega arith) (c .before .loop .inv .1)
+    ∙ sym (ends-any (decode (a .n) (now (a .run))))
 
 pub any-late-spec : {M : Type 1} → statement M
 any-late-spec =

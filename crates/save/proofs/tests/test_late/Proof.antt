@@ -1,7 +1,7 @@
 use borrow.Author.Needs.{needs}
 use denote.Ref.{now}
 use Rattle.free_lists.specs.Lists.{three}
-use Rattle.save.specs.Beginning.{placeTests}
+use Rattle.save.specs.Saving.{placeTests}
 use Rattle.save.proofs.OrderLaws.{shared-refused, shared-not}
 use Rattle.save.proofs.tests.test_late.Statement.{statement}
 use Rattle.save.proofs.tests.test_late.Tie as tie

@@ -28,7 +28,8 @@ use denote.Triple.Walked.{says}
 use denote.Triple.Clauses.{ensured, lasts}
 use Rattle.fsm_sections.specs.Sections.{decode}
 use Rattle.fsm_pages.specs.declared.pages.Split.{Split}
-use Rattle.fsm_pages.specs.Split.{endsAbove, splitOutcome}
+use Rattle.fsm_sections.specs.Runs.{endsAbove}
+use Rattle.fsm_pages.specs.Split.{splitOutcome}
 use Rattle.fsm_pages.proofs.pages.Split as S
 use Rattle.split_records.specs.declared.Cut.{Cut}
 use Rattle.split_records.proofs.WalkTypes.{lent, LentOwn}
