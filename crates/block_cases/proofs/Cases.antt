@@ -5,6 +5,7 @@ use Rattle.fields.specs.Le.{leBytes, leValue}
 use Rattle.fields.specs.Width.{leastFrom, encSize}
 use Rattle.fsm_sections.specs.Sections.{space, ofSize, distinct, withSize}
 use Rattle.fsm_sections.specs.Pages.{piecesFrom, pieces, split}
+use Rattle.fsm_sections.specs.Nexts.{nextRegion}
 use Rattle.fsm_blocks.specs.Fshd.{parsedFshd}
 use Rattle.fsm_blocks.specs.Groups.{readEntries, readGroups}
 use Rattle.fsm_blocks.specs.Fsse.{parseFsse}
@@ -16,8 +17,14 @@ use Rattle.split_records.specs.Records.{splitRecords}
 use Rattle.block_cases.specs.Cases.{Cases}
 
 pub cases : Cases
-unfolding firstOf andThen sat leBytes leValue leastFrom encSize space ofSize distinct withSize piecesFrom pieces split parsedFshd readEntries readGroups parseFsse managerCount readNamed readManager readSlots joined parsedFsse persisted fsseLen splitCount splitInto splitRecords
+unfolding nextRegion firstOf andThen sat leBytes leValue leastFrom encSize space ofSize distinct withSize piecesFrom pieces split parsedFshd readEntries readGroups parseFsse managerCount readNamed readManager readSlots joined parsedFsse persisted fsseLen splitCount splitInto splitRecords
 cases = record {
+  head-before-the-page = refl;
+  head-is-all = refl;
+  head-of-a-page = refl;
+  next-lowest = refl;
+  next-tie = refl;
+  next-of-none = refl;
   fshd-short = refl;
   fshd-unsigned = refl;
   fshd-total = refl;

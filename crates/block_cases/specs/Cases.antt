@@ -1,5 +1,5 @@
--- Answers of the readers of blocks, of their lengths and of the cuts at pages, at the edges of their contracts, as one table over the
--- definitions that they cite. Blocks are at offset size 1, where they are short. Assumes nothing.
+-- Answers of the passes over regions, of the readers of blocks, of their lengths and of the cuts at pages, at the edges of their
+-- contracts, as one table over the definitions that they cite. Blocks are at offset size 1, where they are short. Assumes nothing.
 --   header    a header of so many sections by its total and its serialized count; addresses of 8 bits, sizes up to 16, the list at 75
 --   list      a section list with these groups
 --   counts    the header's total, of what `FsmHeader::parse` answers
@@ -15,6 +15,8 @@ use Rattle.error.specs.Lent.{with}
 use Rattle.fields.specs.Le.{leBytes}
 use Rattle.fields.specs.Ranges.{top, orTop}
 use Rattle.fsm_sections.specs.Sections.{section}
+use Rattle.fsm_sections.specs.Nexts.{region, nextRegion}
+use Rattle.fsm_sections.specs.Sources.{headSize}
 use Rattle.fsm_blocks.specs.declared.header.FsmHeader.{FsmHeader}
 use Rattle.fsm_blocks.specs.Fshd.{taken, parsedFshd}
 use Rattle.fsm_blocks.specs.Fsse.{widthsOf, parseFsse}
@@ -46,6 +48,13 @@ claimed = record {
 }
 
 pub record Cases : Type 0 where
+  -- `FreeSection::head_size`, `next_region`
+  pub head-before-the-page : headSize 4096 (section 4000 5000) ≡ 96
+  pub head-is-all : headSize 4096 (section 4000 50) ≡ 50
+  pub head-of-a-page : headSize 4096 (section 4096 5000) ≡ 0
+  pub next-lowest : nextRegion (5 ∷ 1 ∷ []) 1 (3 ∷ 2 ∷ []) 1 (4 ∷ 1 ∷ []) 1 0 0 0 ≡ region 1 (section 3 2) 0 1 0
+  pub next-tie : nextRegion (5 ∷ 1 ∷ []) 1 (5 ∷ 2 ∷ []) 1 [] 0 0 0 0 ≡ region 0 (section 5 1) 1 0 0
+  pub next-of-none : nextRegion (5 ∷ 1 ∷ []) 1 [] 0 [] 0 1 0 0 ≡ region 3 (section 0 0) 1 0 0
   -- `FsmHeader::parse`
   pub fshd-short : parsedFshd 8 (replicate 81 0) ≡ refused (Short 82 81)
   pub fshd-unsigned : parsedFshd 1 (replicate 75 0) ≡ refused InvalidManager

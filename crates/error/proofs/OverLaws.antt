@@ -97,7 +97,7 @@ up-turn to j s xs h =
     store-before (to + suc j) (to + j) (getD s j 0) (drop (suc j) s) xs (omega arith)
     ∙ ap (λ (l : List ℕ). over (to + j) l xs) (sym (drop-cons s j 0 h))
 
--- ---- the loops of `clear`, `shift_down` and `shift_up`: before the first store, and a store of what the run itself holds
+-- ---- the loops of `clear`, `move_down` and `move_up`: before the first store, and a store of what the run itself holds
 
 pub fill-start : (from v : ℕ) (xs : List ℕ) → xs ≡ over from (replicate (from - from) v) xs
 fill-start from v xs =

@@ -1,5 +1,5 @@
 -- Laws of tests: a comparison goes one way or the other, and what a test made of several says of each. Assumes nothing.
-use mathlib.Core.Path.{_≡_, refl}
+use mathlib.Core.Path.{_≡_, refl, sym, ap, _∙_}
 use mathlib.Core.Bool.{Bool, true, false, _&&_, _||_}
 use mathlib.Core.Logic.{_⊎_, inl, inr}
 use Prim.Native.Nat.{ℕ, _≤_, _<_}
@@ -29,3 +29,18 @@ and-false false b e h = true-not-false false h refl
 pub or-false : (a b : Bool) → (a || b) ≡ false → (a ≡ false) × (b ≡ false)
 or-false true b e = true-not-false true refl e
 or-false false b e = (refl, e)
+
+-- ---- a test that decides, and one that leaves it to the next
+
+module _ (t a b : Bool) (e : t ≡ a) where
+  pub and-decides : t ≡ false → false ≡ (a && b)
+  and-decides f = sym (ap (λ (x : Bool). x && b) (sym e ∙ f))
+
+  pub and-leaves : t ≡ true → b ≡ (a && b)
+  and-leaves f = sym (ap (λ (x : Bool). x && b) (sym e ∙ f))
+
+  pub or-decides : t ≡ true → true ≡ (a || b)
+  or-decides f = sym (ap (λ (x : Bool). x || b) (sym e ∙ f))
+
+  pub or-leaves : t ≡ false → b ≡ (a || b)
+  or-leaves f = sym (ap (λ (x : Bool). x || b) (sym e ∙ f))

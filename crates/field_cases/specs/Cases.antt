@@ -1,22 +1,32 @@
 -- Answers at the edges of the contracts of `fields`, as one table over the definitions that they cite. Assumes nothing.
 --   Cases   the table
-use Prim.Native.Nat.{_+_, _-_, _^_, min}
+use Prim.Native.Nat.{_+_, _-_, _/_, _%_, _^_, min}
 use mathlib.Core.Bool.{true, false}
 use mathlib.Core.Path.{_≡_}
 use mathlib.Core.List.{[], _∷_, _++_}
 use lib.ListN.{drop, take, replicate}
+use lib.Seq.{slice}
 use Rattle.error.specs.declared.Refusal.the-variants.{Width, Page, Overflow, Short}
 use Rattle.error.specs.Outcome.{answer, refused, sat}
+use Rattle.error.specs.Lent.{over}
 use Rattle.fields.specs.Le.{leBytes, leValue}
 use Rattle.fields.specs.Ranges.{top, enough, sum, range, undefinedAt, alignedUp}
 use Rattle.fields.specs.Width.{validWidth, encSize, fshdLen}
 
 pub record Cases : Type 0 where
-  -- `lesser`, `sum_of`, `is_width`
+  -- `lesser`, `sum_of`
   pub lesser-second : min 5 3 ≡ 3
   pub lesser-first : min 3 5 ≡ 3
   pub sum-small : sat (5 + 3) ≡ 8
   pub sum-greatest : sat (top + 1) ≡ top
+  -- `quotient`, `remainder`, `copy_within`
+  pub quotient-power : 9000 / 4096 ≡ 2
+  pub quotient-0 : 7 / 0 ≡ 0
+  pub remainder-power : 9000 % 4096 ≡ 808
+  pub remainder-0 : 7 % 0 ≡ 7
+  pub copy-up : over 2 (slice 0 3 (1 ∷ 2 ∷ 3 ∷ 4 ∷ 5 ∷ [])) (1 ∷ 2 ∷ 3 ∷ 4 ∷ 5 ∷ []) ≡ 1 ∷ 2 ∷ 1 ∷ 2 ∷ 3 ∷ []
+  pub copy-past : over 4 (slice 3 9 (1 ∷ 2 ∷ 3 ∷ 4 ∷ 5 ∷ [])) (1 ∷ 2 ∷ 3 ∷ 4 ∷ 5 ∷ []) ≡ 1 ∷ 2 ∷ 3 ∷ 4 ∷ 4 ∷ []
+  -- `is_width`
   pub width-9 : validWidth 9 ≡ false
   pub width-0 : validWidth 0 ≡ false
   -- `read_uint_le`, `write_uint_le`

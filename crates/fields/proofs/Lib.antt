@@ -2,3 +2,5 @@ pub mod LeLaws
 pub mod WidthLaws
 pub mod RangeLaws
 pub mod LayoutLaws
+pub mod ShiftLaws
+pub mod CopyLaws

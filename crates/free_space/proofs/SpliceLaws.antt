@@ -2,12 +2,11 @@
 use mathlib.Core.Path.{_≡_, refl, sym, ap, ap₂, _∙_}
 use mathlib.Core.List.{List, [], _∷_, _++_}
 use mathlib.Core.Bool.{Bool, true, false, cond}
-use Prim.Native.Nat.{ℕ, zero, suc, _+_, _-_, _*_, _≤_, _<_}
+use Prim.Native.Nat.{ℕ, _+_, _-_, _*_, _≤_, _<_}
 use native.Mathlib.Omega.{arith}
 use borrow.Author.Tests.{lt-ltb, le-ltb, eq-eqb, ne-eqb}
 use lib.Dec.{ltb}
 use lib.ListN.{length, replicate}
-use lib.Seq.{slice}
 use Rattle.error.specs.declared.Refusal.the-variants.{OverCapacity}
 use Rattle.error.specs.Outcome.{answer, refused}
 use Rattle.error.specs.Lent.{with, over}
@@ -24,13 +23,6 @@ use Rattle.free_space.specs.Splices.{patch}
 use Rattle.free_space.specs.Decisions.{fitted, leave, givenBy, keptBy}
 use Rattle.free_space.proofs.DecodeLaws.{length-flat, flat-decode, length-decode, length-spliced}
 use Rattle.free_space.proofs.ListLaws.{listed}
-
-pub over-same : (i e : ℕ) (xs : List ℕ) → over i (slice i e xs) xs ≡ xs
-over-same i e [] = refl
-over-same zero zero (x ∷ xs) = refl
-over-same zero (suc e) (x ∷ xs) = ap (λ (l : List ℕ). x ∷ l) (over-same zero e xs)
-over-same (suc i) zero (x ∷ xs) = ap (λ (l : List ℕ). x ∷ l) (over-nil i xs)
-over-same (suc i) (suc e) (x ∷ xs) = ap (λ (l : List ℕ). x ∷ l) (over-same i e xs)
 
 -- ---- what is left of a region on either side of a range
 

@@ -11,9 +11,12 @@ ghost use Rattle.error.specs.Outcome.{answer, when, firstOf, sat};
 ghost use Rattle.fsm_sections.specs.Sections.{section, decode, flat};
 ghost use Rattle.fsm_sections.specs.Pages.{pieces, split};
 ghost use Rattle.fsm_sections.specs.Runs.{isRun, endsAbove};
+ghost use Rattle.fsm_pages.specs.Divisors.{Exact};
 ghost use Rattle.fsm_pages.specs.Split.{splitCount, splitInto, splitOutcome};
 use error::Number;
 use error::Refusal;
+use fields::number::quotient;
+use fields::number::remainder;
 use fields::number::sum_of;
 
 // How many pieces a run of sections was cut into.
@@ -32,54 +35,61 @@ fn is_run(run: &[u64], count: usize) -> bool
     count <= run.len() / 2
 }
 
-// By what an address is divided by a page: the bits of the power of two that the page may be, and 2^32 divided by it.
+// By what an address below 2^31 is multiplied to divide it by a page, and how many bits the product then loses. The multiplier is 0 for a
+// page that is a power of two, which divides by a shift, and for one that has no such multiplier.
 struct Divisor {
+    multiplier: u64,
     bits: u32,
-    inverse: u64,
+}
+
+// No multiplier.
+fn plain_divisor() -> Divisor
+    ensures { λ r. ⌜ r .multiplier ≡ 0 ⌝ }
+{
+    Divisor {
+        multiplier: 0,
+        bits: 0,
+    }
 }
 
 fn divisor_of(page: u64) -> Divisor
     requires { ⌜ 0 < page ⌝ }
-    ensures { λ r. ⌜ (r .bits < 64) × (r .inverse ≡ 2 ^ 32 / page) ⌝ }
+    ensures { λ r. ⌜ (0 < r .multiplier → Exact page (r .multiplier) (r .bits)) ⌝ }
 {
-    let zeros = u64::trailing_zeros(page);
-    let bits = if zeros < 64 { zeros } else { 0 };
+    if page & (page - 1) == 0 {
+        return plain_divisor();
+    }
+    let zeros = u64::leading_zeros(page);
+    if zeros < 32 {
+        return plain_divisor();
+    }
+    let bits = 95 - zeros;
+    let power = 1u64 << bits;
+    let multiplier = (power - 1) / page + 1;
+    if power >> 31 < multiplier * page - power {
+        return plain_divisor();
+    }
+    if 8589934592 < multiplier {
+        return plain_divisor();
+    }
     Divisor {
+        multiplier: multiplier,
         bits: bits,
-        inverse: 4294967296 / page,
     }
 }
 
-// How many pages n bytes fill. A page that is a power of two divides by a shift.
-fn pages_in(n: u64, page: u64, by: Divisor) -> u64
-    requires { ⌜ (0 < page) × ((by .bits < 64) × (by .inverse ≡ 2 ^ 32 / page)) ⌝ }
-    ensures { λ r. ⌜ r ≡ n / page ⌝ }
-{
-    let bits = by.bits;
-    if page == 1u64 << bits {
-        return n >> bits;
-    }
-    n / page
-}
-
-// How many bytes there are from an address up to the next page multiple. An address below 2^32 is divided by a multiplication, which
-// gives its page or the one before it.
+// How many bytes there are from an address up to the next page multiple.
 fn room_in(page: u64, by: Divisor, addr: u64) -> u64
-    requires { ⌜ (0 < page) × ((by .bits < 64) × (by .inverse ≡ 2 ^ 32 / page)) ⌝ }
+    requires { ⌜ (0 < page) × (0 < by .multiplier → Exact page (by .multiplier) (by .bits)) ⌝ }
     ensures { λ r. ⌜ r ≡ page - addr % page ⌝ }
 {
-    let bits = by.bits;
-    if page == 1u64 << bits {
-        return page - (addr - ((addr >> bits) << bits));
+    if by.multiplier == 0 {
+        return page - remainder(addr, page);
     }
-    if addr < 4294967296 {
-        let over = addr - ((addr * by.inverse) >> 32) * page;
-        if over < page {
-            return page - over;
-        }
-        return page - (over - page);
+    if 2147483648 <= addr {
+        return page - addr % page;
     }
-    page - addr % page
+    page - (addr - ((addr * by.multiplier) >> by.bits) * page)
 }
 
 // How many pieces all sections have, at most 2^64 - 1: one of each that is not empty, and those behind the first page multiple.
@@ -100,7 +110,7 @@ fn pieces_in(sections: &[u64], count: usize, page: u64) -> Number
         }
         let room = room_in(page, by, addr);
         if room < size {
-            more = sum_of(more, 1 + pages_in(size - room - 1, page, by));
+            more = sum_of(more, 1 + quotient(size - room - 1, page));
         }
         if size != 0 {
             some += 1;
@@ -125,7 +135,7 @@ pub fn split_count(sections: &[u64], count: usize, page: u64) -> Number
 
 // Puts the pieces of a section into the run, and gives the place behind them.
 fn put_pieces(page: u64, by: Divisor, addr: u64, size: u64, out: &mut [u64], from: usize) -> usize
-    requires fits { ⌜ (0 < page) × ((by .bits < 64) × (by .inverse ≡ 2 ^ 32 / page)) × (addr + size < 2 ^ 64) ⌝ }
+    requires fits { ⌜ (0 < page) × (0 < by .multiplier → Exact page (by .multiplier) (by .bits)) × (addr + size < 2 ^ 64) ⌝ }
     requires room { ⌜ from + 2 * length (pieces page (section addr size)) ≤ length (now out) ⌝ }
     ensures put { λ _. ⌜ now (out .exit) ≡ over from (flat (pieces page (section addr size))) (now (out .entry)) ⌝ }
     ensures next { λ r. ⌜ r ≡ from + 2 * length (pieces page (section addr size)) ⌝ }

@@ -15,16 +15,16 @@ use Rattle.error.specs.declared.Refusal.{Refusal}
 use Rattle.error.specs.Outcome.{answer, refused, sat}
 use Rattle.error.specs.Answers.{numberOutcome}
 use Rattle.error.proofs.OutcomeLaws.{first-pass}
+use Rattle.error.proofs.TestLaws.{or-decides, or-leaves}
 use Rattle.fsm_sections.specs.declared.FreeSection.{FreeSection}
 use Rattle.fsm_sections.specs.declared.Chain.{Chain}
 use Rattle.fsm_sections.specs.declared.Part.the-variants.{Pages}
 use Rattle.fsm_sections.specs.Sections.{section, decode}
 use Rattle.fsm_sections.specs.Pages.{pageEnd, cutAt, piecesFrom, pieces, split, belowPage, fromPage, slot0, slot2, slot6}
-use Rattle.fsm_sections.specs.Sources.{partOf}
+use Rattle.fsm_sections.specs.Sources.{partOf, pairAt}
 use Rattle.fsm_sections.proofs.PagesLaws.{page-end-above, pieces-none, pieces-more, below-or-not}
 use Rattle.fsm_sections.proofs.SizesLaws.{length-chain}
-use Rattle.fsm_sections.proofs.SlotLaws.{from-pieces}
-use Rattle.fsm_sections.proofs.SourceLaws.{pairAt}
+use Rattle.fsm_sections.proofs.SlotLaws.{from-append, from-pieces}
 use Rattle.fsm_writer.specs.Serializing.{wide, anyOf, anyWide}
 use Rattle.fsm_sections.specs.Runs.{isRun, endsAbove}
 use Rattle.fsm_pages.specs.Split.{splitCount}
@@ -148,15 +148,16 @@ module _ (o page addr size : ℕ) (p : 0 < page) where
   unfolding pieces anyOf
   wide-none z = sym (ap (anyWide o) (pieces-none size page addr (addr + size) (omega arith)))
 
-  module _ (some : size ≡ 0 → ⊥) where
+  -- the last page multiple within is the q-th
+  module _ (some : size ≡ 0 → ⊥) (q : ℕ) (qe : q ≡ (addr + (size - 1)) / page) where
     abbrev at : ℕ
-    at = (addr + (size - 1)) / page * page
+    at = q * page
 
     last-is : (addr + size - 1) / page * page ≡ at
-    last-is = let e : addr + size - 1 ≡ addr + (size - 1) = omega arith in ap (λ (n : ℕ). n / page * page) e
+    last-is = let e : addr + size - 1 ≡ addr + (size - 1) = omega arith in ap (λ (n : ℕ). n / page * page) e ∙ ap (λ (n : ℕ). n * page) (sym qe)
 
     pub at-fits : at ≤ addr + (size - 1)
-    at-fits = div-mul-le-self (addr + (size - 1)) page
+    at-fits = rw qe (div-mul-le-self (addr + (size - 1)) page)
 
     pub wide-first : at < addr → wide o addr ≡ anyWide o (pieces page (section addr size))
     unfolding pieces
@@ -181,31 +182,21 @@ module _ (page n : ℕ) (xs : List ℕ) (room : 2 * n ≤ length xs) where
   after-none i h = ap (split page) (ended n xs room i h)
 
   module _ (o i : ℕ) (e : anyWide o (after i) ≡ anyWide o (split page (decode n xs))) where
-    pub any-wide-found : i < n → (t : Bool) → t ≡ anyWide o (pieces page (pairAt xs i)) → t ≡ true → true ≡ anyWide o (split page (decode n xs))
-    any-wide-found h t f g =
-        let test : FreeSection → Bool = λ s. wide o (s .addr) in
-        sym (ap (λ (x : Bool). x || anyWide o (after (i + 1))) (sym f ∙ g)) ∙ sym (any-append test (pieces page (pairAt xs i)) (after (i + 1))) ∙ sym (ap (anyWide o) (after-more i h)) ∙ e
+    module _ (h : i < n) (t : Bool) (f : t ≡ anyWide o (pieces page (pairAt xs i))) where
+      open-wide : (anyWide o (pieces page (pairAt xs i)) || anyWide o (after (i + 1))) ≡ anyWide o (split page (decode n xs))
+      open-wide = sym (any-append (λ s. wide o (s .addr)) (pieces page (pairAt xs i)) (after (i + 1))) ∙ sym (ap (anyWide o) (after-more i h)) ∙ e
 
-    pub any-wide-turn : i < n → (t : Bool) → t ≡ anyWide o (pieces page (pairAt xs i)) → t ≡ false → anyWide o (after (i + 1)) ≡ anyWide o (split page (decode n xs))
-    any-wide-turn h t f g =
-        let test : FreeSection → Bool = λ s. wide o (s .addr) in
-        sym (ap (λ (x : Bool). x || anyWide o (after (i + 1))) (sym f ∙ g)) ∙ sym (any-append test (pieces page (pairAt xs i)) (after (i + 1))) ∙ sym (ap (anyWide o) (after-more i h)) ∙ e
+      pub any-wide-found : t ≡ true → true ≡ anyWide o (split page (decode n xs))
+      any-wide-found g = or-decides t _ (anyWide o (after (i + 1))) f g ∙ open-wide
+
+      pub any-wide-turn : t ≡ false → anyWide o (after (i + 1)) ≡ anyWide o (split page (decode n xs))
+      any-wide-turn g = or-leaves t _ (anyWide o (after (i + 1))) f g ∙ open-wide
 
     pub any-wide-end : n ≤ i → false ≡ anyWide o (split page (decode n xs))
     unfolding anyOf
     any-wide-end h = sym (ap (anyWide o) (after-none i h)) ∙ e
 
 -- ---- how many whole pages
-
-from-append : (page : ℕ) (l m : List FreeSection) → fromPage page (l ++ m) ≡ fromPage page l ++ fromPage page m
-unfolding fromPage
-from-append page [] m = refl
-from-append page (x ∷ l) m = pick (ltb (x .size) page) (from-append page l m)
-  where
-    pick : (t : Bool) → fromPage page (l ++ m) ≡ fromPage page l ++ fromPage page m
-        → cond t (fromPage page (l ++ m)) (x ∷ fromPage page (l ++ m)) ≡ cond t (fromPage page l) (x ∷ fromPage page l) ++ fromPage page m
-    pick true e = e
-    pick false e = ap (λ (k : List FreeSection). x ∷ k) e
 
 pub length-parts : (page : ℕ) (l : List FreeSection) → length (belowPage page l) + length (fromPage page l) ≡ length l
 unfolding belowPage fromPage

@@ -12,7 +12,7 @@ use Rattle.error.specs.declared.Refusal.{Refusal}
 use Rattle.error.specs.declared.Refusal.the-variants.{Width, Page, NotAList, Overflow, SharedAddress, WideAddress, OverCapacity}
 use Rattle.error.specs.Outcome.{Outcome, answer, refused, when, firstOf, sat}
 use Rattle.error.specs.Lent.{With, with, left, leaving, over}
-use Rattle.error.proofs.TestLaws.{le-or-lt}
+use Rattle.error.proofs.TestLaws.{le-or-lt, or-decides, or-leaves}
 use Rattle.error.proofs.OutcomeLaws.{first-none, first-holds, first-passes}
 use Rattle.error.proofs.OverLaws.{length-over}
 use Rattle.fields.specs.Ranges.{top}
@@ -26,7 +26,6 @@ use Rattle.fsm_blocks.specs.Fshd.{fshdSize}
 use Rattle.fsm_blocks.proofs.PutLaws.{over-flat}
 use Rattle.fsm_writer.specs.Serializing.{wide, anyWide, blocksSize}
 use Rattle.fsm_writer.proofs.MeasureLaws.{size-least, part-room, part-back}
-use Rattle.fsm_writer.proofs.RunsLaws.{or-decides, or-leaves}
 use Rattle.fsm_plan.specs.declared.chains.Counts.{Counts}
 use Rattle.fsm_plan.specs.declared.plan.Lengths.{Lengths}
 use Rattle.fsm_plan.specs.declared.plan.SectionCounts.{SectionCounts}

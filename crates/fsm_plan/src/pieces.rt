@@ -10,6 +10,7 @@ ghost use Rattle.fsm_writer.specs.Serializing.{wide, anyWide};
 ghost use Rattle.fsm_sections.specs.Runs.{isRun, endsAbove};
 use crate::chains::pages_of;
 use error::Number;
+use fields::number::quotient;
 use fields::number::sum_of;
 use fields::width::enc_size;
 use fsm_pages::pages::split_count;
@@ -60,7 +61,7 @@ fn wide_piece(page: u64, addr: u64, size: u64, o: usize) -> bool
     if size == 0 {
         return false;
     }
-    let last = (addr + (size - 1)) / page * page;
+    let last = quotient(addr + (size - 1), page) * page;
     if last < addr {
         return is_wide(addr, o);
     }

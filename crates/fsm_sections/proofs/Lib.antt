@@ -9,3 +9,4 @@ pub mod PassLaws
 pub mod TakeLaws
 pub mod AddrLaws
 pub mod ChainLaws
+pub mod NextLaws

@@ -19,7 +19,7 @@ use Rattle.fsm_sections.specs.declared.Part.the-variants.{Head, Pages, T
 use Rattle.fsm_sections.proofs.PagesLaws.{pieces-closed}
 
 -- ---- below a page, and not
-below-append : (page : ℕ) (l m : List FreeSection) → belowPage page (l ++ m) ≡ belowPage page l ++ belowPage page m
+pub below-append : (page : ℕ) (l m : List FreeSection) → belowPage page (l ++ m) ≡ belowPage page l ++ belowPage page m
 unfolding belowPage
 below-append page [] m = refl
 below-append page (x ∷ l) m = pick (ltb (x .size) page) (below-append page l m)
@@ -29,7 +29,7 @@ below-append page (x ∷ l) m = pick (ltb (x .size) page) (below-append page l m
     pick true e = ap (λ (k : List FreeSection). x ∷ k) e
     pick false e = e
 
-from-append : (page : ℕ) (l m : List FreeSection) → fromPage page (l ++ m) ≡ fromPage page l ++ fromPage page m
+pub from-append : (page : ℕ) (l m : List FreeSection) → fromPage page (l ++ m) ≡ fromPage page l ++ fromPage page m
 unfolding fromPage
 from-append page [] m = refl
 from-append page (x ∷ l) m = pick (ltb (x .size) page) (from-append page l m)

@@ -1,18 +1,19 @@
 -- A source's chains by their place, and the parts of a region as the code makes them. Assumes nothing.
-use mathlib.Core.Path.{_≡_, refl, sym, ap, _∙_, subst}
-use Prim.Native.Nat.{ℕ, zero, suc, _+_, _-_, _*_, _/_, _%_, _^_, _≤_, _<_}
+use mathlib.Core.Path.{_≡_, refl, sym, ap, ap₂, _∙_, subst}
+use Prim.Native.Nat.{ℕ, zero, suc, _+_, _-_, _*_, _/_, _%_, _^_, min, _≤_, _<_}
 use native.Mathlib.Nat.{le-of-suc-le-suc, not-suc-le-zero, div-mul-le-self}
 use native.Mathlib.Omega.{arith}
 use native.Mathlib.Numerals.{add-one}
 use mathlib.Core.Bool.{Bool, true, false, cond}
 use mathlib.Core.List.{List, [], _∷_, _++_, map, append-assoc}
+use borrow.Author.Tests.{eq-eqb, ne-eqb}
 use lib.Dec.{eqb}
 use lib.ListN.{length, length-map, drop, getD, drop-of-length-le}
 use lib.Seq.{drop-cons}
 use Rattle.fsm_sections.specs.declared.FreeSection.{FreeSection}
 use Rattle.fsm_sections.specs.Sections.{section, decode, bySizeThenAddr, All}
 use Rattle.fsm_sections.specs.Chains.{link, chain, sectionsOf, ChainFits}
-use Rattle.fsm_sections.specs.Sources.{one, headSize, bodySize, partOf, chainsOf, rest, PartFits, Within, Taking, Given}
+use Rattle.fsm_sections.specs.Sources.{one, headSize, bodySize, partOf, chainsOf, rest, PartFits, Within, Taking, Given, pairAt}
 use Rattle.fsm_sections.specs.declared.Chain.{Chain}
 use Rattle.fsm_sections.specs.declared.Part.{Part}
 use Rattle.fsm_sections.specs.declared.Part.the-variants.{Head, Pages, Tail, Whole}
@@ -24,9 +25,6 @@ double : (n : ℕ) → 2 * suc n ≡ suc (suc (2 * n))
 double n = omega arith
 
 -- the i-th pair
-abbrev pub pairAt : List ℕ → ℕ → FreeSection
-pairAt xs i = section (getD xs (2 * i) 0) (getD xs (2 * i + 1) 0)
-
 pub length-decode : (n : ℕ) (xs : List ℕ) → 2 * n ≤ length xs → length (decode n xs) ≡ n
 length-decode zero xs h = refl
 length-decode (suc n) [] h = absurd (omega arith)
@@ -59,6 +57,21 @@ map-at q page (suc n) zero (x ∷ y ∷ xs) d l h = refl
 map-at q page (suc n) (suc i) (x ∷ y ∷ xs) d l h =
     let e : 2 * suc i + 1 ≡ suc (suc (2 * i + 1)) = omega arith in
     rw (e, double) (map-at q page n i xs d (le-of-suc-le-suc l) (omega arith))
+
+-- ---- how much of a region stands before its first page multiple
+pub head-no-page : (page : ℕ) (r : FreeSection) → page ≡ 0 → 0 ≡ headSize page r
+head-no-page page r e = pick (eqb (r .addr % page) 0)
+  where
+    pick : (t : Bool) → 0 ≡ min (r .size) (cond t 0 (page - r .addr % page))
+    pick true = omega arith
+    pick false = omega arith
+
+module _ (page : ℕ) (r : FreeSection) (past : ℕ) (e : past ≡ r .addr % page) where
+  pub head-none : past ≡ 0 → 0 ≡ headSize page r
+  head-none z = rw (eq-eqb (r .addr % page) 0 (sym e ∙ z)) (omega arith)
+
+  pub head-some : (past ≡ 0 → ⊥) → (n : ℕ) → n ≡ min (r .size) (page - past) → n ≡ headSize page r
+  head-some z n q = rw (ne-eqb (r .addr % page) 0 (λ h. z (e ∙ h))) (q ∙ ap (λ (k : ℕ). min (r .size) (page - k)) e)
 
 -- ---- a link fits
 part-fits : (q : Part) (page : ℕ) (r : FreeSection) → PartFits q r → ChainFits (partOf q page r)
@@ -174,13 +187,22 @@ module _ (q : Part) (page a z : ℕ) where
   unfolding partOf
   head-chain h r e i f = f ∙ ap (one a) i ∙ ap (λ (p : Part). partOf p page (section a z)) (sym e)
 
-  pub pages-chain : (h : ℕ) → q ≡ Pages → h ≡ headSize page (section a z) → link (a + h) page ((z - h) / page) ≡ partOf q page (section a z)
+  pub pages-chain : (h n : ℕ) → q ≡ Pages → h ≡ headSize page (section a z) → n ≡ (z - h) / page → link (a + h) page n ≡ partOf q page (section a z)
   unfolding partOf
-  pages-chain h e i = ap (λ (n : ℕ). link (a + n) page ((z - n) / page)) i ∙ ap (λ (p : Part). partOf p page (section a z)) (sym e)
+  pages-chain h n e i f = ap (link (a + h) page) f ∙ ap (λ (k : ℕ). link (a + k) page ((z - k) / page)) i ∙ ap (λ (p : Part). partOf p page (section a z)) (sym e)
 
-  pub tail-chain : (h : ℕ) (r : Chain) → q ≡ Tail → h ≡ headSize page (section a z) → r ≡ one (a + h + (z - h) / page * page) ((z - h) % page) → r ≡ partOf q page (section a z)
+  pub tail-chain : (h n m : ℕ) (r : Chain) → q ≡ Tail → h ≡ headSize page (section a z) → n ≡ (z - h) / page → m ≡ (z - h) % page
+      → r ≡ one (a + h + n * page) m → r ≡ partOf q page (section a z)
   unfolding partOf
-  tail-chain h r e i f = f ∙ ap (λ (n : ℕ). one (a + n + (z - n) / page * page) ((z - n) % page)) i ∙ ap (λ (p : Part). partOf p page (section a z)) (sym e)
+  tail-chain h n m r e i f g k =
+      k
+      ∙ ap₂ (λ (x y : ℕ). one (a + h + x * page) y) f g
+      ∙ ap (λ (x : ℕ). one (a + x + (z - x) / page * page) ((z - x) % page)) i
+      ∙ ap (λ (p : Part). partOf p page (section a z)) (sym e)
+
+  -- the tail begins within the region, or where it ends
+  pub tail-from : (h n : ℕ) → h ≡ headSize page (section a z) → n ≡ (z - h) / page → a + h + n * page ≤ a + z
+  tail-from h n i f = omega (arith, ap (λ (k : ℕ). k * page) f, div-mul-le-self (z - h) page)
 
   pub whole-chain : q ≡ Whole → link a z 1 ≡ partOf q page (section a z)
   unfolding partOf

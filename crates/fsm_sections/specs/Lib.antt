@@ -4,3 +4,4 @@ pub mod Pages
 pub mod Sources
 pub mod Passes
 pub mod Runs
+pub mod Nexts

@@ -2,8 +2,13 @@
 ghost use mathlib.Core.Path.{_≡_};
 ghost use Rattle.error.specs.Answers.{numberOutcome};
 ghost use Rattle.fields.specs.Ranges.{sum};
+ghost use Rattle.fsm_sections.specs.Sources.{headSize};
 use error::Number;
 use error::Refusal;
+use fields::number::lesser;
+use fields::number::remainder;
+
+pub mod next;
 
 // The address first, then the size: a host lends records of it.
 #[repr(C)]
@@ -22,6 +27,20 @@ impl FreeSection {
             return Number::Refused(Refusal::Overflow);
         }
         Number::Is(self.addr + size)
+    }
+
+    // How many of its bytes stand before the first page multiple: none where there is no page.
+    pub fn head_size(self, page: u64) -> u64
+        ensures { λ r. ⌜ r ≡ headSize page self ⌝ }
+    {
+        if page == 0 {
+            return 0;
+        }
+        let over = remainder(self.addr, page);
+        if over == 0 {
+            return 0;
+        }
+        lesser(self.size, page - over)
     }
 }
 

@@ -61,21 +61,6 @@ none-above : (rs : List FreeSection) → endsAbove rs ≡ false → All (λ r. e
 none-above [] e = tt
 none-above (r ∷ rs) e = let p = or-false (ltb top (end r)) (endsAbove rs) e in (ltb-false top (end r) (p .0), none-above rs (p .1))
 
--- ---- a test that decides, and one that leaves it to the next
-
-module _ (t a b : Bool) (e : t ≡ a) where
-  pub and-decides : t ≡ false → false ≡ (a && b)
-  and-decides f = sym (ap (λ (x : Bool). x && b) (sym e ∙ f))
-
-  pub and-leaves : t ≡ true → b ≡ (a && b)
-  and-leaves f = sym (ap (λ (x : Bool). x && b) (sym e ∙ f))
-
-  pub or-decides : t ≡ true → true ≡ (a || b)
-  or-decides f = sym (ap (λ (x : Bool). x || b) (sym e ∙ f))
-
-  pub or-leaves : t ≡ false → b ≡ (a || b)
-  or-leaves f = sym (ap (λ (x : Bool). x || b) (sym e ∙ f))
-
 -- ---- the tests in their order
 
 module _ (xs : List ℕ) (n : ℕ) (ys : List ℕ) (m : ℕ) (zs : List ℕ) (k page O : ℕ) where

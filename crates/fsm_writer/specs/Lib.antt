@@ -1,7 +1,6 @@
 pub mod Batches
 pub mod Counting
 pub mod Measuring
-pub mod Picking
 pub mod Serializing
 pub mod Slots
 pub mod Spans

@@ -1,30 +1,24 @@
 // Passes over the sections that a source gives, with no work memory: sums and counts run by run, the others by the address of the regions.
 ghost use mathlib.Core.Path.{_≡_};
-ghost use Prim.Native.Nat.{_+_, _*_, _<_, _≤_, _^_, min};
+ghost use Prim.Native.Nat.{_+_, _*_, _<_, _≤_, _^_};
 ghost use lib.ListN.{length};
 ghost use Rattle.error.specs.Answers.{numberOutcome};
 ghost use Rattle.fsm_sections.specs.Sections.{section, decode, space, times, ofSize};
 ghost use Rattle.fsm_sections.specs.Chains.{link, chain, sectionsOf, ChainFits};
-ghost use Rattle.fsm_sections.specs.Sources.{pad, one, partOf, chainsIn, chainsOf, chainCount, PartFits, Given, Within, Taking, Chosen, ChosenOfTwo};
+ghost use Rattle.fsm_sections.specs.Sources.{one, partOf, chainsIn, chainsOf, chainCount, PartFits, Given, Within, Taking, partIn};
 ghost use Rattle.fsm_sections.specs.Passes.{leastAddr, spaceOf};
 ghost use Rattle.fsm_writer.specs.Counting.{RunGiven, storable};
-ghost use Rattle.fsm_writer.specs.Picking.{Picked};
 use error::Number;
 use error::Refusal;
+use fields::number::lesser;
+use fields::number::quotient;
+use fields::number::remainder;
 use fsm_sections::Chain;
+use fsm_sections::FreeSection;
 use fsm_sections::Part;
 use fsm_sections::Source;
 use fsm_sections::Taken;
-
-// A region of a source with the part of it that is meant, and how many regions of each run are done when it is taken.
-struct Region {
-    part: Part,
-    addr: u64,
-    size: u64,
-    i: usize,
-    j: usize,
-    k: usize,
-}
+use fsm_sections::next::next_region;
 
 // One section, or none where it would be empty.
 fn one_chain(addr: u64, size: u64) -> Chain
@@ -44,42 +38,30 @@ fn one_chain(addr: u64, size: u64) -> Chain
     }
 }
 
-// How many of `size` bytes from `addr` on stand before the first page multiple.
-fn head_size(page: u64, addr: u64, size: u64) -> u64
-    requires { ⌜ 0 < page ⌝ }
-    ensures { λ r. ⌜ r ≡ min size (pad page addr) ⌝ }
-{
-    let over = addr % page;
-    if over == 0 {
-        return 0;
-    }
-    let pad = page - over;
-    if size < pad {
-        return size;
-    }
-    pad
-}
-
 // A part of a region.
 pub(crate) fn part_chain(part: Part, page: u64, addr: u64, size: u64) -> Chain
     requires { ⌜ (0 < page) × PartFits part (section addr size) ⌝ }
     ensures { λ r. ⌜ r ≡ partOf part page (section addr size) ⌝ }
 {
+    let region = FreeSection {
+        addr: addr,
+        size: size,
+    };
     match part {
-        Part::Head => one_chain(addr, head_size(page, addr, size)),
+        Part::Head => one_chain(addr, region.head_size(page)),
         Part::Pages => {
-            let head = head_size(page, addr, size);
+            let head = region.head_size(page);
             Chain {
                 addr: addr + head,
                 size: page,
-                count: (size - head) / page,
+                count: quotient(size - head, page),
             }
         }
         Part::Tail => {
-            let head = head_size(page, addr, size);
+            let head = region.head_size(page);
             let body = size - head;
-            let pages = body / page;
-            one_chain(addr + head + pages * page, body % page)
+            let pages = quotient(body, page);
+            one_chain(addr + head + pages * page, remainder(body, page))
         }
         Part::Whole => Chain {
             addr: addr,
@@ -89,92 +71,20 @@ pub(crate) fn part_chain(part: Part, page: u64, addr: u64, size: u64) -> Chain
     }
 }
 
-// Which of two runs has the region with the lower address, the first on a tie: 1 or 2, or 0 where both are done.
-fn first_of_two(b: &[u64], c: &[u64], s: Source, j: usize, k: usize) -> u8
-    requires { ⌜ (2 * s .nb ≤ length (now b)) × (2 * s .nc ≤ length (now c)) ⌝ }
-    ensures { λ r. ⌜ ChosenOfTwo s j k r ⌝ }
+// The part that is meant of the regions of a run.
+fn part_in(s: Source, run: u8) -> Part
+    ensures { λ r. ⌜ r ≡ partIn s run ⌝ }
 {
-    if s.nb <= j {
-        if s.nc <= k {
-            return 0;
-        }
-        return 2;
-    }
-    if s.nc <= k {
-        return 1;
-    }
-    if c[2 * k] < b[2 * j] {
-        return 2;
-    }
-    1
-}
-
-// The run with the region of the lowest address, the earlier run on a tie: 0, 1 or 2. Lists by address are gone through by address
-// that way. The sections do not depend on it, only how fast they are written.
-fn first_of(a: &[u64], b: &[u64], c: &[u64], s: Source, i: usize, j: usize, k: usize) -> u8
-    requires rooms { ⌜ (2 * s .na ≤ length (now a)) × (2 * s .nb ≤ length (now b)) × (2 * s .nc ≤ length (now c)) ⌝ }
-    requires left { ⌜ i + (j + k) < chainCount s ⌝ }
-    requires within { ⌜ Within s i j k ⌝ }
-    ensures { λ r. ⌜ Chosen s i j k r ⌝ }
-{
-    let w = first_of_two(b, c, s, j, k);
-    if w == 0 {
-        return 0;
-    }
-    if s.na <= i {
-        return w;
-    }
-    if w == 1 {
-        if b[2 * j] < a[2 * i] {
-            return 1;
-        }
-        return 0;
-    }
-    if c[2 * k] < a[2 * i] {
-        return 2;
-    }
-    0
-}
-
-// The region that comes next, with the part of it that is meant, and how many regions of each run are done when it is taken.
-fn next_region(a: &[u64], b: &[u64], c: &[u64], s: Source, i: usize, j: usize, k: usize) -> Region
-    requires given { ⌜ Given s (now a) (now b) (now c) ⌝ }
-    requires left { ⌜ i + (j + k) < chainCount s ⌝ }
-    requires within { ⌜ Within s i j k ⌝ }
-    ensures { λ r. ⌜ Picked s (now (a .entry)) (now (b .entry)) (now (c .entry)) i j k r ⌝ }
-{
-    let w = first_of(a, b, c, s, i, j, k);
-    if w == 0 {
+    if run == 0 {
         let p = s.pa;
-        return Region {
-            part: p,
-            addr: a[2 * i],
-            size: a[2 * i + 1],
-            i: i + 1,
-            j: j,
-            k: k,
-        };
+        return p;
     }
-    if w == 1 {
+    if run == 1 {
         let p = s.pb;
-        return Region {
-            part: p,
-            addr: b[2 * j],
-            size: b[2 * j + 1],
-            i: i,
-            j: j + 1,
-            k: k,
-        };
+        return p;
     }
     let p = s.pc;
-    Region {
-        part: p,
-        addr: c[2 * k],
-        size: c[2 * k + 1],
-        i: i,
-        j: j,
-        k: k + 1,
-    }
+    p
 }
 
 // A chain of what is left.
@@ -192,8 +102,8 @@ pub(crate) fn next_chain(
     requires within { ⌜ Within s i j k ⌝ }
     ensures { λ t. ⌜ Taking s (now (a .entry)) (now (b .entry)) (now (c .entry)) i j k t ⌝ }
 {
-    let r = next_region(a, b, c, s, i, j, k);
-    let p = r.part;
+    let r = next_region(a, s.na, b, s.nb, c, s.nc, i, j, k);
+    let p = part_in(s, r.run);
     let t = part_chain(p, s.page, r.addr, r.size);
     Taken {
         addr: t.addr,
@@ -276,13 +186,6 @@ pub(crate) fn section_count(a: &[u64], b: &[u64], c: &[u64], s: Source) -> Numbe
         return Number::Refused(Refusal::Overflow);
     };
     count_in(c, s.nc, pc, page, y)
-}
-
-// The lesser of two numbers.
-fn lesser(x: u64, y: u64) -> u64
-    ensures { λ r. ⌜ r ≡ min x y ⌝ }
-{
-    if x <= y { x } else { y }
 }
 
 // The least address at or above `from` of a chain's sections, if they have size z.

@@ -1,1 +1,3 @@
-pub mod CountedLaws
+pub mod FrontLaws
+pub mod SumLaws
+pub mod WordLaws

@@ -1,3 +1,16 @@
 // The protocol: lines in, answers out.
+mod addresses;
+mod blocks;
 mod dispatch;
+mod images;
+mod lengths;
+mod lists;
+mod memory;
+mod message;
+mod plans;
+mod reply;
+mod saves;
 pub mod stream;
+mod sums;
+mod text;
+mod words;

@@ -1,10 +1,12 @@
 // Standard input, line by line, and an answer to each on standard output.
 ghost use mathlib.Core.Path.{_≡_};
-ghost use Prim.Native.Nat.{_<_};
+ghost use Prim.Native.Nat.{_<_, _≤_};
 ghost use lib.ListN.{length};
 use crate::dispatch::answer_line;
+use crate::lists::SCRATCH;
+use crate::reply::Reply;
+use crate::reply::say;
 use libc::STDIN_FILENO;
-use libc::STDOUT_FILENO;
 
 // The bytes of the longest line.
 const LINE_LIMIT: usize = 65536;
@@ -16,98 +18,37 @@ fn line_buffer() -> [u8; LINE_LIMIT + 1]
     [0; LINE_LIMIT + 1]
 }
 
-// The runs of three lists of 4,096 regions.
-fn lists_buffer() -> [u64; 24576]
-    ensures { λ r. ⌜ 24576 ≡ length r ⌝ }
+// Memory for three lists of 4,096 regions, their counts, and the length of a save's scratch.
+fn lists_buffer() -> [u64; 24580]
+    ensures { λ r. ⌜ 24580 ≡ length r ⌝ }
 {
-    [0; 24576]
+    [0; 24580]
 }
 
-// Numbers: a line has no more of them, each behind a space.
-fn numbers_buffer() -> [u64; 32768]
-    ensures { λ r. ⌜ 32768 ≡ length r ⌝ }
-{
-    [0; 32768]
+// What is read: the bytes of the chunk from `at` up to `end` are not taken yet, and `have` bytes of the line are there. The line is
+// whole behind a newline and at the end of the input, and then no more follows.
+struct Input {
+    at: usize,
+    end: usize,
+    have: usize,
+    whole: bool,
+    more: bool,
 }
 
-// How many bytes of scratch a save is lent at first.
-const SCRATCH: usize = 1048576;
-
-// The bytes that a call gives, and the scratch of a save.
-fn work_buffer() -> [u8; SCRATCH]
-    ensures { λ r. ⌜ 1048576 ≡ length r ⌝ }
-{
-    [0; SCRATCH]
-}
-
-// The longest answer: 16,384 sections of two numbers with twenty digits and a space each take less, and so do the digits of the
-// blocks of as many sections, more than a line names.
-fn out_buffer() -> [u8; 1048576]
-    ensures { λ r. ⌜ 1048576 ≡ length r ⌝ }
-{
-    [0; 1048576]
-}
-
-// Answers a line that is longer than the memory for it.
-fn too_long(line: &[u8]) {
-    if line.len() == 0 {
-        return;
-    }
-    if line[0] != b'#' {
-        io::write_all(STDOUT_FILENO, b"bad\n");
+// Reads the next chunk.
+fn refill(chunk: &mut [u8], have: usize) -> Input {
+    let got = io::read_full(STDIN_FILENO, chunk);
+    Input {
+        at: 0,
+        end: got,
+        have: have,
+        whole: got == 0,
+        more: 0 < got,
     }
 }
 
-// Answers a line of `n` bytes.
-fn answer(
-    line: &[u8],
-    n: usize,
-    runs: &mut [u64],
-    counts: &mut [usize],
-    numbers: &mut [u64],
-    bytes: &mut [u8],
-    sections: &mut [u64],
-    work: &mut [u8],
-    out: &mut [u8],
-) {
-    if line.len() <= n {
-        too_long(line);
-        return;
-    }
-    let len = answer_line(
-        &line[0..n],
-        runs,
-        counts,
-        numbers,
-        bytes,
-        sections,
-        work,
-        out,
-    );
-    if out.len() < len {
-        return;
-    }
-    io::write_all(STDOUT_FILENO, &out[0..len]);
-}
-
-// Adds a byte to the line, of which `n` are there; a newline ends it, and it is answered. How many bytes of the line are there
-// then: at most those that the memory has, however long the line is.
-fn feed_byte(
-    byte: u8,
-    line: &mut [u8],
-    n: usize,
-    runs: &mut [u64],
-    counts: &mut [usize],
-    numbers: &mut [u64],
-    bytes: &mut [u8],
-    sections: &mut [u64],
-    work: &mut [u8],
-    out: &mut [u8],
-) -> usize {
-    if byte == b'\n' {
-        answer(line, n, runs, counts, numbers, bytes, sections, work, out);
-        return 0;
-    }
+// Adds a byte to the line, of which `n` are there, unless its memory is full.
+fn add_byte(line: &mut [u8], n: usize, byte: u8) -> usize {
     if line.len() <= n {
         return n;
     }
@@ -115,74 +56,76 @@ fn feed_byte(
     n + 1
 }
 
-// Adds the bytes of a chunk to the line.
-fn feed(
-    chunk: &[u8],
-    line: &mut [u8],
-    n: usize,
-    runs: &mut [u64],
-    counts: &mut [usize],
-    numbers: &mut [u64],
-    bytes: &mut [u8],
-    sections: &mut [u64],
-    work: &mut [u8],
-    out: &mut [u8],
-) -> usize {
-    let mut have = n;
-    let mut i = 0;
+// Takes bytes of a chunk from `at` on, up to the end of a line.
+fn take_line(chunk: &[u8], at: usize, line: &mut [u8], have: usize) -> Input {
+    let mut n = have;
+    let mut i = at;
     while i < chunk.len() {
-        have = feed_byte(
-            chunk[i],
-            line,
-            have,
-            runs,
-            counts,
-            numbers,
-            bytes,
-            sections,
-            work,
-            out,
-        );
+        let byte = chunk[i];
         i += 1;
+        if byte == b'\n' {
+            return Input {
+                at: i,
+                end: chunk.len(),
+                have: n,
+                whole: true,
+                more: true,
+            };
+        }
+        n = add_byte(line, n, byte);
     }
-    have
+    Input {
+        at: i,
+        end: chunk.len(),
+        have: n,
+        whole: false,
+        more: true,
+    }
 }
 
-// How many bytes of the line are there, and whether input may follow.
-struct Fed {
-    have: usize,
-    more: bool,
+// Reads on: the rest of the chunk, or the next one.
+fn read_on(chunk: &mut [u8], line: &mut [u8], input: Input) -> Input {
+    let have = if input.whole { 0 } else { input.have };
+    let end = input.end;
+    if end <= input.at {
+        return refill(chunk, have);
+    }
+    if chunk.len() < end {
+        return refill(chunk, have);
+    }
+    take_line(&chunk[0..end], input.at, line, have)
 }
 
-// Reads once, and answers the lines that end.
-fn feed_some(
-    chunk: &mut [u8],
-    line: &mut [u8],
-    n: usize,
-    runs: &mut [u64],
-    counts: &mut [usize],
-    numbers: &mut [u64],
-    bytes: &mut [u8],
-    sections: &mut [u64],
-    work: &mut [u8],
-    out: &mut [u8],
-) -> Fed {
-    let got = io::read_full(STDIN_FILENO, chunk);
-    Fed {
-        have: feed(
-            &chunk[..got],
-            line,
-            n,
-            runs,
-            counts,
-            numbers,
-            bytes,
-            sections,
-            work,
-            out,
-        ),
-        more: 0 < got,
+// The answer to a line that is longer than the memory for it.
+fn too_long(line: &[u8]) -> Reply {
+    if line.len() == 0 {
+        return Reply::Silent;
     }
+    if line[0] == b'#' {
+        return Reply::Silent;
+    }
+    Reply::Bad
+}
+
+// The answer to a line of `n` bytes.
+fn answer(line: &[u8], n: usize, lists: &mut [u64]) -> Reply
+    requires { ⌜ 24580 ≤ length (now lists) ⌝ }
+{
+    if line.len() <= n {
+        return too_long(line);
+    }
+    answer_line(&line[0..n], lists)
+}
+
+// Reads on, and answers the line if it is whole.
+fn step(chunk: &mut [u8], line: &mut [u8], lists: &mut [u64], input: Input) -> Input
+    requires { ⌜ 24580 ≤ length (now lists) ⌝ }
+{
+    let after = read_on(chunk, line, input);
+    if after.whole {
+        say(answer(line, after.have, lists));
+    }
+    after
 }
 
 // The turns that are left after one, none at the end of the input.
@@ -193,85 +136,36 @@ fn turns_left(turns: u64, more: bool) -> u64
     if more { turns - 1 } else { 0 }
 }
 
-// Reads and answers up to 2^40 chunks of standard input. How many bytes of a last line without a newline are there then.
-fn feed_all(
-    chunk: &mut [u8],
-    line: &mut [u8],
-    runs: &mut [u64],
-    counts: &mut [usize],
-    numbers: &mut [u64],
-    bytes: &mut [u8],
-    sections: &mut [u64],
-    work: &mut [u8],
-    out: &mut [u8],
-) -> usize {
-    let mut have = 0;
+// Reads and answers up to 2^40 lines or chunks.
+fn replay(chunk: &mut [u8], line: &mut [u8], lists: &mut [u64])
+    requires { ⌜ 24580 ≤ length (now lists) ⌝ }
+{
+    let mut input = Input {
+        at: 0,
+        end: 0,
+        have: 0,
+        whole: false,
+        more: true,
+    };
     let mut turns: u64 = 1099511627776;
     while 0 < turns {
-        let fed = feed_some(
-            chunk,
-            line,
-            have,
-            runs,
-            counts,
-            numbers,
-            bytes,
-            sections,
-            work,
-            out,
-        );
-        have = fed.have;
-        turns = turns_left(turns, fed.more);
+        input = step(chunk, line, lists, input);
+        turns = turns_left(turns, input.more);
     }
-    have
 }
 
-// Reads and answers all, a last line without a newline too.
-fn replay(
-    chunk: &mut [u8],
-    line: &mut [u8],
-    runs: &mut [u64],
-    counts: &mut [usize],
-    numbers: &mut [u64],
-    bytes: &mut [u8],
-    sections: &mut [u64],
-    work: &mut [u8],
-    out: &mut [u8],
-) {
-    let n = feed_all(
-        chunk,
-        line,
-        runs,
-        counts,
-        numbers,
-        bytes,
-        sections,
-        work,
-        out,
-    );
-    answer(line, n, runs, counts, numbers, bytes, sections, work, out);
+// A save is lent all its scratch at first.
+fn lend_scratch(lists: &mut [u64])
+    requires { ⌜ 24580 ≤ length (now lists) ⌝ }
+{
+    lists[SCRATCH] = 1048576;
 }
 
 // Answers standard input.
 pub fn run() {
     let mut chunk = io::large_buffer();
     let mut line = line_buffer();
-    let mut runs = lists_buffer();
-    let mut counts = [0, 0, 0, SCRATCH];
-    let mut numbers = numbers_buffer();
-    let mut bytes = io::large_buffer();
-    let mut sections = numbers_buffer();
-    let mut work = work_buffer();
-    let mut out = out_buffer();
-    replay(
-        &mut chunk,
-        &mut line,
-        &mut runs,
-        &mut counts,
-        &mut numbers,
-        &mut bytes,
-        &mut sections,
-        &mut work,
-        &mut out,
-    );
+    let mut lists = lists_buffer();
+    lend_scratch(&mut lists);
+    replay(&mut chunk, &mut line, &mut lists);
 }

@@ -1,7 +1,7 @@
--- Laws of a call's name, how far name and line agree, and of a group's answer. Assumes nothing.
+-- Laws of a call's name: how far name and line agree. Assumes nothing.
 use mathlib.Core.Path.{_≡_, refl, sym, ap, ap₂, _∙_}
-use mathlib.Core.Bool.{Bool, true, false, cond, _&&_}
-use mathlib.Core.List.{List, [], _∷_}
+use mathlib.Core.Bool.{Bool, true, false, _&&_}
+use mathlib.Core.List.{List, []}
 use Prim.Native.Nat.{ℕ, suc, _+_, _≤_, _<_}
 use native.Mathlib.Numerals.{add-one}
 use native.Mathlib.Omega.{arith}
@@ -9,9 +9,6 @@ use borrow.Author.Tests.{eq-eqb, ne-eqb}
 use lib.Dec.{eqb}
 use lib.ListN.{length, drop, getD}
 use lib.Seq.{drop-cons, drop-length}
-use Rattle.error.specs.Lent.{With, with}
-use Rattle.listing.specs.Text.{written}
-use Rattle.replay_lines.specs.Calls.{Named, answering}
 use Rattle.replay_lines.specs.Words.{isCall}
 
 module _ (name line : List ℕ) where
@@ -57,28 +54,3 @@ module _ (name line : List ℕ) where
   pub agree-last : (i : ℕ) → Agreeing i → length name ≤ i → i < length line → eqb (getD line i 0) 32 ≡ isCall name line
   unfolding isCall
   agree-last i a h k = sym (ap₂ isCall (ended name i (a .in-name) h) (drop-cons line i 0 k)) ∙ a .same
-
--- ---- a group's answer: the first call is meant, or a later one, or none is left
-
-module _ (line out : List ℕ) where
-  module _ (c : Named) (calls : List Named) {w : With ℕ (List ℕ)} where
-    pub answers : isCall (c .name) line ≡ true → w ≡ written 0 (c .text) out → w ≡ answering line (c ∷ calls) out
-    unfolding answering
-    answers e f = f ∙ sym (ap (λ (b : Bool). cond b (written 0 (c .text) out) (answering line calls out)) e)
-
-    pub passes : isCall (c .name) line ≡ false → w ≡ answering line calls out → w ≡ answering line (c ∷ calls) out
-    unfolding answering
-    passes e f = f ∙ sym (ap (λ (b : Bool). cond b (written 0 (c .text) out) (answering line calls out)) e)
-
-  pub leaves : with 0 out ≡ answering line [] out
-  unfolding answering
-  leaves = refl
-
--- ---- a line by a test
-
-module _ (test : Bool) (text other out : List ℕ) {w : With ℕ (List ℕ)} where
-  pub on-true : test ≡ true → w ≡ written 0 text out → w ≡ written 0 (cond test text other) out
-  on-true e f = f ∙ sym (ap (λ (b : Bool). written 0 (cond b text other) out) e)
-
-  pub on-false : test ≡ false → w ≡ written 0 other out → w ≡ written 0 (cond test text other) out
-  on-false e f = f ∙ sym (ap (λ (b : Bool). written 0 (cond b text other) out) e)

@@ -1,6 +1,5 @@
 -- The words of calls and answers. Assumes nothing.
 --   isCall        whether the first word of a line is a name: 32 is the space behind it
---   countOf       how many numbers or bytes were read, 0 where the text breaks the protocol
 --   spelledBy     the number that decimal digits spell behind digits that spell v: 48 is the digit 0
 --   halfDigit     the hexadecimal digit of a half byte: 48 is 0, 97 is a
 --   hexByte       the two digits of a byte
@@ -19,18 +18,12 @@ use Rattle.error.specs.declared.Refusal.{Refusal}
 use Rattle.error.specs.Outcome.{Outcome, answer, nothing, refuse}
 use Rattle.error.specs.Refusals.{numberOf, valuesOf}
 use Rattle.listing.specs.Text.{word}
-use Rattle.replay_lines.specs.declared.call.Counted.{Counted}
-use Rattle.replay_lines.specs.declared.call.Counted.the-variants as counted
 
 unfoldable pub isCall : List ℕ → List ℕ → Bool
 isCall [] [] = true
 isCall [] (c ∷ line) = eqb c 32
 isCall (n ∷ name) [] = false
 isCall (n ∷ name) (c ∷ line) = eqb c n && isCall name line
-
-abbrev pub countOf : Counted → ℕ
-countOf (counted.Is n) = n
-countOf counted.Bad = 0
 
 unfoldable pub spelledBy : ℕ → List ℕ → ℕ
 spelledBy v [] = v

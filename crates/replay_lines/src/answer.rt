@@ -1,75 +1,21 @@
-// The words of an answer. Each is followed by a space, and the last space of a line becomes its end. What passes the end of the
-// lent bytes is dropped.
+// The lines of short answers. What passes the end of the lent bytes is dropped.
 ghost use mathlib.Core.Path.{_≡_};
 ghost use mathlib.Core.List.{[], _∷_, _++_};
-ghost use Prim.Native.Nat.{_<_};
 ghost use Rattle.error.specs.Lent.{with};
 ghost use Rattle.error.specs.Answers.{numberOutcome, checkedOutcome};
 ghost use Rattle.listing.specs.Text.{written, word};
-ghost use Rattle.replay_lines.specs.Words.{halfDigit, hexByte, numbersLine, errWord, refusalText, badLine, okLine, noneLine, numberText, checkedText};
+ghost use Rattle.replay_lines.specs.Words.{numbersLine, errWord, refusalText, badLine, okLine, noneLine, numberText, checkedText};
 use error::Checked;
 use error::Number;
 use error::Refusal;
 use listing::text::write_bytes;
 use listing::text::write_word;
 
-// Puts a number.
+// Puts a number and a space.
 pub fn put_number(out: &mut [u8], at: usize, n: u64) -> usize
     ensures { λ r. ⌜ with r (now (out .exit)) ≡ written at (word n 32) (now (out .entry)) ⌝ }
 {
     write_word(out, at, n, b' ')
-}
-
-// Puts the numbers of a run.
-pub fn put_numbers(out: &mut [u8], at: usize, run: &[u64]) -> usize {
-    let mut to = at;
-    let mut i = 0;
-    while i < run.len() {
-        to = write_word(out, to, run[i], b' ');
-        i += 1;
-    }
-    to
-}
-
-// The hexadecimal digit of a half byte.
-fn half_digit(n: u8) -> u8
-    requires { ⌜ n < 16 ⌝ }
-    ensures { λ r. ⌜ r ≡ halfDigit n ⌝ }
-{
-    if n < 10 { b'0' + n } else { b'a' + (n - 10) }
-}
-
-// Puts a byte's two digits.
-fn put_byte(out: &mut [u8], at: usize, byte: u8) -> usize
-    ensures { λ r. ⌜ with r (now (out .exit)) ≡ written at (hexByte byte) (now (out .entry)) ⌝ }
-{
-    write_bytes(out, at, &[half_digit(byte / 16), half_digit(byte % 16)])
-}
-
-// Puts bytes in hexadecimal; `-` stands for none.
-pub fn put_bytes(out: &mut [u8], at: usize, bytes: &[u8]) -> usize {
-    if bytes.len() == 0 {
-        return write_bytes(out, at, b"- ");
-    }
-    let mut to = at;
-    let mut i = 0;
-    while i < bytes.len() {
-        to = put_byte(out, to, bytes[i]);
-        i += 1;
-    }
-    write_bytes(out, to, b" ")
-}
-
-// Ends the line: the space behind its last word becomes a newline.
-pub fn end_line(out: &mut [u8], at: usize) -> usize {
-    if at == 0 {
-        return 0;
-    }
-    if out.len() < at {
-        return out.len();
-    }
-    out[at - 1] = b'\n';
-    at
 }
 
 // Puts two numbers that end a line.
@@ -183,40 +129,4 @@ pub fn pair_line(out: &mut [u8], word: &[u8], first: u64, second: u64) -> usize
 {
     let at = write_bytes(out, 0, word);
     put_two(out, at, first, second)
-}
-
-// Puts a count and as many numbers of a run, or all if it has fewer.
-pub fn put_counted(out: &mut [u8], at: usize, run: &[u64], count: u64) -> usize {
-    let to = put_number(out, at, count);
-    if run.len() as u64 <= count {
-        return put_numbers(out, to, run);
-    }
-    let n = count as usize;
-    put_numbers(out, to, &run[0..n])
-}
-
-// Puts a count and as many pairs of a run, or all if it has fewer.
-pub fn put_pairs(out: &mut [u8], at: usize, run: &[u64], count: u64) -> usize {
-    let to = put_number(out, at, count);
-    if (run.len() / 2) as u64 <= count {
-        return put_numbers(out, to, run);
-    }
-    let n = 2 * count as usize;
-    put_numbers(out, to, &run[0..n])
-}
-
-// The line of a count and as many pairs of a run, behind what stands before `at`.
-pub fn pairs_line(out: &mut [u8], at: usize, run: &[u64], count: u64) -> usize {
-    let to = put_pairs(out, at, run, count);
-    end_line(out, to)
-}
-
-// Puts the first `count` bytes, or all if there are fewer.
-pub fn put_first(out: &mut [u8], at: usize, bytes: &[u8], count: u64) -> usize {
-    let len = bytes.len();
-    if len as u64 <= count {
-        return put_bytes(out, at, bytes);
-    }
-    let n = count as usize;
-    put_bytes(out, at, &bytes[0..n])
 }

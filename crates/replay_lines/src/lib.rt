@@ -1,3 +1,3 @@
-// Lines of the protocol: the words of a call, and the words of an answer.
+// Lines of the protocol: the name of a call, and short answers.
 pub mod answer;
 pub mod call;

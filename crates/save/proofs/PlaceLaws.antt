@@ -10,7 +10,7 @@ use mathlib.Core.List.{List, _∷_}
 use borrow.Author.Tests.{lt-ltb, le-ltb, le-leb, lt-leb, ltb-false}
 use lib.Dec.{ltb, leb}
 use lib.ListN.{length, drop}
-use Rattle.error.proofs.TestLaws.{le-or-lt, and-false, or-false}
+use Rattle.error.proofs.TestLaws.{le-or-lt, and-false, or-false, or-decides, or-leaves}
 use Rattle.free_regions.specs.declared.FreeRegion.{FreeRegion}
 use Rattle.free_regions.specs.Regions.{region, end, meets, shares}
 use Rattle.free_regions.proofs.OkLaws.{Fit}
@@ -18,7 +18,6 @@ use Rattle.free_space.specs.declared.list.FreeList.{FreeList}
 use Rattle.free_space.specs.Runs.{isList, regionAt, decode}
 use Rattle.free_space.proofs.ListLaws.{listed, region-fits}
 use Rattle.free_space.proofs.DecodeLaws.{decode-drop, decode-end}
-use Rattle.fsm_writer.proofs.RunsLaws.{or-decides, or-leaves}
 use Rattle.save.specs.Saving.{endsPast, messageIn, blocksOut}
 
 -- two comparisons that say the same

@@ -5,14 +5,15 @@ use Rattle.fields.specs.Width.{leastFrom, encSize}
 use Rattle.free_space.specs.Runs.{isList}
 use Rattle.fsm_sections.specs.Sections.{space, ofSize, distinct}
 use Rattle.fsm_sections.specs.Pages.{piecesFrom, pieces, split, belowPage, fromPage}
-use Rattle.fsm_writer.specs.Serializing.{anyOf}
 use Rattle.fsm_plan.specs.Managers.{sizeOf}
+use Rattle.save_step.specs.Stores.{saveStores}
+use Rattle.save_step.specs.Steps.{nextStore, stepped, steps}
 use Rattle.save.specs.Saving.{begun}
 use Rattle.end_to_end.specs.Encoding.{whichOf, callOf, onsOf}
 use Rattle.save_cases.specs.Cases.{Cases}
 
 pub cases : Cases
-unfolding firstOf andThen leastFrom encSize isList space ofSize distinct piecesFrom pieces split belowPage fromPage anyOf sizeOf begun whichOf callOf onsOf
+unfolding firstOf andThen leastFrom encSize isList space ofSize distinct piecesFrom pieces split belowPage fromPage sizeOf saveStores nextStore stepped steps begun whichOf callOf onsOf
 cases = record {
   save-begins = refl;
   save-touching = refl;
@@ -33,4 +34,6 @@ cases = record {
   shared-first = refl;
   sum-first = refl;
   two-calls = refl;
+  no-step = refl;
+  one-step = refl;
 }

@@ -13,13 +13,14 @@ use mathlib.Core.List.{List, [], _∷_, _++_, map}
 use lib.ListN.{length, replicate}
 use Rattle.error.specs.declared.Refusal.the-variants.{Page, NotAList, Overflow, SharedAddress, MessageVersion, Strategy, Place, OverCapacity}
 use Rattle.error.specs.Outcome.{Outcome, answer, refused, andThen}
-use Rattle.error.specs.Lent.{With}
+use Rattle.error.specs.Lent.{With, with}
 use Rattle.fields.specs.Ranges.{top}
 use Rattle.free_space.specs.declared.list.FreeList.{FreeList}
 use Rattle.free_lists.specs.Lists.{metadata, raw, three}
 use Rattle.free_lists.specs.History.{alloc, takeRange}
 use Rattle.save_step.specs.declared.Save.{Save}
 use Rattle.save.specs.Saving as saving
+use Rattle.end_to_end.specs.Cuts.{cutAfter}
 use Rattle.end_to_end.specs.Encoding.{onsOf}
 
 abbrev pub none : FreeList
@@ -67,3 +68,8 @@ pub record Cases : Type 0 where
   -- `make_calls`: a range taken from the raw list, then 7 bytes asked of the metadata list
   pub two-calls : onsOf (1 ∷ 3 ∷ 10 ∷ 5 ∷ 0 ∷ 1 ∷ 7 ∷ 0 ∷ 4 ∷ [])
       ≡ record { list = raw; what = takeRange 10 5 } ∷ record { list = metadata; what = alloc 7 } ∷ []
+  -- `step_and_read` and `call_save_read`: no step, and the first
+  pub no-step : cutAfter 0 0 (1 ∷ 1 ∷ 1 ∷ replicate 122 0) [] [] (answer (with (record { start = 0; place = 0; len = 0; done = 0 }) (replicate 125 9))) .image
+      ≡ 1 ∷ 1 ∷ 1 ∷ replicate 122 0
+  pub one-step : cutAfter 1 0 (1 ∷ 1 ∷ 1 ∷ replicate 122 0) [] [] (answer (with (record { start = 0; place = 0; len = 0; done = 0 }) (replicate 125 9))) .image
+      ≡ 1 ∷ 1 ∷ 0 ∷ replicate 122 0

@@ -9,11 +9,11 @@ use lib.Dec.{ltb}
 use lib.ListN.{length, drop}
 use Rattle.error.proofs.TestLaws.{le-or-lt, or-false}
 use Rattle.fields.specs.Ranges.{top}
+use Rattle.fsm_sections.specs.Sources.{pairAt}
 use Rattle.fsm_sections.specs.declared.FreeSection.{FreeSection}
 use Rattle.fsm_sections.specs.Sections.{section, decode}
 use Rattle.fsm_sections.specs.Pages.{end, pieces, split}
 use Rattle.fsm_sections.proofs.PagesLaws.{pieces-none}
-use Rattle.fsm_sections.proofs.SourceLaws.{pairAt}
 use Rattle.fsm_sections.specs.Runs.{endsAbove}
 use Rattle.fsm_pages.proofs.PieceLaws.{left, pieceSize, left-more, left-all}
 use Rattle.fsm_pages.proofs.RunLaws.{opens, ended, fits-at}

@@ -3,14 +3,15 @@
 --   Cases   the table
 use mathlib.Core.Bool.{true, false}
 use mathlib.Core.Path.{_≡_}
-use mathlib.Core.List.{[], _∷_}
-use lib.ListN.{drop, take}
-use Rattle.error.specs.declared.Refusal.the-variants.{MessageVersion, OverCapacity}
+use mathlib.Core.List.{[], _∷_, _++_}
+use lib.ListN.{drop, take, replicate}
+use Rattle.error.specs.declared.Refusal.the-variants.{Page, MessageVersion, OverCapacity}
+use Rattle.error.specs.Outcome.{answer, refused}
 use Rattle.error.specs.Lent.{with}
 use Rattle.fsm_sections.specs.Sections.{section}
 use Rattle.listing.specs.Text.{written, word}
 use Rattle.listing.specs.Listing.{rowText, listingText, refusedText, slotsOf}
-use Rattle.replay_lines.specs.Words.{isCall, spelledBy, hexByte, refusalText}
+use Rattle.replay_lines.specs.Words.{isCall, spelledBy, hexByte, numbersLine, refusalText, badLine, okLine, noneLine, numberText, checkedText}
 
 pub record Cases : Type 0 where
   -- `write_bytes`, `write_word`
@@ -24,10 +25,24 @@ pub record Cases : Type 0 where
   pub two-slots : slotsOf (1 ∷ 1 ∷ []) (7 ∷ 9 ∷ 8 ∷ 5 ∷ []) ≡ (section 7 9 ∷ []) ∷ (section 8 5 ∷ []) ∷ []
   -- `write_refusal`
   pub refusal-7 : refusedText 7 ≡ 114 ∷ 101 ∷ 102 ∷ 117 ∷ 115 ∷ 101 ∷ 100 ∷ 10 ∷ 55 ∷ 10 ∷ []
-  -- the lines of calls and of answers
+  -- the lines of calls: `is_call`
   pub name-and-number : isCall (97 ∷ []) (97 ∷ 32 ∷ 55 ∷ []) ≡ true
+  pub name-alone : isCall (97 ∷ []) (97 ∷ []) ≡ true
   pub longer-name : isCall (97 ∷ []) (97 ∷ 98 ∷ []) ≡ false
   pub spelled-ten : spelledBy 0 (49 ∷ 48 ∷ []) ≡ 10
+  -- the lines of answers: `put_number`, `bad`, `done`, `nothing`, `number_line`, `word_line`, `pair_line`
+  pub second-word : written 1 (word 10 32) (replicate 5 7) ≡ with 4 (7 ∷ 49 ∷ 48 ∷ 32 ∷ 7 ∷ [])
+  pub bad-line : written 0 badLine (replicate 5 7) ≡ with 4 (98 ∷ 97 ∷ 100 ∷ 10 ∷ 7 ∷ [])
+  pub ok-line : written 0 okLine (replicate 4 7) ≡ with 3 (111 ∷ 107 ∷ 10 ∷ 7 ∷ [])
+  pub none-line : written 0 noneLine (replicate 6 7) ≡ with 5 (110 ∷ 111 ∷ 110 ∷ 101 ∷ 10 ∷ 7 ∷ [])
+  pub number-alone : written 0 (word 10 10) (replicate 4 7) ≡ with 3 (49 ∷ 48 ∷ 10 ∷ 7 ∷ [])
+  pub word-and-number : (97 ∷ 32 ∷ []) ++ numbersLine 7 [] ≡ 97 ∷ 32 ∷ 55 ∷ 10 ∷ []
+  pub word-and-two : (97 ∷ 32 ∷ []) ++ numbersLine 7 (8 ∷ []) ≡ 97 ∷ 32 ∷ 55 ∷ 32 ∷ 56 ∷ 10 ∷ []
   pub hex-171 : hexByte 171 ≡ 97 ∷ 98 ∷ []
+  -- `refused`, `number_answer`, `checked_answer`
   pub refusal-of-one : refusalText (MessageVersion 3) ≡ 101 ∷ 114 ∷ 114 ∷ 32 ∷ 56 ∷ 32 ∷ 51 ∷ 10 ∷ []
   pub refusal-of-two : drop 4 (refusalText (OverCapacity 5 4)) ≡ 49 ∷ 52 ∷ 32 ∷ 53 ∷ 32 ∷ 52 ∷ 10 ∷ []
+  pub number-given : numberText (answer 7) ≡ 55 ∷ 10 ∷ []
+  pub number-refused : numberText (refused Page) ≡ 101 ∷ 114 ∷ 114 ∷ 32 ∷ 50 ∷ 10 ∷ []
+  pub test-passed : checkedText (answer tt) ≡ 111 ∷ 107 ∷ 10 ∷ []
+  pub test-refused : checkedText (refused Page) ≡ 101 ∷ 114 ∷ 114 ∷ 32 ∷ 50 ∷ 10 ∷ []

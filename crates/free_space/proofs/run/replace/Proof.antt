@@ -16,20 +16,20 @@ use Rattle.free_space.proofs.run.replace.Tie as tie
 patch-len-requires : tie.Need-patch-len-requires
 patch-len-requires c κs = search needs
 
-mul-shift : tie.Need-mul-shift
-mul-shift c = search needs
+mul-copy-within : tie.Need-mul-copy-within
+mul-copy-within c = search needs
 
-mul-shift-2 : tie.Need-mul-shift-2
-mul-shift-2 c = search needs
+mul-copy-within-2 : tie.Need-mul-copy-within-2
+mul-copy-within-2 c = search needs
 
-add-shift : tie.Need-add-shift
-add-shift c = search needs
+add-copy-within : tie.Need-add-copy-within
+add-copy-within c = search needs
 
-mul-shift-3 : tie.Need-mul-shift-3
-mul-shift-3 c = search needs
+mul-copy-within-3 : tie.Need-mul-copy-within-3
+mul-copy-within-3 c = search needs
 
-shift-requires : tie.Need-shift-requires
-shift-requires c κs = search needs
+copy-within-requires : tie.Need-copy-within-requires
+copy-within-requires c κs = search needs
 
 mul-put-patch : tie.Need-mul-put-patch
 mul-put-patch c = search needs
@@ -66,12 +66,12 @@ returns c =
     let p = patch (a .p) in
     let e-clear = c .before .before .clear .ensures in
     let e-put = c .before .before .before .before .before .before .put-patch .ensures in
-    let e-shift = c .before .before .before .before .before .before .before .before .before .before .shift .ensures in
+    let e-copy = c .before .before .before .before .before .before .before .before .before .before .copy-within .ensures in
     let e-len = c .before .before .before .before .before .before .before .before .before .before .before .before .patch-len .ensures .0 in
     let k = c .before .before .before .before .before .before .before .before .before .before .before .before .patch-len .result in
     e-clear
     ∙ ap (λ (l : List ℕ). over (2 * (a .lo + k + (n - a .hi))) (replicate (2 * n - 2 * (a .lo + k + (n - a .hi))) 0) l)
-    (e-put ∙ ap (λ (l : List ℕ). over (2 * a .lo) (flat p) l) e-shift)
+    (e-put ∙ ap (λ (l : List ℕ). over (2 * a .lo) (flat p) l) e-copy)
     ∙ ap (λ (k : ℕ). over (2 * (a .lo + k + (n - a .hi))) (replicate (2 * n - 2 * (a .lo + k + (n - a .hi))) 0)
     (over (2 * a .lo) (flat p) (over (2 * (a .lo + k)) (slice (2 * a .hi) (2 * n) xs) xs))) e-len
     ∙ replaced xs n (a .lo) (a .hi) p (omega arith) (omega arith) (omega arith)
@@ -81,11 +81,11 @@ replace-spec =
     tie.close
     (tie.spec
     patch-len-requires
-    mul-shift
-    mul-shift-2
-    add-shift
-    mul-shift-3
-    shift-requires
+    mul-copy-within
+    mul-copy-within-2
+    add-copy-within
+    mul-copy-within-3
+    copy-within-requires
     mul-put-patch
     put-patch-requires
     add-clear

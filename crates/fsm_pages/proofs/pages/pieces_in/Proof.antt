@@ -57,21 +57,21 @@ returns c =
 room-in-requires : tie.Need-room-in-requires Inv-loop μ-loop
 room-in-requires c κs = let s = c .before .before .before .before .before .before .before in (s .pre .0, c .before .before .before .before .before .divisor-of .ensures)
 
-sub-pages-in : tie.Need-sub-pages-in Inv-loop μ-loop
-sub-pages-in c = search needs
+sub-quotient : tie.Need-sub-quotient Inv-loop μ-loop
+sub-quotient c = search needs
 
-sub-pages-in-2 : tie.Need-sub-pages-in-2 Inv-loop μ-loop
-sub-pages-in-2 c = search needs
+sub-quotient-2 : tie.Need-sub-quotient-2 Inv-loop μ-loop
+sub-quotient-2 c = search needs
 
-pages-in-requires : tie.Need-pages-in-requires Inv-loop μ-loop
-pages-in-requires c κs = let s = c .before .before .before .before .before .before .before .before .before in (s .pre .0, c .before .before .before .before .before .before .before .divisor-of .ensures)
+quotient-requires : tie.Need-quotient-requires Inv-loop μ-loop
+quotient-requires c κs = search needs
 
 add-sum-of : tie.Need-add-sum-of Inv-loop μ-loop
 add-sum-of c =
     let s = c .before .before .before .before .before .before .before .before .before .before in
     let i = c .before .before .before .before .before .before .before .loop .i in
     let size = getD (now (s .args .sections)) (2 * i + 1) 0 in
-    omega (arith, c .pages-in .ensures, div-le-self (size - c .before .before .room-in .result - 1) (s .args .page), c .before .before .before .before .shared-slice-known3 .given (2 * i + 1))
+    omega (arith, c .quotient .ensures, div-le-self (size - c .before .before .room-in .result - 1) (s .args .page), c .before .before .before .before .shared-slice-known3 .given (2 * i + 1))
 
 sum-of-requires : tie.Need-sum-of-requires Inv-loop μ-loop
 sum-of-requires c κs = search needs
@@ -142,9 +142,9 @@ pieces-in-spec =
     sub-if1
     returns
     room-in-requires
-    sub-pages-in
-    sub-pages-in-2
-    pages-in-requires
+    sub-quotient
+    sub-quotient-2
+    quotient-requires
     add-sum-of
     sum-of-requires
     add-some

@@ -1,6 +1,6 @@
 use mathlib.Core.Path.{_∙_}
 use native.Mathlib.Omega.{arith}
-use Rattle.fsm_writer.proofs.RunsLaws.{or-decides, or-leaves}
+use Rattle.error.proofs.TestLaws.{or-decides, or-leaves}
 use borrow.Author.Needs.{needs}
 use Rattle.fsm_plan.proofs.plan.wide_blocks.Statement.{statement}
 use Rattle.fsm_plan.proofs.plan.wide_blocks.Tie as tie

@@ -2,7 +2,7 @@ use mathlib.Core.Path.{_∙_}
 use denote.Ref.{now}
 use Rattle.fsm_sections.specs.Sections.{decode}
 use Rattle.fsm_writer.specs.Serializing.{wide}
-use Rattle.fsm_writer.proofs.RunsLaws.{or-decides, or-leaves}
+use Rattle.error.proofs.TestLaws.{or-decides, or-leaves}
 use Rattle.fsm_plan.proofs.AllPiecesLaws.{any-slots}
 use borrow.Author.Needs.{needs}
 use Rattle.fsm_plan.proofs.plan.wide_slots.Statement.{statement}

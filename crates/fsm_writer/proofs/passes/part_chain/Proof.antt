@@ -1,7 +1,6 @@
 use native.Mathlib.Omega.{arith}
-use Prim.Native.Nat.{_+_, _-_, _*_, _/_, _<_, _^_}
-use native.Mathlib.Nat.{div-mul-le-self}
-use Rattle.fsm_sections.proofs.SourceLaws.{head-chain, pages-chain, tail-chain, whole-chain, pages-end, tail-end}
+use Prim.Native.Nat.{_+_, _*_, _<_, _^_}
+use Rattle.fsm_sections.proofs.SourceLaws.{head-chain, pages-chain, tail-chain, tail-from, whole-chain, pages-end, tail-end}
 use borrow.Author.Needs.{needs}
 use Rattle.fsm_writer.proofs.passes.part_chain.Statement.{statement}
 use Rattle.fsm_writer.proofs.passes.part_chain.Tie as tie
@@ -21,17 +20,17 @@ enum-told-2 c = search needs
 head-size-requires-2 : tie.Need-head-size-requires-2
 head-size-requires-2 c κs = search needs
 
-add-t11 : tie.Need-add-t11
-add-t11 c =
+add-t12 : tie.Need-add-t12
+add-t12 c =
     let s = c .before .before .before in
     let a = s .args in
     omega (arith, c .head-size2 .ensures, pages-end (a .part) 0 (a .addr) (a .size) (c .before .enum-told2 .given .1) (s .pre .1))
 
-sub-t12 : tie.Need-sub-t12
-sub-t12 c = search needs
+sub-quotient : tie.Need-sub-quotient
+sub-quotient c = search needs
 
-div-t13 : tie.Need-div-t13
-div-t13 c = search needs
+quotient-requires : tie.Need-quotient-requires
+quotient-requires c κs = search needs
 
 enum-told-3 : tie.Need-enum-told-3
 enum-told-3 c = search needs
@@ -42,22 +41,18 @@ head-size-requires-3 c κs = search needs
 sub-body : tie.Need-sub-body
 sub-body c = search needs
 
-div-pages : tie.Need-div-pages
-div-pages c = search needs
+quotient-requires-2 : tie.Need-quotient-requires-2
+quotient-requires-2 c κs = search needs
 
 -- the tail begins at an address that fits
-begins : (c : tie.After-head-size3) →
-    let a = c .before .before .before .args in
-    let h = c .head-size3 .result in
-    a .addr + h + (a .size - h) / a .page * a .page < 2 ^ 64
+begins : (c : tie.After-quotient2) → let a = c .before .before .before .before .args in a .addr + c .before .head-size3 .result + c .quotient2 .result * a .page < 2 ^ 64
 begins c =
-    let s = c .before .before .before in
+    let s = c .before .before .before .before in
     let a = s .args in
     omega (
       arith,
-      c .head-size3 .ensures,
-      tail-end (a .part) 0 (a .addr) (a .size) (c .before .enum-told3 .given .1) (s .pre .1),
-      div-mul-le-self (a .size - c .head-size3 .result) (a .page),
+      tail-from (a .part) (a .page) (a .addr) (a .size) _ _ (c .before .head-size3 .ensures) (c .quotient2 .ensures),
+      tail-end (a .part) 0 (a .addr) (a .size) (c .before .before .enum-told3 .given .1) (s .pre .1),
     )
 
 add-one-chain : tie.Need-add-one-chain
@@ -69,8 +64,8 @@ mul-one-chain c = omega (arith, begins c)
 add-one-chain-2 : tie.Need-add-one-chain-2
 add-one-chain-2 c = omega (arith, begins c)
 
-rem-one-chain : tie.Need-rem-one-chain
-rem-one-chain c = search needs
+remainder-requires : tie.Need-remainder-requires
+remainder-requires c κs = search needs
 
 one-chain-requires-2 : tie.Need-one-chain-requires-2
 one-chain-requires-2 c κs = search needs
@@ -86,17 +81,20 @@ returns c =
 
 returns-2 : tie.Need-returns-2
 returns-2 c =
-    let a = c .before .before .before .args in
-    pages-chain (a .part) (a .page) (a .addr) (a .size) _ (c .before .enum-told2 .given .1) (c .head-size2 .ensures)
+    let a = c .before .before .before .before .args in
+    pages-chain (a .part) (a .page) (a .addr) (a .size) _ _ (c .before .before .enum-told2 .given .1) (c .before .head-size2 .ensures)
+    (c .quotient .ensures)
 
 returns-3 : tie.Need-returns-3
 returns-3 c =
-    let a = c .before .before .before .before .args in
-    tail-chain (a .part) (a .page) (a .addr) (a .size) _ _ (c .before .before .enum-told3 .given .1) (c .before .head-size3 .ensures)
-    (c .one-chain2 .ensures)
+    let c2 = c .before .before in
+    let c4 = c2 .before .before in
+    let a = c4 .before .before .args in
+    tail-chain (a .part) (a .page) (a .addr) (a .size) _ _ _ _ (c4 .enum-told3 .given .1) (c2 .before .head-size3 .ensures) (c2 .quotient2 .ensures)
+    (c .before .remainder .ensures) (c .one-chain2 .ensures)
 
 returns-4 : tie.Need-returns-4
-returns-4 c = whole-chain (c .before .before .args .part) (c .before .before .args .page) (c .before .before .args .addr) (c .before .before .args .size) (c .enum-told4 .given .1)
+returns-4 c = let a = c .before .before .args in whole-chain (a .part) (a .page) (a .addr) (a .size) (c .enum-told4 .given .1)
 
 pub part-chain-spec : {M : Type 1} → statement M
 part-chain-spec =
@@ -107,17 +105,17 @@ part-chain-spec =
     one-chain-requires
     enum-told-2
     head-size-requires-2
-    add-t11
-    sub-t12
-    div-t13
+    add-t12
+    sub-quotient
+    quotient-requires
     enum-told-3
     head-size-requires-3
     sub-body
-    div-pages
+    quotient-requires-2
     add-one-chain
     mul-one-chain
     add-one-chain-2
-    rem-one-chain
+    remainder-requires
     one-chain-requires-2
     enum-told-4
     returns

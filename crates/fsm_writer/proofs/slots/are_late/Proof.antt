@@ -2,7 +2,7 @@ use mathlib.Core.Path.{_∙_}
 use denote.Ref.{now}
 use Rattle.fsm_sections.specs.Sections.{decode}
 use Rattle.fsm_sections.specs.Runs.{endsAbove}
-use Rattle.fsm_writer.proofs.RunsLaws.{or-decides, or-leaves}
+use Rattle.error.proofs.TestLaws.{or-decides, or-leaves}
 use borrow.Author.Needs.{needs}
 use Rattle.fsm_writer.proofs.slots.are_late.Statement.{statement}
 use Rattle.fsm_writer.proofs.slots.are_late.Tie as tie

@@ -2,7 +2,7 @@ use denote.Ref.{now}
 use mathlib.Core.Path.{_∙_}
 use mathlib.Core.Bool.{_||_}
 use Rattle.free_lists.specs.Lists.{lst}
-use Rattle.fsm_writer.proofs.RunsLaws.{or-decides, or-leaves}
+use Rattle.error.proofs.TestLaws.{or-decides, or-leaves}
 use Rattle.save.specs.Saving.{inTheWay}
 use Rattle.save.proofs.SumLaws.{each-list}
 use Rattle.save.proofs.tests.any_in_the_way.Statement.{statement}

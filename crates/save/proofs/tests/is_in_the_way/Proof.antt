@@ -3,7 +3,7 @@ use Prim.Native.Nat.{_+_}
 use lib.Dec.{ltb}
 use borrow.Author.Tests.{lt-ltb, le-ltb}
 use Rattle.free_regions.specs.Regions.{region, meets}
-use Rattle.fsm_writer.proofs.RunsLaws.{or-decides, or-leaves}
+use Rattle.error.proofs.TestLaws.{or-decides, or-leaves}
 use mathlib.Core.Path.{refl, _∙_}
 use Rattle.save.proofs.tests.is_in_the_way.Statement.{statement}
 use Rattle.save.proofs.tests.is_in_the_way.Tie as tie

@@ -1,0 +1,49 @@
+// The call that reads an image.
+use crate::memory::bytes_memory;
+use crate::memory::numbers_memory;
+use crate::reply::Reply;
+use crate::reply::write_out;
+use crate::text::pairs_line;
+use crate::text::put_numbers;
+use image::ImageAnswer;
+use image::read_image;
+use listing::text::write_bytes;
+
+// The sum of the slots' counts, modulo 2^64: no run has as many sections.
+fn total(counts: &[u64]) -> u64 {
+    let mut sum: u64 = 0;
+    let mut i = 0;
+    while i < counts.len() {
+        sum = std::num::wrapping_add_u64(sum, counts[i]);
+        i += 1;
+    }
+    sum
+}
+
+// The line of the slots' counts and of their sections.
+fn counts_line(counts: &[u64], sections: &[u64], out: &mut [u8]) -> usize {
+    let first = write_bytes(out, 0, b"ok ");
+    let run = put_numbers(out, first, counts);
+    pairs_line(out, run, sections, total(counts))
+}
+
+fn say_counts(counts: &[u64], sections: &[u64]) -> Reply {
+    let mut out = bytes_memory();
+    let len = counts_line(counts, sections, &mut out);
+    write_out(&out, len);
+    Reply::Silent
+}
+
+pub(crate) fn image_call(args: &[u64], image: &[u8]) -> Reply {
+    if args.len() != 1 {
+        return Reply::Bad;
+    }
+    let mut sections = numbers_memory();
+    let read = read_image(image, args[0], &mut sections);
+    let answer = read.answer;
+    let counts = read.counts;
+    match answer {
+        ImageAnswer::Read => say_counts(&counts, &sections),
+        ImageAnswer::Refused(r) => Reply::Refused(r),
+    }
+}

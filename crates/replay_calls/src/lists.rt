@@ -1,0 +1,243 @@
+// The calls on the three lists. `lists` has their runs, one after the other, then their counts, and then how many bytes of scratch a
+// save is lent.
+ghost use mathlib.Core.Path.{_≡_};
+ghost use Prim.Native.Nat.{_≤_};
+ghost use lib.ListN.{length};
+ghost use Rattle.error.specs.Lent.{over};
+use crate::reply::Reply;
+use crate::reply::number_reply;
+use crate::reply::say_pairs;
+use crate::words::few_of;
+use crate::words::line_numbers;
+use crate::words::name_in;
+use free_lists::trailing_run_start;
+use free_space::list::FreeList;
+use free_space::list::Given;
+use free_space::list::Kept;
+
+// The numbers that the run of a list has.
+const RUN: usize = 8192;
+
+// The place of the first list's count.
+pub(crate) const COUNTS: usize = 24576;
+
+// The place of the length of a save's scratch.
+pub(crate) const SCRATCH: usize = 24579;
+
+// An answer, and the list's count after the call.
+struct Answered {
+    reply: Reply,
+    count: usize,
+}
+
+fn kept(k: Kept, list: FreeList) -> Answered {
+    match k {
+        Kept::Done(after) => Answered {
+            reply: Reply::Done,
+            count: after.count,
+        },
+        Kept::Refused(r) => Answered {
+            reply: Reply::Refused(r),
+            count: list.count,
+        },
+    }
+}
+
+fn given(g: Given, list: FreeList) -> Answered {
+    match g {
+        Given::At { addr, list: after } => Answered {
+            reply: Reply::Some(addr),
+            count: after.count,
+        },
+        Given::Nothing => Answered {
+            reply: Reply::Nothing,
+            count: list.count,
+        },
+        Given::Refused(r) => Answered {
+            reply: Reply::Refused(r),
+            count: list.count,
+        },
+    }
+}
+
+fn is_empty_call(list: FreeList) -> Reply {
+    if list.is_empty() {
+        return Reply::Is(1);
+    }
+    Reply::Is(0)
+}
+
+// The calls that ask of one list.
+fn question(call: u64, run: &[u64], list: FreeList, first: u64) -> Reply {
+    match call {
+        6 => number_reply(list.largest_whole_units(run, first)),
+        7 => number_reply(list.largest(run)),
+        8 => is_empty_call(list),
+        _ => say_pairs(b"", run, list.count as u64),
+    }
+}
+
+// The calls on one list, by their places among the names of `lists_name`.
+fn one_list(call: u64, run: &mut [u64], list: FreeList, first: u64, second: u64) -> Answered {
+    match call {
+        1 => kept(list.free(run, first, second), list),
+        2 => kept(list.take_range(run, first, second), list),
+        3 => given(list.alloc_whole_units(run, first, second), list),
+        4 => given(list.alloc(run, first), list),
+        5 => given(list.take_trailing(run, first), list),
+        9 => kept(Kept::Done(FreeList::new()), list),
+        _ => Answered {
+            reply: question(call, run, list, first),
+            count: list.count,
+        },
+    }
+}
+
+// How many numbers such a call has, with that of the list.
+fn numbers_of(call: u64) -> usize {
+    match call {
+        1 | 2 | 3 => 3,
+        4 | 5 | 6 => 2,
+        _ => 1,
+    }
+}
+
+// Answers a call on one list: the first number says on which of them.
+fn list_call(call: u64, line: &[u8], lists: &mut [u64]) -> Reply
+    requires { ⌜ 24580 ≤ length (now lists) ⌝ }
+{
+    let few = few_of(line);
+    if few.count != numbers_of(call) {
+        return Reply::Bad;
+    }
+    let k = few.first;
+    if 2 < k {
+        return Reply::Bad;
+    }
+    let i = k as usize;
+    let list = FreeList {
+        count: lists[COUNTS + i] as usize,
+    };
+    let from = i * RUN;
+    let end = from + RUN;
+    let answered = one_list(call, &mut lists[from..end], list, few.second, few.third);
+    lists[COUNTS + i] = answered.count as u64;
+    answered.reply
+}
+
+// Puts numbers at the front of a run, as far as it reaches.
+fn put_front(run: &mut [u64], numbers: &[u64])
+    ensures { λ _. ⌜ now (run .exit) ≡ over 0 (now (numbers .entry)) (now (run .entry)) ⌝ }
+{
+    let mut i = 0;
+    while i < numbers.len() {
+        if run.len() <= i {
+            return;
+        }
+        run[i] = numbers[i];
+        i += 1;
+    }
+}
+
+// The numbers of a call that lends a whole run.
+fn lent_buffer() -> [u64; RUN + 3]
+    ensures { λ r. ⌜ 8195 ≡ length r ⌝ }
+{
+    [0; RUN + 3]
+}
+
+// Puts any numbers into a list's run, and any count beside it: they need not be a list.
+fn lend(args: &[u64], lists: &mut [u64]) -> Reply
+    requires { ⌜ 24580 ≤ length (now lists) ⌝ }
+{
+    if args.len() < 3 {
+        return Reply::Bad;
+    }
+    let k = args[0];
+    if 2 < k {
+        return Reply::Bad;
+    }
+    if args[2] != (args.len() - 3) as u64 {
+        return Reply::Bad;
+    }
+    let i = k as usize;
+    let from = i * RUN;
+    let end = from + RUN;
+    put_front(&mut lists[from..end], &args[3..]);
+    lists[COUNTS + i] = args[1];
+    Reply::Done
+}
+
+fn lend_call(line: &[u8], lists: &mut [u64]) -> Reply
+    requires { ⌜ 24580 ≤ length (now lists) ⌝ }
+{
+    let mut numbers = lent_buffer();
+    let read = line_numbers(line, &mut numbers);
+    if !read.fine {
+        return Reply::Bad;
+    }
+    let n = read.count;
+    lend(&numbers[0..n], lists)
+}
+
+fn trailing_run_start_call(line: &[u8], lists: &[u64]) -> Reply
+    requires { ⌜ 24580 ≤ length (now lists) ⌝ }
+{
+    let few = few_of(line);
+    if few.count != 1 {
+        return Reply::Bad;
+    }
+    let meta = FreeList {
+        count: lists[COUNTS] as usize,
+    };
+    let raw = FreeList {
+        count: lists[COUNTS + 1] as usize,
+    };
+    let unclassified = FreeList {
+        count: lists[COUNTS + 2] as usize,
+    };
+    let n = trailing_run_start(
+        &lists[0..8192],
+        meta,
+        &lists[8192..16384],
+        raw,
+        &lists[16384..24576],
+        unclassified,
+        few.first,
+    );
+    number_reply(n)
+}
+
+fn scratch_call(line: &[u8], lists: &mut [u64]) -> Reply
+    requires { ⌜ 24580 ≤ length (now lists) ⌝ }
+{
+    let few = few_of(line);
+    if few.count != 1 {
+        return Reply::Bad;
+    }
+    let n = few.first;
+    if 1048576 < n {
+        return Reply::Bad;
+    }
+    lists[SCRATCH] = n;
+    Reply::Done
+}
+
+pub(crate) fn lists_name(line: &[u8]) -> u64 {
+    name_in(
+        b"free take allocw alloc trail largestw largest isempty new sections lend tstart scratch",
+        line,
+    )
+}
+
+// Answers a call on the lists, by its place among the names of `lists_name`.
+pub(crate) fn lists_call(call: u64, line: &[u8], lists: &mut [u64]) -> Reply
+    requires { ⌜ 24580 ≤ length (now lists) ⌝ }
+{
+    match call {
+        11 => lend_call(line, lists),
+        12 => trailing_run_start_call(line, lists),
+        13 => scratch_call(line, lists),
+        _ => list_call(call, line, lists),
+    }
+}

@@ -1,0 +1,147 @@
+// The calls on the File Space Info message.
+use crate::memory::bytes_memory;
+use crate::memory::numbers_memory;
+use crate::reply::Reply;
+use crate::reply::write_out;
+use crate::text::end_line;
+use crate::text::put_counted;
+use crate::text::put_first;
+use crate::text::put_numbers;
+use error::Number;
+use file_space_info::FileSpaceInfo;
+use file_space_info::FileSpaceStrategy;
+use file_space_info::Parsed;
+use file_space_info::StrategyAnswer;
+use listing::text::write_bytes;
+
+fn bit(b: bool) -> u64 {
+    if b { 1 } else { 0 }
+}
+
+fn message_line(info: FileSpaceInfo, addrs: &[u64], count: usize, out: &mut [u8]) -> usize {
+    let strategy = info.strategy;
+    let fields = [
+        strategy.to_code() as u64,
+        bit(info.persist),
+        info.threshold,
+        info.page_size,
+        info.page_end_meta_threshold as u64,
+        info.eoa_pre_fsm,
+    ];
+    let at = write_bytes(out, 0, b"ok ");
+    let slots = put_numbers(out, at, &fields);
+    let end = put_counted(out, slots, addrs, count as u64);
+    end_line(out, end)
+}
+
+fn say_message(info: FileSpaceInfo, addrs: &[u64], count: usize) -> Reply {
+    let mut out = bytes_memory();
+    let len = message_line(info, addrs, count, &mut out);
+    write_out(&out, len);
+    Reply::Silent
+}
+
+pub(crate) fn parse_message_call(args: &[u64], bytes: &[u8]) -> Reply {
+    if args.len() != 2 {
+        return Reply::Bad;
+    }
+    let o = args[0];
+    if 255 < o {
+        return Reply::Bad;
+    }
+    let l = args[1];
+    if 255 < l {
+        return Reply::Bad;
+    }
+    let mut addrs = numbers_memory();
+    let parsed = FileSpaceInfo::parse(bytes, o as u8, l as u8, &mut addrs);
+    match parsed {
+        Parsed::Message { info, count } => say_message(info, &addrs, count),
+        Parsed::Refused(r) => Reply::Refused(r),
+    }
+}
+
+// Writes the first `count` bytes of a message.
+fn say_bytes(message: &[u8], count: u64) -> Reply {
+    let mut out = bytes_memory();
+    let end = put_first(&mut out, 0, message, count);
+    let len = end_line(&mut out, end);
+    write_out(&out, len);
+    Reply::Silent
+}
+
+// Serializes a message, and writes its bytes.
+fn message_bytes(info: FileSpaceInfo, addrs: &[u64]) -> Reply {
+    let mut message = bytes_memory();
+    let written = info.serialize(addrs, &mut message);
+    match written {
+        Number::Is(n) => say_bytes(&message, n),
+        Number::Refused(r) => Reply::Refused(r),
+    }
+}
+
+pub(crate) fn serialize_message_call(args: &[u64]) -> Reply {
+    if args.len() < 7 {
+        return Reply::Bad;
+    }
+    if args[6] != (args.len() - 7) as u64 {
+        return Reply::Bad;
+    }
+    let code = args[0];
+    if 255 < code {
+        return Reply::Bad;
+    }
+    let persist = args[1];
+    if 1 < persist {
+        return Reply::Bad;
+    }
+    let page_end = args[4];
+    if 65535 < page_end {
+        return Reply::Bad;
+    }
+    let answer = FileSpaceStrategy::from_code(code as u8);
+    let StrategyAnswer::Is(strategy) = answer else {
+        return Reply::Bad;
+    };
+    let info = FileSpaceInfo {
+        strategy: strategy,
+        persist: persist == 1,
+        threshold: args[2],
+        page_size: args[3],
+        page_end_meta_threshold: page_end as u16,
+        eoa_pre_fsm: args[5],
+    };
+    message_bytes(info, &args[7..])
+}
+
+pub(crate) fn managers_call(args: &[u64]) -> Reply {
+    if args.len() != 16 {
+        return Reply::Bad;
+    }
+    if args[3] != 12 {
+        return Reply::Bad;
+    }
+    let slots = [
+        args[4],
+        args[5],
+        args[6],
+        args[7],
+        args[8],
+        args[9],
+        args[10],
+        args[11],
+        args[12],
+        args[13],
+        args[14],
+        args[15],
+    ];
+    let message = FileSpaceInfo::persistent_managers(
+        FileSpaceStrategy::Page,
+        args[0],
+        args[1],
+        slots,
+        args[2],
+    );
+    let addrs = message.slots;
+    message_bytes(message.info, &addrs)
+}

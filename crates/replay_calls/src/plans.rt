@@ -1,0 +1,186 @@
+// The call of the plan.
+ghost use Prim.Native.Nat.{_≤_};
+ghost use lib.ListN.{length};
+use crate::memory::bytes_memory;
+use crate::memory::numbers_memory;
+use crate::reply::Reply;
+use crate::reply::write_out;
+use crate::text::end_line;
+use crate::text::put_numbers;
+use crate::text::put_pairs;
+use fsm_plan::plan::PagedManagerPlan;
+use fsm_plan::plan::Planned;
+use fsm_plan::plan::plan_paged_managers;
+use listing::text::write_bytes;
+use replay_lines::answer::put_number;
+
+const UNDEF: u64 = 18446744073709551615;
+
+// The places of a run of sections among the numbers of a call: its numbers stand from `from` up to `end`.
+struct Run {
+    fine: bool,
+    from: usize,
+    end: usize,
+}
+
+// The run whose count stands at `at`.
+fn run_at(args: &[u64], at: usize) -> Run
+    ensures { λ r. ⌜ (r .from ≤ r .end) × (r .end ≤ length (now (args .entry))) ⌝ }
+{
+    if args.len() <= at {
+        return Run {
+            fine: false,
+            from: 0,
+            end: 0,
+        };
+    }
+    let from = at + 1;
+    let count = args[at];
+    if (((args.len() - from) / 2) as u64) < count {
+        return Run {
+            fine: false,
+            from: 0,
+            end: 0,
+        };
+    }
+    Run {
+        fine: true,
+        from: from,
+        end: from + 2 * count as usize,
+    }
+}
+
+// The place behind `n` pairs of a run, or its end where there are fewer.
+fn behind(run: &[u64], n: usize) -> usize
+    ensures { λ r. ⌜ r ≤ length (now (run .entry)) ⌝ }
+{
+    if run.len() / 2 < n {
+        return run.len();
+    }
+    2 * n
+}
+
+fn put_slots(p: PagedManagerPlan, out: &mut [u8], at: usize) -> usize {
+    let to = write_bytes(out, at, b"slots ");
+    let slots = [
+        p.fshd0,
+        UNDEF,
+        p.fshd2,
+        UNDEF,
+        UNDEF,
+        UNDEF,
+        p.fshd6,
+        UNDEF,
+        UNDEF,
+        UNDEF,
+        UNDEF,
+        UNDEF,
+    ];
+    put_numbers(out, to, &slots)
+}
+
+// How many blocks a slot of n sections has.
+fn blocks_in(n: usize) -> u64
+    ensures { λ r. ⌜ r ≤ 1 ⌝ }
+{
+    if n == 0 { 0 } else { 1 }
+}
+
+// Puts the block of a slot, whose n sections begin the run; nothing for none.
+fn put_block(
+    fshd: u64,
+    fsse: u64,
+    class: u64,
+    n: usize,
+    sections: &[u64],
+    out: &mut [u8],
+    at: usize,
+) -> usize {
+    if n == 0 {
+        return at;
+    }
+    let to = put_numbers(out, at, &[fshd, fsse, class]);
+    put_pairs(out, to, sections, n as u64)
+}
+
+fn put_blocks(p: PagedManagerPlan, sections: &[u64], out: &mut [u8], at: usize) -> usize {
+    let raw = behind(sections, p.n0);
+    let large = raw + behind(&sections[raw..], p.n2);
+    let second = put_block(p.fshd0, p.fsse0, 1, p.n0, sections, out, at);
+    let third = put_block(p.fshd2, p.fsse2, 1, p.n2, &sections[raw..], out, second);
+    put_block(p.fshd6, p.fsse6, 2, p.n6, &sections[large..], out, third)
+}
+
+fn plan_line(p: PagedManagerPlan, sections: &[u64], out: &mut [u8]) -> usize {
+    let end = write_bytes(out, 0, b"end ");
+    let slots = put_number(out, end, p.end_of_managers);
+    let blocks = put_slots(p, out, slots);
+    let count = write_bytes(out, blocks, b"blocks ");
+    let first = put_number(
+        out,
+        count,
+        blocks_in(p.n0) + blocks_in(p.n2) + blocks_in(p.n6),
+    );
+    let last = put_blocks(p, sections, out, first);
+    end_line(out, last)
+}
+
+fn say_plan(p: PagedManagerPlan, sections: &[u64]) -> Reply {
+    let mut out = bytes_memory();
+    let len = plan_line(p, sections, &mut out);
+    write_out(&out, len);
+    Reply::Silent
+}
+
+// Whether three runs end where the numbers do.
+fn are_runs(meta: Run, raw: Run, unclassified: Run, len: usize) -> bool {
+    if !meta.fine {
+        return false;
+    }
+    if !raw.fine {
+        return false;
+    }
+    if !unclassified.fine {
+        return false;
+    }
+    unclassified.end == len
+}
+
+pub(crate) fn plan_call(args: &[u64]) -> Reply {
+    if args.len() < 6 {
+        return Reply::Bad;
+    }
+    let o = args[0];
+    if 255 < o {
+        return Reply::Bad;
+    }
+    let meta = run_at(args, 3);
+    let raw = run_at(args, meta.end);
+    let unclassified = run_at(args, raw.end);
+    if !are_runs(meta, raw, unclassified, args.len()) {
+        return Reply::Bad;
+    }
+    let m = meta.from;
+    let m_end = meta.end;
+    let r = raw.from;
+    let r_end = raw.end;
+    let u = unclassified.from;
+    let u_end = unclassified.end;
+    let mut sections = numbers_memory();
+    let planned = plan_paged_managers(
+        &args[m..m_end],
+        (m_end - m) / 2,
+        &args[r..r_end],
+        (r_end - r) / 2,
+        &args[u..u_end],
+        (u_end - u) / 2,
+        args[1],
+        args[2],
+        o as u8,
+        &mut sections,
+    );
+    match planned {
+        Planned::Plan(p) => say_plan(p, &sections),
+        Planned::Refused(refusal) => Reply::Refused(refusal),
+    }
+}

@@ -1,0 +1,86 @@
+// The call of a save. `lists` has the three lists and the length of the scratch that a save is lent.
+ghost use Prim.Native.Nat.{_≤_};
+ghost use lib.ListN.{length};
+use crate::lists::COUNTS;
+use crate::lists::SCRATCH;
+use crate::memory::bytes_memory;
+use crate::reply::Reply;
+use crate::reply::write_out;
+use crate::text::end_line;
+use crate::text::put_bytes;
+use free_space::list::FreeList;
+use listing::text::write_bytes;
+use replay_lines::answer::put_number;
+use save::Begin;
+use save::save_begin;
+use save_step::Save;
+use save_step::save_steps;
+
+// The line of the blocks' length and of the image.
+fn image_line(len: u64, image: &[u8], out: &mut [u8]) -> usize {
+    let at = write_bytes(out, 0, b"ok ");
+    let bytes = put_number(out, at, len);
+    let end = put_bytes(out, bytes, image);
+    end_line(out, end)
+}
+
+// Makes k steps of a save, and writes the image that they leave.
+fn steps(s: Save, k: u64, image: &mut [u8], scratch: &[u8]) -> Reply {
+    save_steps(s, image, scratch, k);
+    let mut out = bytes_memory();
+    let len = image_line(s.len, image, &mut out);
+    write_out(&out, len);
+    Reply::Silent
+}
+
+fn begin(args: &[u64], lists: &[u64], image: &[u8], scratch: &mut [u8]) -> Begin
+    requires { ⌜ (4 ≤ length (now args)) × (24580 ≤ length (now lists)) ⌝ }
+{
+    let meta = FreeList {
+        count: lists[COUNTS] as usize,
+    };
+    let raw = FreeList {
+        count: lists[COUNTS + 1] as usize,
+    };
+    let unclassified = FreeList {
+        count: lists[COUNTS + 2] as usize,
+    };
+    save_begin(
+        &lists[0..8192],
+        meta,
+        &lists[8192..16384],
+        raw,
+        &lists[16384..24576],
+        unclassified,
+        args[0],
+        args[1],
+        args[2],
+        image,
+        scratch,
+    )
+}
+
+// Saves the lists over an image, and makes as many steps as the fourth number says.
+fn save_lists(args: &[u64], lists: &[u64], image: &mut [u8], scratch: &mut [u8]) -> Reply
+    requires { ⌜ (4 ≤ length (now args)) × (24580 ≤ length (now lists)) ⌝ }
+{
+    let begun = begin(args, lists, image, scratch);
+    match begun {
+        Begin::Begun(s) => steps(s, args[3], image, scratch),
+        Begin::Refused(r) => Reply::Refused(r),
+    }
+}
+
+pub(crate) fn save_call(args: &[u64], image: &mut [u8], lists: &[u64]) -> Reply
+    requires { ⌜ 24580 ≤ length (now lists) ⌝ }
+{
+    if args.len() != 4 {
+        return Reply::Bad;
+    }
+    let n = lists[SCRATCH] as usize;
+    if 1048576 < n {
+        return Reply::Bad;
+    }
+    let mut scratch = bytes_memory();
+    save_lists(args, lists, image, &mut scratch[0..n])
+}
