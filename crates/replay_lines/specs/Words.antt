@@ -8,7 +8,6 @@
 --   refusalText   the line of a refusal: its number and its values
 --   badLine       "bad", "ok" and "none", each with a newline: badLine, okLine, noneLine
 --   outcomeText   the line of an outcome, by the line of its answer
---   numberText    the line of a number that may be refused
 --   checkedText   the line of a test
 use Prim.Native.Nat.{ℕ, _+_, _-_, _*_, _/_, _%_}
 use mathlib.Core.Bool.{Bool, true, false, cond, _&&_}
@@ -58,9 +57,6 @@ abbrev pub outcomeText : {A : Type 0} → (A → List ℕ) → Outcome A → Lis
 outcomeText line (answer a) = line a
 outcomeText line nothing = noneLine
 outcomeText line (refuse n vs) = errWord ++ numbersLine n vs
-
-abbrev pub numberText : Outcome ℕ → List ℕ
-numberText = outcomeText (λ n. word n 10)
 
 abbrev pub checkedText : Outcome (Unit {0}) → List ℕ
 checkedText = outcomeText (λ _. okLine)

@@ -2,11 +2,10 @@
 ghost use mathlib.Core.Path.{_≡_};
 ghost use mathlib.Core.List.{[], _∷_, _++_};
 ghost use Rattle.error.specs.Lent.{with};
-ghost use Rattle.error.specs.Answers.{numberOutcome, checkedOutcome};
+ghost use Rattle.error.specs.Answers.{checkedOutcome};
 ghost use Rattle.listing.specs.Text.{written, word};
-ghost use Rattle.replay_lines.specs.Words.{numbersLine, errWord, refusalText, badLine, okLine, noneLine, numberText, checkedText};
+ghost use Rattle.replay_lines.specs.Words.{numbersLine, errWord, refusalText, badLine, okLine, noneLine, checkedText};
 use error::Checked;
-use error::Number;
 use error::Refusal;
 use listing::text::write_bytes;
 use listing::text::write_word;
@@ -95,15 +94,6 @@ pub fn number_line(out: &mut [u8], n: u64) -> usize
     ensures { λ r. ⌜ with r (now (out .exit)) ≡ written 0 (word n 10) (now (out .entry)) ⌝ }
 {
     write_word(out, 0, n, b'\n')
-}
-
-pub fn number_answer(out: &mut [u8], n: Number) -> usize
-    ensures { λ r. ⌜ with r (now (out .exit)) ≡ written 0 (numberText (numberOutcome n)) (now (out .entry)) ⌝ }
-{
-    match n {
-        Number::Is(n) => number_line(out, n),
-        Number::Refused(r) => refused(out, r),
-    }
 }
 
 pub fn checked_answer(out: &mut [u8], checked: Checked) -> usize

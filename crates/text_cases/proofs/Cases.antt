@@ -30,8 +30,6 @@ cases = record {
   hex-171 = refl;
   refusal-of-one = refl;
   refusal-of-two = refl;
-  number-given = refl;
-  number-refused = refl;
   test-passed = refl;
   test-refused = refl;
 }

@@ -11,7 +11,7 @@ use Rattle.error.specs.Lent.{with}
 use Rattle.fsm_sections.specs.Sections.{section}
 use Rattle.listing.specs.Text.{written, word}
 use Rattle.listing.specs.Listing.{rowText, listingText, refusedText, slotsOf}
-use Rattle.replay_lines.specs.Words.{isCall, spelledBy, hexByte, numbersLine, refusalText, badLine, okLine, noneLine, numberText, checkedText}
+use Rattle.replay_lines.specs.Words.{isCall, spelledBy, hexByte, numbersLine, refusalText, badLine, okLine, noneLine, checkedText}
 
 pub record Cases : Type 0 where
   -- `write_bytes`, `write_word`
@@ -39,10 +39,8 @@ pub record Cases : Type 0 where
   pub word-and-number : (97 ∷ 32 ∷ []) ++ numbersLine 7 [] ≡ 97 ∷ 32 ∷ 55 ∷ 10 ∷ []
   pub word-and-two : (97 ∷ 32 ∷ []) ++ numbersLine 7 (8 ∷ []) ≡ 97 ∷ 32 ∷ 55 ∷ 32 ∷ 56 ∷ 10 ∷ []
   pub hex-171 : hexByte 171 ≡ 97 ∷ 98 ∷ []
-  -- `refused`, `number_answer`, `checked_answer`
+  -- `refused`, `checked_answer`
   pub refusal-of-one : refusalText (MessageVersion 3) ≡ 101 ∷ 114 ∷ 114 ∷ 32 ∷ 56 ∷ 32 ∷ 51 ∷ 10 ∷ []
   pub refusal-of-two : drop 4 (refusalText (OverCapacity 5 4)) ≡ 49 ∷ 52 ∷ 32 ∷ 53 ∷ 32 ∷ 52 ∷ 10 ∷ []
-  pub number-given : numberText (answer 7) ≡ 55 ∷ 10 ∷ []
-  pub number-refused : numberText (refused Page) ≡ 101 ∷ 114 ∷ 114 ∷ 32 ∷ 50 ∷ 10 ∷ []
   pub test-passed : checkedText (answer tt) ≡ 111 ∷ 107 ∷ 10 ∷ []
   pub test-refused : checkedText (refused Page) ≡ 101 ∷ 114 ∷ 114 ∷ 32 ∷ 50 ∷ 10 ∷ []
