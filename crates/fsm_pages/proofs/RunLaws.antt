@@ -11,10 +11,9 @@ use lib.Seq.{drop-cons}
 use borrow.Author.Tests.{ltb-false, leb-true, lt-ltb, le-ltb, eq-eqb, ne-eqb}
 use Rattle.error.proofs.TestLaws.{and-true, or-false}
 use Rattle.fields.specs.Ranges.{top}
-use Rattle.fsm_sections.specs.Sources.{pairAt}
 use Rattle.fsm_sections.specs.Sections.{section, decode}
 use Rattle.fsm_sections.specs.Pages.{end}
-use Rattle.fsm_sections.proofs.SourceLaws.{length-decode, decode-at}
+use Rattle.fsm_sections.proofs.SourceLaws.{pairAt, length-decode, decode-at}
 use Rattle.fsm_sections.specs.Runs.{isEven, isRun, endsAbove}
 
 -- ---- a run

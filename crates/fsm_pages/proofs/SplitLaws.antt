@@ -13,7 +13,7 @@ use Rattle.error.specs.Lent.{left, leaving, over}
 use Rattle.error.proofs.OutcomeLaws.{NoneHolds, first-answers, first-refuses, first-pass, refuses, passes}
 use Rattle.error.proofs.OverLaws.{length-over, over-nil}
 use Rattle.fields.specs.Ranges.{top}
-use Rattle.fsm_sections.specs.Sources.{pairAt}
+use Rattle.fsm_sections.proofs.SourceLaws.{pairAt}
 use Rattle.fsm_sections.specs.declared.FreeSection.{FreeSection}
 use Rattle.fsm_sections.specs.Sections.{decode, flat}
 use Rattle.fsm_sections.specs.Pages.{pieces, split}

@@ -21,7 +21,8 @@ use Rattle.fsm_sections.specs.declared.Chain.{Chain}
 use Rattle.fsm_sections.specs.declared.Part.the-variants.{Pages}
 use Rattle.fsm_sections.specs.Sections.{section, decode}
 use Rattle.fsm_sections.specs.Pages.{pageEnd, cutAt, piecesFrom, pieces, split, belowPage, fromPage, slot0, slot2, slot6}
-use Rattle.fsm_sections.specs.Sources.{partOf, pairAt}
+use Rattle.fsm_sections.specs.Sources.{partOf}
+use Rattle.fsm_sections.proofs.SourceLaws.{pairAt}
 use Rattle.fsm_sections.proofs.PagesLaws.{page-end-above, pieces-none, pieces-more, below-or-not}
 use Rattle.fsm_sections.proofs.SizesLaws.{length-chain}
 use Rattle.fsm_sections.proofs.SlotLaws.{from-append, from-pieces}

@@ -11,8 +11,9 @@ use Rattle.fsm_sections.specs.declared.next.Region.{Region}
 use Rattle.fsm_sections.specs.Sections.{section}
 use Rattle.fsm_sections.specs.declared.Part.the-variants.{Pages, Whole}
 use Rattle.fsm_sections.specs.Chains.{link}
-use Rattle.fsm_sections.specs.Sources.{partOf, rest, Given, Within, pairAt, Picked}
-use Rattle.fsm_sections.proofs.SourceLaws.{take-a, take-b, take-c, fits-a, fits-b}
+use Rattle.fsm_sections.specs.Sources.{partOf, rest, Given, Within}
+use Rattle.fsm_sections.proofs.NextLaws.{Picked}
+use Rattle.fsm_sections.proofs.SourceLaws.{pairAt, take-a, take-b, take-c, fits-a, fits-b}
 use Rattle.fsm_sections.proofs.TakeLaws.{take-by}
 use Rattle.fsm_plan.specs.declared.chains.Counts.{Counts}
 use Rattle.fsm_plan.specs.Order.{atAddr, chainOf, Stepped, sourceOf, Next}

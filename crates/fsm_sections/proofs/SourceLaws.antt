@@ -13,7 +13,7 @@ use lib.Seq.{drop-cons}
 use Rattle.fsm_sections.specs.declared.FreeSection.{FreeSection}
 use Rattle.fsm_sections.specs.Sections.{section, decode, bySizeThenAddr, All}
 use Rattle.fsm_sections.specs.Chains.{link, chain, sectionsOf, ChainFits}
-use Rattle.fsm_sections.specs.Sources.{one, headSize, bodySize, partOf, chainsOf, rest, PartFits, Within, Taking, Given, pairAt}
+use Rattle.fsm_sections.specs.Sources.{one, headSize, bodySize, partOf, chainsOf, rest, PartFits, Within, Taking, Given}
 use Rattle.fsm_sections.specs.declared.Chain.{Chain}
 use Rattle.fsm_sections.specs.declared.Part.{Part}
 use Rattle.fsm_sections.specs.declared.Part.the-variants.{Head, Pages, Tail, Whole}
@@ -25,6 +25,9 @@ double : (n : ℕ) → 2 * suc n ≡ suc (suc (2 * n))
 double n = omega arith
 
 -- the i-th pair
+abbrev pub pairAt : List ℕ → ℕ → FreeSection
+pairAt xs n = section (getD xs (2 * n) 0) (getD xs (2 * n + 1) 0)
+
 pub length-decode : (n : ℕ) (xs : List ℕ) → 2 * n ≤ length xs → length (decode n xs) ≡ n
 length-decode zero xs h = refl
 length-decode (suc n) [] h = absurd (omega arith)

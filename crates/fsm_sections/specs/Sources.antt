@@ -9,8 +9,6 @@
 --   rest          the sections that are left when the first i, j and k regions of the three runs are done
 --   Within        as many as there are at most
 --   partIn        the part that is meant of the regions of a run, 0, 1 or 2
---   pairAt        the n-th pair of a run that has it, as a section
---   Picked        a region is the next of one of the three runs
 --   Taking        a chain is taken of those that are left, whichever
 --   PartFits      what is cut ends within 64 bits
 --   Given         a source that can be gone through: the page is not 0, each count is within its run, what is cut ends within 64 bits
@@ -18,22 +16,19 @@
 --   largeSource   the whole pages of two runs, and the regions of a third uncut
 --   plainSource   a run of sections as they are
 use mathlib.Core.Path.{_≡_}
-use mathlib.Core.Logic.{_⊎_}
 use Prim.Native.Nat.{ℕ, suc, _+_, _-_, _*_, _/_, _%_, _^_, min, _≤_, _<_}
 use mathlib.Core.Bool.{cond}
 use mathlib.Core.List.{List, _++_, map}
 use lib.Dec.{eqb}
-use lib.ListN.{length, drop, getD}
+use lib.ListN.{length, drop}
 use Rattle.fsm_sections.specs.declared.FreeSection.{FreeSection}
 use Rattle.fsm_sections.specs.declared.Chain.{Chain}
 use Rattle.fsm_sections.specs.declared.Part.{Part}
 use Rattle.fsm_sections.specs.declared.Part.the-variants.{Head, Pages, Tail, Whole}
 use Rattle.fsm_sections.specs.declared.Source.{Source}
 use Rattle.fsm_sections.specs.declared.Taken.{Taken}
-use Rattle.fsm_sections.specs.declared.next.Region.{Region}
-use Rattle.fsm_sections.specs.Sections.{section, decode, bySizeThenAddr, All}
+use Rattle.fsm_sections.specs.Sections.{decode, bySizeThenAddr, All}
 use Rattle.fsm_sections.specs.Chains.{link, chain, sectionsOf, ChainFits}
-use Rattle.fsm_sections.specs.Nexts.{region}
 
 abbrev pub pad : ℕ → ℕ → ℕ
 pad page a = cond (eqb (a % page) 0) 0 (page - a % page)
@@ -92,15 +87,6 @@ pub record Within (s : Source) (i j k : ℕ) : Type 0 where
 
 abbrev pub partIn : Source → ℕ → Part
 partIn s w = cond (eqb w 0) (s .pa) (cond (eqb w 1) (s .pb) (s .pc))
-
-abbrev pub pairAt : List ℕ → ℕ → FreeSection
-pairAt xs n = section (getD xs (2 * n) 0) (getD xs (2 * n + 1) 0)
-
-abbrev pub Picked : Source → List ℕ → List ℕ → List ℕ → ℕ → ℕ → ℕ → Region → Type 0
-Picked s a b c i j k r =
-    ((i < s .na) × (r ≡ region 0 (pairAt a i) (i + 1) j k))
-    ⊎ (((j < s .nb) × (r ≡ region 1 (pairAt b j) i (j + 1) k))
-    ⊎ ((k < s .nc) × (r ≡ region 2 (pairAt c k) i j (k + 1))))
 
 pub record Taking (s : Source) (a b c : List ℕ) (i j k : ℕ) (t : Taken) : Type 0 where
   pub fits : ChainFits (link (t .addr) (t .size) (t .count))

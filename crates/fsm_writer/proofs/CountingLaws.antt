@@ -22,12 +22,12 @@ use Rattle.fsm_sections.specs.declared.Chain.{Chain}
 use Rattle.fsm_sections.specs.declared.Source.{Source}
 use Rattle.fsm_sections.specs.Sections.{section, decode, space}
 use Rattle.fsm_sections.specs.Chains.{chain, sectionsOf}
-use Rattle.fsm_sections.specs.Sources.{headSize, bodySize, partOf, chainsIn, chainsOf, PartFits, pairAt}
+use Rattle.fsm_sections.specs.Sources.{headSize, bodySize, partOf, chainsIn, chainsOf, PartFits}
 use Rattle.fsm_sections.specs.Passes.{spaceOf}
 use Rattle.fsm_sections.proofs.AllLaws.{all-getD}
 use Rattle.fsm_sections.proofs.SlotLaws.{sections-append}
 use Rattle.fsm_sections.proofs.SizesLaws.{length-chain}
-use Rattle.fsm_sections.proofs.SourceLaws.{length-decode, decode-at}
+use Rattle.fsm_sections.proofs.SourceLaws.{pairAt, length-decode, decode-at}
 use Rattle.fsm_sections.proofs.TakeLaws.{space-append, space-chain}
 use Rattle.fsm_writer.specs.Counting.{RunGiven, storable}
 use Rattle.fsm_writer.proofs.StoredLaws.{too-great, great-enough, stored-is, stored-not}

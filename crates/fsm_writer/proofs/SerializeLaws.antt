@@ -28,10 +28,10 @@ use Rattle.fsm_sections.specs.declared.FreeSection.{FreeSection}
 use Rattle.fsm_sections.specs.declared.Source.{Source}
 use Rattle.fsm_sections.specs.Sections.{section, decode, space, distinct, All}
 use Rattle.fsm_sections.specs.Chains.{sectionsOf}
-use Rattle.fsm_sections.specs.Sources.{chainsOf, plainSource, Given, pairAt}
+use Rattle.fsm_sections.specs.Sources.{chainsOf, plainSource, Given}
 use Rattle.fsm_sections.specs.Passes.{spaceOf, Numbers}
 use Rattle.fsm_sections.proofs.SlotLaws.{plain-runs}
-use Rattle.fsm_sections.proofs.SourceLaws.{length-decode, decode-at}
+use Rattle.fsm_sections.proofs.SourceLaws.{pairAt, length-decode, decode-at}
 use Rattle.fsm_blocks.specs.Fshd.{Header, fshdBytes, fshdSize}
 use Rattle.fsm_blocks.specs.Fsse.{fsseSize}
 use Rattle.fsm_blocks.specs.Groups.{Widths}

@@ -9,7 +9,7 @@ use lib.Dec.{ltb}
 use lib.ListN.{length, drop}
 use Rattle.error.proofs.TestLaws.{le-or-lt, or-false}
 use Rattle.fields.specs.Ranges.{top}
-use Rattle.fsm_sections.specs.Sources.{pairAt}
+use Rattle.fsm_sections.proofs.SourceLaws.{pairAt}
 use Rattle.fsm_sections.specs.declared.FreeSection.{FreeSection}
 use Rattle.fsm_sections.specs.Sections.{section, decode}
 use Rattle.fsm_sections.specs.Pages.{end, pieces, split}

@@ -4,7 +4,7 @@ use native.Mathlib.Nat.{mod-lt, le-of-lt}
 use native.Mathlib.Omega.{arith}
 use lib.ListN.{length}
 use denote.Ref.{now}
-use Rattle.fsm_sections.specs.Sources.{pairAt}
+use Rattle.fsm_sections.proofs.SourceLaws.{pairAt}
 use Rattle.split_records.specs.Records.{piecesLeft}
 use Rattle.split_records.proofs.CutLaws.{within, skip, cut, fits-here}
 use borrow.Author.Needs.{needs}

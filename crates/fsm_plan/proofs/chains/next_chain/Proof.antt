@@ -2,9 +2,8 @@ use mathlib.Core.Path.{refl, sym, subst}
 use denote.Ref.{now}
 use Rattle.fsm_sections.specs.declared.Part.the-variants.{Whole}
 use Rattle.fsm_sections.specs.declared.next.Region.{Region}
-use Rattle.fsm_sections.specs.Sources.{Picked}
 use Rattle.fsm_sections.proofs.SourceLaws.{whole-chain}
-use Rattle.fsm_sections.proofs.NextLaws.{next-picked}
+use Rattle.fsm_sections.proofs.NextLaws.{Picked, next-picked}
 use Rattle.fsm_plan.specs.Order.{sourceOf}
 use Rattle.fsm_plan.proofs.NextLaws.{cut-next, uncut-next, cut-fits}
 use borrow.Author.Needs.{needs}

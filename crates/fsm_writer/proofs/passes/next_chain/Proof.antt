@@ -3,8 +3,8 @@ use denote.Ref.{now}
 use Rattle.fsm_sections.specs.declared.Part.{Part}
 use Rattle.fsm_sections.specs.declared.next.Region.{Region}
 use Rattle.fsm_sections.specs.Sections.{section}
-use Rattle.fsm_sections.specs.Sources.{partOf, Picked}
-use Rattle.fsm_sections.proofs.NextLaws.{next-picked}
+use Rattle.fsm_sections.specs.Sources.{partOf}
+use Rattle.fsm_sections.proofs.NextLaws.{Picked, next-picked}
 use Rattle.fsm_writer.proofs.PickLaws.{picked-fits, picked-taking}
 use borrow.Author.Needs.{needs}
 use Rattle.fsm_writer.proofs.passes.next_chain.Statement.{statement}
