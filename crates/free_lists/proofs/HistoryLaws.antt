@@ -17,8 +17,12 @@ use Rattle.free_regions.proofs.SetLaws.{Between, Adds, Removes}
 use Rattle.free_space.specs.declared.list.FreeList.{FreeList}
 use Rattle.free_space.specs.Runs.{capacity, isList}
 use Rattle.free_space.specs.Calls.{keeping}
-use Rattle.free_lists.specs.Lists.{Lst, lst, regionsOf, Which, metadata, raw, unclassified, same, Lists}
-use Rattle.free_lists.specs.History.{Call, free, alloc, units, takeRange, takeTrailing, Did, did, bytes, perform, On, next, run, begun, Last, never, was, holds, goesOver, later, lastOver, wasFree, ByHistory}
+use Rattle.free_lists.specs.declared.calls.Which.{Which}
+use Rattle.free_lists.specs.declared.calls.Which.the-variants.{Metadata, Raw, Unclassified}
+use Rattle.free_lists.specs.declared.calls.ListCall.{ListCall}
+use Rattle.free_lists.specs.declared.calls.ListCall.the-variants as call
+use Rattle.free_lists.specs.Lists.{LentList, listIn, regionsOf, same, Lists}
+use Rattle.free_lists.specs.History.{Effect, effect, bytes, perform, CallOn, next, run, begun, Last, never, was, holds, goesOver, later, lastOver, wasFree, ByHistory}
 use Rattle.free_lists.proofs.CallLaws.{Ends, Leaves, free-law, take-law, alloc-law, units-law, trailing-law}
 
 -- whether a byte is free after the last call over it, where F tells whether it was before all of them
@@ -28,7 +32,7 @@ Now (was c) F = wasFree (was c) ≡ true
 
 -- ---- one call
 
-record Good (c : Call) (l : Lst) (d : Did) : Type 0 where
+record Good (c : ListCall) (l : LentList) (d : Effect) : Type 0 where
   list : isList (d .left .run) (d .left .list) ≡ isList (l .run) (l .list)
   free : (b : ℕ) → Free (regionsOf (d .left)) b ↔ Now (goesOver c (d .outcome) b) (Free (regionsOf l) b)
 
@@ -38,8 +42,8 @@ holds-or s e b =
     (λ h. inr (rw (lt-leb s b h), λ t. omega arith)) (le-or-lt s b)
 
 -- an accepted call, by what it does to the free bytes
-module _ (c : Call) (l : Lst) (s e : ℕ) (ys : List ℕ) (m : FreeList) where
-  adds : wasFree (was c) ≡ true → Leaves (Adds s e) (l .run) (l .list) ys m → Good c l (record { outcome = answer (bytes s e); left = lst ys m })
+module _ (c : ListCall) (l : LentList) (s e : ℕ) (ys : List ℕ) (m : FreeList) where
+  adds : wasFree (was c) ≡ true → Leaves (Adds s e) (l .run) (l .list) ys m → Good c l (record { outcome = answer (bytes s e); left = listIn ys m })
   adds y p = record {
     list = p .left ∙ sym (p .given);
     free = λ b.
@@ -50,7 +54,7 @@ module _ (c : Call) (l : Lst) (s e : ℕ) (ys : List ℕ) (m : FreeList) where
         (holds-or s e b);
   }
 
-  removes : wasFree (was c) ≡ false → Leaves (Removes s e) (l .run) (l .list) ys m → Good c l (record { outcome = answer (bytes s e); left = lst ys m })
+  removes : wasFree (was c) ≡ false → Leaves (Removes s e) (l .run) (l .list) ys m → Good c l (record { outcome = answer (bytes s e); left = listIn ys m })
   removes y p = record {
     list = p .left ∙ sym (p .given);
     free = λ b.
@@ -61,21 +65,21 @@ module _ (c : Call) (l : Lst) (s e : ℕ) (ys : List ℕ) (m : FreeList) where
         (holds-or s e b);
   }
 
-module _ {A : Type 0} {P : With A (List ℕ) → Type 0} {N : Type 0} {R : ℕ → List ℕ → Type 0} (list : A → FreeList) (over : A → Range) (c : Call) (l : Lst) where
+module _ {A : Type 0} {P : With A (List ℕ) → Type 0} {N : Type 0} {R : ℕ → List ℕ → Type 0} (list : A → FreeList) (over : A → Range) (c : ListCall) (l : LentList) where
   -- and any call, since a refusal or Nothing changes nothing and goes over nothing
   goes : (o : Outcome (With A (List ℕ))) → Ends P N R o
-      → ((w : With A (List ℕ)) → P w → Good c l (record { outcome = answer (over (w .value)); left = lst (w .memory) (list (w .value)) }))
-      → Good c l (did list over (l .list) (leaving (l .run) o))
+      → ((w : With A (List ℕ)) → P w → Good c l (record { outcome = answer (over (w .value)); left = listIn (w .memory) (list (w .value)) }))
+      → Good c l (effect list over (l .list) (leaving (l .run) o))
   goes (answer w) e f = f w (e .says)
   goes nothing e f = record { list = refl; free = λ b. (λ t. t, λ t. t) }
   goes (refuse n vs) e f = record { list = refl; free = λ b. (λ t. t, λ t. t) }
 
-performed : (c : Call) (l : Lst) → Good c l (perform c l)
-performed (free a n) l = goes keeping _ (free a n) l _ (free-law (l .run) (l .list) a n) (λ w p. adds (free a n) l a (a + n) (w .memory) (w .value) refl (p .leaves))
-performed (alloc n) l = goes _ _ (alloc n) l _ (alloc-law (l .run) (l .list) n) (λ w p. removes (alloc n) l _ _ _ _ refl (p .leaves))
-performed (units n u) l = goes _ _ (units n u) l _ (units-law (l .run) (l .list) n u) (λ w p. removes (units n u) l _ _ _ _ refl (p .leaves))
-performed (takeRange a n) l = goes _ _ (takeRange a n) l _ (take-law (l .run) (l .list) a n) (λ w p. removes (takeRange a n) l _ _ _ _ refl p)
-performed (takeTrailing e) l = goes _ _ (takeTrailing e) l _ (trailing-law (l .run) (l .list) e) (λ w p. removes (takeTrailing e) l _ _ _ _ refl (p .leaves))
+performed : (c : ListCall) (l : LentList) → Good c l (perform c l)
+performed (call.Free a n) l = goes keeping _ (call.Free a n) l _ (free-law (l .run) (l .list) a n) (λ w p. adds (call.Free a n) l a (a + n) (w .memory) (w .value) refl (p .leaves))
+performed (call.Alloc n) l = goes _ _ (call.Alloc n) l _ (alloc-law (l .run) (l .list) n) (λ w p. removes (call.Alloc n) l _ _ _ _ refl (p .leaves))
+performed (call.AllocWholeUnits n u) l = goes _ _ (call.AllocWholeUnits n u) l _ (units-law (l .run) (l .list) n u) (λ w p. removes (call.AllocWholeUnits n u) l _ _ _ _ refl (p .leaves))
+performed (call.TakeRange a n) l = goes _ _ (call.TakeRange a n) l _ (take-law (l .run) (l .list) a n) (λ w p. removes (call.TakeRange a n) l _ _ _ _ refl p)
+performed (call.TakeTrailing e) l = goes _ _ (call.TakeTrailing e) l _ (trailing-law (l .run) (l .list) e) (λ w p. removes (call.TakeTrailing e) l _ _ _ _ refl (p .leaves))
 
 -- ---- calls in a row
 
@@ -89,17 +93,17 @@ now-cong (was c) F G e = (λ f. f, λ f. f)
 
 module _ (i : Which) where
   -- what a call on some list says of the byte at b of list i
-  abbrev Word : On → Lists → ℕ → Last
+  abbrev Word : CallOn → Lists → ℕ → Last
   Word c ls b = cond (same i (c .list)) (goesOver (c .what) (perform (c .what) (ls i) .outcome) b) never
 
-  record Turn (c : On) (ls : Lists) : Type 0 where
+  record Turn (c : CallOn) (ls : Lists) : Type 0 where
     list : isList (next c ls i .run) (next c ls i .list) ≡ isList (ls i .run) (ls i .list)
     free : (b : ℕ) → Free (regionsOf (next c ls i)) b ↔ Now (Word c ls b) (Free (regionsOf (ls i)) b)
 
-  turn : (c : On) (ls : Lists) → Turn c ls
+  turn : (c : CallOn) (ls : Lists) → Turn c ls
   turn c ls = let g = pick (same i (c .list)) in record { list = g .0; free = g .1 }
     where
-      d : Did
+      d : Effect
       d = perform (c .what) (ls i)
 
       pick : (t : Bool) → (isList (cond t (d .left) (ls i) .run) (cond t (d .left) (ls i) .list) ≡ isList (ls i .run) (ls i .list))
@@ -108,12 +112,12 @@ module _ (i : Which) where
       pick false = (refl, λ b. (λ f. f, λ f. f))
 
   -- from any lists on
-  run-list : (cs : List On) (ls : Lists) → isList (run cs ls i .run) (run cs ls i .list) ≡ isList (ls i .run) (ls i .list)
+  run-list : (cs : List CallOn) (ls : Lists) → isList (run cs ls i .run) (run cs ls i .list) ≡ isList (ls i .run) (ls i .list)
   unfolding run
   run-list [] ls = refl
   run-list (c ∷ cs) ls = run-list cs (next c ls) ∙ turn c ls .list
 
-  run-free : (cs : List On) (ls : Lists) (b : ℕ) → Free (regionsOf (run cs ls i)) b ↔ Now (lastOver i b cs ls) (Free (regionsOf (ls i)) b)
+  run-free : (cs : List CallOn) (ls : Lists) (b : ℕ) → Free (regionsOf (run cs ls i)) b ↔ Now (lastOver i b cs ls) (Free (regionsOf (ls i)) b)
   unfolding run lastOver
   run-free [] ls b = (λ f. f, λ f. f)
   run-free (c ∷ cs) ls b =
@@ -141,16 +145,16 @@ begun-list runs i = rw (le-leb 0 (capacity (runs i)) (omega arith)) (go (eqb (le
 -- one of three tests
 module _ (t : Which → Bool) where
   abbrev AnyOf : Bool
-  AnyOf = t metadata || (t raw || t unclassified)
+  AnyOf = t Metadata || (t Raw || t Unclassified)
 
   any-of : (i : Which) → t i ≡ true → AnyOf ≡ true
-  any-of metadata e = rw e
-  any-of raw e = rw e (or-true (t metadata))
+  any-of Metadata e = rw e
+  any-of Raw e = rw e (or-true (t Metadata))
     where
       or-true : (a : Bool) → (a || true) ≡ true
       or-true true = refl
       or-true false = refl
-  any-of unclassified e = rw e (or-true (t metadata) (t raw))
+  any-of Unclassified e = rw e (or-true (t Metadata) (t Raw))
     where
       or-true : (a b : Bool) → (a || (b || true)) ≡ true
       or-true true b = refl
@@ -158,14 +162,14 @@ module _ (t : Which → Bool) where
       or-true false false = refl
 
   one-of : AnyOf ≡ true → (i : Which) × (t i ≡ true)
-  one-of e = go (t metadata) refl (t raw) refl e
+  one-of e = go (t Metadata) refl (t Raw) refl e
     where
-      go : (a : Bool) → t metadata ≡ a → (b : Bool) → t raw ≡ b → (a || (b || t unclassified)) ≡ true → (i : Which) × (t i ≡ true)
-      go true p b q e = (metadata, p)
-      go false p true q e = (raw, q)
-      go false p false q e = (unclassified, e)
+      go : (a : Bool) → t Metadata ≡ a → (b : Bool) → t Raw ≡ b → (a || (b || t Unclassified)) ≡ true → (i : Which) × (t i ≡ true)
+      go true p b q e = (Metadata, p)
+      go false p true q e = (Raw, q)
+      go false p false q e = (Unclassified, e)
 
-module _ (runs : Which → List ℕ) (cs : List On) where
+module _ (runs : Which → List ℕ) (cs : List CallOn) where
   in-one : (i : Which) (b : ℕ) → Free (regionsOf (run cs (begun runs) i)) b ↔ (wasFree (lastOver i b cs (begun runs)) ≡ true)
   in-one i b =
       let r = run-free i cs (begun runs) b in

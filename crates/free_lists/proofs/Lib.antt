@@ -2,3 +2,4 @@ pub mod CallLaws
 pub mod HistoryLaws
 pub mod SharingLaws
 pub mod TrailingLaws
+pub mod ApplyLaws

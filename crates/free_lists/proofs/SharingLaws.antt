@@ -26,10 +26,10 @@ use Rattle.free_space.specs.Runs.{regionAt, decode, isList}
 use Rattle.free_space.proofs.DecodeLaws.{length-decode, decode-at, decode-end}
 use Rattle.free_space.proofs.QuestionLaws.{denied, held, here}
 use Rattle.free_space.proofs.ListLaws.{listed}
-use Rattle.free_lists.specs.declared.Cursors.{Cursors}
+use Rattle.free_lists.specs.declared.FileLists.{FileLists}
 use Rattle.free_lists.specs.Trailing.{falling, walk, runStart}
-use Rattle.free_lists.specs.Lists.{Lists, three, areLists, sharedByte, apart, together}
-use Rattle.free_lists.specs.Walks.{InOrder, AllInOrder, remaining}
+use Rattle.free_lists.specs.Lists.{Lists, listsIn, areLists, sharedByte, apart, together}
+use Rattle.free_lists.specs.Walks.{allOf, InOrder, AllInOrder, remaining}
 
 -- ---- regions in order
 
@@ -108,19 +108,16 @@ module _ {xs : List ℕ} {n : ℕ} {ys : List ℕ} {m i j : ℕ} (c : Compared x
 
 -- ---- refusals 3 and 5 of three lists
 
-module _ (xs : List ℕ) (k : FreeList) (ys : List ℕ) (l : FreeList) (zs : List ℕ) (m : FreeList) where
-  abbrev counts : Cursors
-  counts = record { meta = k .count; raw = l .count; unclassified = m .count }
-
+module _ (xs ys zs : List ℕ) (f : FileLists) where
   abbrev ls : Lists
-  ls = three xs k ys l zs m
+  ls = listsIn xs ys zs f
 
   -- b and s are the flags of the code
-  pub lists-order : {b : Bool} → b ≡ areLists ls → not b ≡ false → AllInOrder xs ys zs counts
+  pub lists-order : {b : Bool} → b ≡ areLists ls → not b ≡ false → AllInOrder xs ys zs (allOf f)
   lists-order e h =
-      let p = and-true (isList xs k) (isList ys l && isList zs m) (held e h) in
-      let q = and-true (isList ys l) (isList zs m) (p .1) in
-      record { meta = in-order xs k (p .0); raw = in-order ys l (q .0); unclassified = in-order zs m (q .1) }
+      let p = and-true (isList xs (f .metadata)) _ (held e h) in
+      let q = and-true (isList ys (f .raw)) (isList zs (f .unclassified)) (p .1) in
+      record { meta = in-order xs (f .metadata) (p .0); raw = in-order ys (f .raw) (q .0); unclassified = in-order zs (f .unclassified) (q .1) }
 
   pub apart-not : {b : Bool} → b ≡ areLists ls → not b ≡ true → refused NotAList ≡ together ls
   apart-not e h = sym (first-holds _ _ _ _ (ap not (denied e h)))
@@ -136,10 +133,10 @@ module _ (xs : List ℕ) (k : FreeList) (ys : List ℕ) (l : FreeList) (zs : Lis
     none : o ≡ checked.Fine → NoneHolds (apart ls)
     none h = first-answers (apart ls) tt tt (sym a ∙ ap checkedOutcome h) .0
 
-    pub fine-order : o ≡ checked.Fine → AllInOrder xs ys zs counts
+    pub fine-order : o ≡ checked.Fine → AllInOrder xs ys zs (allOf f)
     fine-order h = lists-order refl (none h .0)
 
-    pub start-is : (eof n : ℕ) → o ≡ checked.Fine → n ≡ walk eof (falling (remaining xs ys zs counts)) → answer n ≡ runStart ls eof
+    pub start-is : (eof n : ℕ) → o ≡ checked.Fine → n ≡ walk eof (falling (remaining xs ys zs (allOf f))) → answer n ≡ runStart ls eof
     unfolding runStart
     start-is eof n h e = ap answer e ∙ sym (first-pass (apart ls) _ (none h))
 

@@ -1,12 +1,13 @@
 -- List calls in a row on three lists, and what their history leaves free. Assumes nothing.
---   Call            a list call with its arguments: `free`, `alloc`, `alloc_whole_units`, `take_range`, `take_trailing`
---   Did             what a call comes to: its outcome, an accepted call's with the bytes that it goes over, and the list that it leaves
+--   Effect          what a call comes to: its outcome, an accepted call's with the bytes that it goes over, and the list that it leaves
 --   mapped          an outcome with another answer
 --   recordAfter     the record after an outcome: an answer's; a refusal or Nothing leaves the old one
---   did, kept, gave   what a call comes to by its outcome: of any call; of one that gives nothing out; of one that gives an address out
+--   effect, kept, gave   what a call comes to by its outcome: of any call; of one that gives nothing out; of one that gives an address out
 --   bytes           the places from one up to another
 --   perform         a call on a list, by the definition that the contract of the call cites
---   On              a call, and the list that it is made on
+--   givenOut        the address that an accepted call gives out, where it gives one
+--   answeredOutcome   the outcome that an answer of `apply` stands for
+--   CallOn, on      a call, and the list that it is made on; these two together
 --   next            the lists after a call: its own as the call leaves it, the others as they were
 --   run             the lists after calls in a row: each call gets its list as the last call on it left it
 --   begun           lists begun empty: any lent runs, with the record of no regions
@@ -23,32 +24,26 @@ use mathlib.Core.Bool.{Bool, true, false, cond, _&&_, _||_}
 use mathlib.Core.List.{List, [], _∷_}
 use lib.Dec.{leb, ltb, eqb}
 use lib.ListN.{length}
-use Rattle.error.specs.Outcome.{Outcome, answer, nothing, refuse}
+use Rattle.error.specs.Outcome.{Outcome, answer, nothing, refuse, refused}
 use Rattle.error.specs.Lent.{With, Left, leaving}
 use Rattle.fields.specs.Ranges.{Range}
 use Rattle.free_regions.specs.Regions.{Free}
 use Rattle.free_space.specs.declared.list.FreeList.{FreeList}
 use Rattle.free_space.specs.Runs.{recordOf, isList}
 use Rattle.free_space.specs.Calls.{Gave, keeping, freed, allocated, allocatedUnits, rangeTaken, trailingTaken}
-use Rattle.free_lists.specs.Lists.{Lst, lst, regionsOf, Which, metadata, raw, unclassified, same, Lists}
+use Rattle.free_lists.specs.declared.calls.Which.{Which}
+use Rattle.free_lists.specs.declared.calls.Which.the-variants.{Metadata, Raw, Unclassified}
+use Rattle.free_lists.specs.declared.calls.ListCall.{ListCall}
+use Rattle.free_lists.specs.declared.calls.ListCall.the-variants as call
+use Rattle.free_lists.specs.declared.calls.Answered.{Answered}
+use Rattle.free_lists.specs.declared.calls.Answered.the-variants as answered
+use Rattle.free_lists.specs.Lists.{LentList, listIn, regionsOf, same, Lists}
 
 -- ---- one call on one list
 
-pub data Call : Type 0 where
-  -- address and length
-  free : ℕ → ℕ → Call
-  -- length
-  alloc : ℕ → Call
-  -- length and unit
-  units : ℕ → ℕ → Call
-  -- address and length
-  takeRange : ℕ → ℕ → Call
-  -- end of file
-  takeTrailing : ℕ → Call
-
-pub record Did : Type 0 where
+pub record Effect : Type 0 where
   pub outcome : Outcome Range
-  pub left : Lst
+  pub left : LentList
 
 abbrev pub mapped : {A B : Type 0} → (A → B) → Outcome A → Outcome B
 mapped f (answer a) = answer (f a)
@@ -62,54 +57,71 @@ recordAfter list l nothing = l
 recordAfter list l (refuse n vs) = l
 
 -- list and over give the record of an answer, and the bytes that it goes over
-abbrev pub did : {A : Type 0} → (A → FreeList) → (A → Range) → FreeList → Left A (List ℕ) → Did
-did list over l d = record { outcome = mapped over (d .outcome); left = lst (d .memory) (recordAfter list l (d .outcome)) }
+abbrev pub effect : {A : Type 0} → (A → FreeList) → (A → Range) → FreeList → Left A (List ℕ) → Effect
+effect list over l d = record { outcome = mapped over (d .outcome); left = listIn (d .memory) (recordAfter list l (d .outcome)) }
 
-abbrev pub kept : Range → Lst → Outcome (With FreeList (List ℕ)) → Did
-kept over l o = did keeping (λ m. over) (l .list) (leaving (l .run) o)
+abbrev pub kept : Range → LentList → Outcome (With FreeList (List ℕ)) → Effect
+kept over l o = effect keeping (λ m. over) (l .list) (leaving (l .run) o)
 
-abbrev pub gave : (ℕ → Range) → Lst → Outcome (With Gave (List ℕ)) → Did
-gave over l o = did (λ g. g .list) (λ g. over (g .addr)) (l .list) (leaving (l .run) o)
+abbrev pub gave : (ℕ → Range) → LentList → Outcome (With Gave (List ℕ)) → Effect
+gave over l o = effect (λ g. g .list) (λ g. over (g .addr)) (l .list) (leaving (l .run) o)
 
 abbrev pub bytes : ℕ → ℕ → Range
 bytes s e = record { start = s; end = e }
 
 -- `free` and `take_range` go over their range, an allocation over its length from the address it gave, `take_trailing` from the one it gave
 -- to the end of file
-abbrev pub perform : Call → Lst → Did
-perform (free a n) l = kept (bytes a (a + n)) l (freed (l .run) (l .list) a n)
-perform (alloc n) l = gave (λ p. bytes p (p + n)) l (allocated (l .run) (l .list) n)
-perform (units n u) l = gave (λ p. bytes p (p + n)) l (allocatedUnits (l .run) (l .list) n u)
-perform (takeRange a n) l = kept (bytes a (a + n)) l (rangeTaken (l .run) (l .list) a n)
-perform (takeTrailing e) l = gave (λ p. bytes p e) l (trailingTaken (l .run) (l .list) e)
+abbrev pub perform : ListCall → LentList → Effect
+perform (call.Free a n) l = kept (bytes a (a + n)) l (freed (l .run) (l .list) a n)
+perform (call.Alloc n) l = gave (λ p. bytes p (p + n)) l (allocated (l .run) (l .list) n)
+perform (call.AllocWholeUnits n u) l = gave (λ p. bytes p (p + n)) l (allocatedUnits (l .run) (l .list) n u)
+perform (call.TakeRange a n) l = kept (bytes a (a + n)) l (rangeTaken (l .run) (l .list) a n)
+perform (call.TakeTrailing e) l = gave (λ p. bytes p e) l (trailingTaken (l .run) (l .list) e)
+
+-- of the bytes that it goes over the first; `free` and `take_range` give nothing out
+abbrev pub givenOut : ListCall → Range → List ℕ
+givenOut (call.Free a n) r = []
+givenOut (call.Alloc n) r = r .start ∷ []
+givenOut (call.AllocWholeUnits n u) r = r .start ∷ []
+givenOut (call.TakeRange a n) r = []
+givenOut (call.TakeTrailing e) r = r .start ∷ []
+
+abbrev pub answeredOutcome : Answered → Outcome (List ℕ)
+answeredOutcome answered.Done = answer []
+answeredOutcome (answered.At p) = answer (p ∷ [])
+answeredOutcome answered.Nothing = nothing
+answeredOutcome (answered.Refused r) = refused r
 
 -- ---- calls in a row on three lists
 
-pub record On : Type 0 where
+pub record CallOn : Type 0 where
   pub list : Which
-  pub what : Call
+  pub what : ListCall
 
-abbrev pub next : On → Lists → Lists
+abbrev pub on : Which → ListCall → CallOn
+on i c = record { list = i; what = c }
+
+abbrev pub next : CallOn → Lists → Lists
 next c ls i = cond (same i (c .list)) (perform (c .what) (ls i) .left) (ls i)
 
-unfoldable pub run : List On → Lists → Lists
+unfoldable pub run : List CallOn → Lists → Lists
 run [] ls = ls
 run (c ∷ cs) ls = run cs (next c ls)
 
 abbrev pub begun : (Which → List ℕ) → Lists
-begun runs i = lst (runs i) (recordOf [])
+begun runs i = listIn (runs i) (recordOf [])
 
 -- ---- the last accepted call over a byte
 
 pub data Last : Type 0 where
   never : Last
-  was : Call → Last
+  was : ListCall → Last
 
 abbrev pub holds : Range → ℕ → Bool
 holds r b = leb (r .start) b && ltb b (r .end)
 
 -- a call that goes over the byte at b; a refusal or Nothing goes over none
-abbrev pub goesOver : Call → Outcome Range → ℕ → Last
+abbrev pub goesOver : ListCall → Outcome Range → ℕ → Last
 goesOver c (answer r) b = cond (holds r b) (was c) never
 goesOver c nothing b = never
 goesOver c (refuse n vs) b = never
@@ -118,25 +130,25 @@ abbrev pub later : Last → Last → Last
 later never x = x
 later (was c) x = was c
 
-unfoldable pub lastOver : Which → ℕ → List On → Lists → Last
+unfoldable pub lastOver : Which → ℕ → List CallOn → Lists → Last
 lastOver i b [] ls = never
 lastOver i b (c ∷ cs) ls =
     later (lastOver i b cs (next c ls)) (cond (same i (c .list)) (goesOver (c .what) (perform (c .what) (ls i) .outcome) b) never)
 
 abbrev pub wasFree : Last → Bool
 wasFree never = false
-wasFree (was (free a n)) = true
-wasFree (was (alloc n)) = false
-wasFree (was (units n u)) = false
-wasFree (was (takeRange a n)) = false
-wasFree (was (takeTrailing e)) = false
+wasFree (was (call.Free a n)) = true
+wasFree (was (call.Alloc n)) = false
+wasFree (was (call.AllocWholeUnits n u)) = false
+wasFree (was (call.TakeRange a n)) = false
+wasFree (was (call.TakeTrailing e)) = false
 
 -- in one of the three lists
-abbrev pub freeByHistory : List On → Lists → ℕ → Bool
-freeByHistory cs ls b = wasFree (lastOver metadata b cs ls) || (wasFree (lastOver raw b cs ls) || wasFree (lastOver unclassified b cs ls))
+abbrev pub freeByHistory : List CallOn → Lists → ℕ → Bool
+freeByHistory cs ls b = wasFree (lastOver Metadata b cs ls) || (wasFree (lastOver Raw b cs ls) || wasFree (lastOver Unclassified b cs ls))
 
 -- any runs, also odd ones, which refuse every call; any calls, also such as are refused or answer Nothing
-pub record ByHistory (runs : Which → List ℕ) (cs : List On) : Type 0 where
+pub record ByHistory (runs : Which → List ℕ) (cs : List CallOn) : Type 0 where
   -- refusal 3's test then fails for an odd run alone
   pub lists : (i : Which) → isList (run cs (begun runs) i .run) (run cs (begun runs) i .list) ≡ eqb (length (runs i) % 2) 0
   pub inOne : (i : Which) (b : ℕ) → Free (regionsOf (run cs (begun runs) i)) b ↔ (wasFree (lastOver i b cs (begun runs)) ≡ true)

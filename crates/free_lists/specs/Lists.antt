@@ -1,13 +1,15 @@
 -- The three lists of a file, and the refusals of lists that are given together. Assumes nothing.
---   Lst, regionsOf   a list: its lent run and its record; its regions
---   lst              the list of a run and a record
---   Which, Lists     the lists of metadata, raw data and unclassified space, and how each of them stands
---   index, same      the number of a list, 0 to 2; two lists are the same one
---   listsOf, three   the same from three lists; by their runs and records
---   areLists         what refusal 3 tests, of all three
---   sharedByte       refusal 5: two of the lists share a byte
---   apart            these refusals, in their order
---   together         `check_lists`: the outcome of testing for these refusals alone
+--   LentList     a list: its lent run and its record
+--   regionsOf    its regions
+--   listIn       the list of a run and a record
+--   Lists        the three lists of a file, by which of them is asked for
+--   index, same  the number of a list, 0 to 2; two lists are the same one
+--   listsOf      three lists from each of them
+--   listsIn      the same by their runs and the three records
+--   areLists     what refusal 3 tests, of all three
+--   sharedByte   refusal 5: two of the lists share a byte
+--   apart        these refusals, in their order
+--   together     `check_lists`: the outcome of testing for these refusals alone
 use Prim.Native.Nat.{ℕ}
 use mathlib.Core.Bool.{Bool, _&&_, _||_, not}
 use mathlib.Core.List.{List, [], _∷_}
@@ -18,52 +20,50 @@ use Rattle.free_regions.specs.declared.FreeRegion.{FreeRegion}
 use Rattle.free_regions.specs.Regions.{shareBytes}
 use Rattle.free_space.specs.declared.list.FreeList.{FreeList}
 use Rattle.free_space.specs.Runs.{regions, isList}
+use Rattle.free_lists.specs.declared.FileLists.{FileLists}
+use Rattle.free_lists.specs.declared.calls.Which.{Which}
+use Rattle.free_lists.specs.declared.calls.Which.the-variants.{Metadata, Raw, Unclassified}
 
-pub record Lst : Type 0 where
+pub record LentList : Type 0 where
   pub run : List ℕ
   pub list : FreeList
 
-abbrev pub lst : List ℕ → FreeList → Lst
-lst xs l = record { run = xs; list = l }
+abbrev pub listIn : List ℕ → FreeList → LentList
+listIn xs l = record { run = xs; list = l }
 
-abbrev pub regionsOf : Lst → List FreeRegion
+abbrev pub regionsOf : LentList → List FreeRegion
 regionsOf l = regions (l .run) (l .list)
 
-pub data Which : Type 0 where
-  metadata : Which
-  raw : Which
-  unclassified : Which
-
 abbrev pub index : Which → ℕ
-index metadata = 0
-index raw = 1
-index unclassified = 2
+index Metadata = 0
+index Raw = 1
+index Unclassified = 2
 
 abbrev pub same : Which → Which → Bool
 same i j = eqb (index i) (index j)
 
 abbrev pub Lists : Type 0
-Lists = Which → Lst
+Lists = Which → LentList
 
-abbrev pub listsOf : Lst → Lst → Lst → Lists
-listsOf m r u metadata = m
-listsOf m r u raw = r
-listsOf m r u unclassified = u
+abbrev pub listsOf : LentList → LentList → LentList → Lists
+listsOf m r u Metadata = m
+listsOf m r u Raw = r
+listsOf m r u Unclassified = u
 
-abbrev pub three : List ℕ → FreeList → List ℕ → FreeList → List ℕ → FreeList → Lists
-three xs k ys l zs m = listsOf (lst xs k) (lst ys l) (lst zs m)
+abbrev pub listsIn : List ℕ → List ℕ → List ℕ → FileLists → Lists
+listsIn xs ys zs f = listsOf (listIn xs (f .metadata)) (listIn ys (f .raw)) (listIn zs (f .unclassified))
 
 -- ---- refusals 3 and 5
 
 abbrev pub areLists : Lists → Bool
 areLists ls =
-    isList (ls metadata .run) (ls metadata .list)
-    && (isList (ls raw .run) (ls raw .list) && isList (ls unclassified .run) (ls unclassified .list))
+    isList (ls Metadata .run) (ls Metadata .list)
+    && (isList (ls Raw .run) (ls Raw .list) && isList (ls Unclassified .run) (ls Unclassified .list))
 
 abbrev pub sharedByte : Lists → Bool
 sharedByte ls =
-    shareBytes (regionsOf (ls metadata)) (regionsOf (ls raw))
-    || (shareBytes (regionsOf (ls metadata)) (regionsOf (ls unclassified)) || shareBytes (regionsOf (ls raw)) (regionsOf (ls unclassified)))
+    shareBytes (regionsOf (ls Metadata)) (regionsOf (ls Raw))
+    || (shareBytes (regionsOf (ls Metadata)) (regionsOf (ls Unclassified)) || shareBytes (regionsOf (ls Raw)) (regionsOf (ls Unclassified)))
 
 abbrev pub apart : Lists → List Condition
 apart ls = when (not (areLists ls)) NotAList ∷ when (sharedByte ls) SharedAddress ∷ []

@@ -11,7 +11,8 @@ use lib.Dec.{leb, ltb}
 use Rattle.error.specs.Outcome.{Outcome, answer, firstOf}
 use Rattle.free_regions.specs.declared.FreeRegion.{FreeRegion}
 use Rattle.free_regions.specs.Regions.{end}
-use Rattle.free_lists.specs.Lists.{regionsOf, metadata, raw, unclassified, Lists, apart}
+use Rattle.free_lists.specs.declared.calls.Which.the-variants.{Metadata, Raw, Unclassified}
+use Rattle.free_lists.specs.Lists.{regionsOf, Lists, apart}
 
 abbrev pub put : FreeRegion → List FreeRegion → List FreeRegion
 put r [] = r ∷ []
@@ -26,7 +27,7 @@ walk start [] = start
 walk start (r ∷ rs) = cond (ltb (end r) start) start (walk (min start (r .addr)) rs)
 
 abbrev pub allRegions : Lists → List FreeRegion
-allRegions ls = regionsOf (ls metadata) ++ (regionsOf (ls raw) ++ regionsOf (ls unclassified))
+allRegions ls = regionsOf (ls Metadata) ++ (regionsOf (ls Raw) ++ regionsOf (ls Unclassified))
 
 unfoldable pub runStart : Lists → ℕ → Outcome ℕ
 runStart ls eof = firstOf (apart ls) (answer (walk eof (falling (allRegions ls))))

@@ -1,7 +1,8 @@
 -- What the contracts of the private functions say. No public contract cites this file. Assumes nothing.
+--   allOf        all regions of three lists, as counts
 --   InOrder      the first n pairs of a run are regions in order, each after the end of the one before with a gap
 --   AllInOrder   the same of three runs
---   counted      three lists of the first regions of each run
+--   listsTo      three lists of the first regions of each run
 --   remaining    the regions that the walk has not come to
 --   height       one above the address of the last of n regions, 0 for none
 --   Next         the walk's next region, and the cursors after it
@@ -16,10 +17,14 @@ use Rattle.free_regions.specs.declared.FreeRegion.{FreeRegion}
 use Rattle.free_regions.specs.Regions.{end, okFrom}
 use Rattle.free_space.specs.Runs.{regionAt, decode}
 use Rattle.free_lists.specs.declared.Cursors.{Cursors}
+use Rattle.free_lists.specs.declared.FileLists.{FileLists}
 use Rattle.free_lists.specs.declared.Reached.{Reached}
 use Rattle.free_lists.specs.declared.Reached.the-variants.{At, Nothing}
-use Rattle.free_lists.specs.Lists.{Lists, three}
+use Rattle.free_lists.specs.Lists.{Lists, listsIn}
 use Rattle.free_lists.specs.Trailing.{falling, allRegions}
+
+abbrev pub allOf : FileLists → Cursors
+allOf f = record { meta = f .metadata .count; raw = f .raw .count; unclassified = f .unclassified .count }
 
 -- ---- regions in order
 
@@ -32,13 +37,14 @@ pub record AllInOrder (xs ys zs : List ℕ) (at : Cursors) : Type 0 where
   pub raw : InOrder ys (at .raw)
   pub unclassified : InOrder zs (at .unclassified)
 
-abbrev pub counted : List ℕ → List ℕ → List ℕ → Cursors → Lists
-counted xs ys zs at = three xs (record { count = at .meta }) ys (record { count = at .raw }) zs (record { count = at .unclassified })
+abbrev pub listsTo : List ℕ → List ℕ → List ℕ → Cursors → Lists
+listsTo xs ys zs at =
+    listsIn xs ys zs (record { metadata = record { count = at .meta }; raw = record { count = at .raw }; unclassified = record { count = at .unclassified } })
 
 -- ---- the walk
 
 abbrev pub remaining : List ℕ → List ℕ → List ℕ → Cursors → List FreeRegion
-remaining xs ys zs at = allRegions (counted xs ys zs at)
+remaining xs ys zs at = allRegions (listsTo xs ys zs at)
 
 abbrev pub height : ℕ → List ℕ → ℕ
 height zero xs = 0

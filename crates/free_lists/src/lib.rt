@@ -1,13 +1,15 @@
-// What is asked of the three lists of a file together.
+// The three lists of a file: what is asked of them together, and the calls on them.
+pub mod calls;
+
 ghost use mathlib.Core.Path.{_≡_};
 ghost use Prim.Native.Nat.{_+_, _*_, _<_, max};
 ghost use lib.ListN.{length};
 ghost use Rattle.error.specs.Answers.{checkedOutcome, numberOutcome};
 ghost use Rattle.free_regions.specs.Regions.{shareBytes};
 ghost use Rattle.free_space.specs.Runs.{regionAt, decode};
-ghost use Rattle.free_lists.specs.Lists.{three, areLists, sharedByte, together};
+ghost use Rattle.free_lists.specs.Lists.{listsIn, areLists, sharedByte, together};
 ghost use Rattle.free_lists.specs.Trailing.{falling, walk, runStart};
-ghost use Rattle.free_lists.specs.Walks.{InOrder, AllInOrder, counted, remaining, height, Onward};
+ghost use Rattle.free_lists.specs.Walks.{InOrder, AllInOrder, listsTo, remaining, height, Onward};
 use error::Checked;
 use error::Number;
 use error::Refusal;
@@ -15,24 +17,24 @@ use free_regions::FreeRegion;
 use free_space::check::is_list;
 use free_space::list::FreeList;
 
+// The records of the three lists of a file. Their runs are lent beside them, in the same order.
+pub struct FileLists {
+    pub metadata: FreeList,
+    pub raw: FreeList,
+    pub unclassified: FreeList,
+}
+
 // Whether all three are lists: refusal 3 alone.
-pub fn are_lists(
-    meta: &[u64],
-    meta_list: FreeList,
-    raw: &[u64],
-    raw_list: FreeList,
-    unclassified: &[u64],
-    unclassified_list: FreeList,
-) -> bool
-    ensures { λ r. ⌜ r ≡ areLists (three (now (meta .entry)) «meta_list» (now (raw .entry)) «raw_list» (now (unclassified .entry)) «unclassified_list») ⌝ }
+pub fn are_lists(meta: &[u64], raw: &[u64], unclassified: &[u64], lists: FileLists) -> bool
+    ensures { λ r. ⌜ r ≡ areLists (listsIn (now (meta .entry)) (now (raw .entry)) (now (unclassified .entry)) lists) ⌝ }
 {
-    if !is_list(meta, meta_list) {
+    if !is_list(meta, lists.metadata) {
         return false;
     }
-    if !is_list(raw, raw_list) {
+    if !is_list(raw, lists.raw) {
         return false;
     }
-    is_list(unclassified, unclassified_list)
+    is_list(unclassified, lists.unclassified)
 }
 
 // The i-th region.
@@ -81,7 +83,7 @@ struct Cursors {
 // Whether two of three lists share a byte.
 fn share_any(meta: &[u64], raw: &[u64], unclassified: &[u64], all: Cursors) -> bool
     requires { ⌜ AllInOrder (now meta) (now raw) (now unclassified) all ⌝ }
-    ensures { λ r. ⌜ r ≡ sharedByte (counted (now (meta .entry)) (now (raw .entry)) (now (unclassified .entry)) all) ⌝ }
+    ensures { λ r. ⌜ r ≡ sharedByte (listsTo (now (meta .entry)) (now (raw .entry)) (now (unclassified .entry)) all) ⌝ }
 {
     if share_two(meta, all.meta, raw, all.raw) {
         return true;
@@ -93,30 +95,16 @@ fn share_any(meta: &[u64], raw: &[u64], unclassified: &[u64], all: Cursors) -> b
 }
 
 // Refusals 3 and 5 of three lists that are given together.
-pub fn check_lists(
-    meta: &[u64],
-    meta_list: FreeList,
-    raw: &[u64],
-    raw_list: FreeList,
-    unclassified: &[u64],
-    unclassified_list: FreeList,
-) -> Checked
-    ensures { λ r. ⌜ checkedOutcome r ≡ together (three (now (meta .entry)) «meta_list» (now (raw .entry)) «raw_list» (now (unclassified .entry)) «unclassified_list») ⌝ }
+pub fn check_lists(meta: &[u64], raw: &[u64], unclassified: &[u64], lists: FileLists) -> Checked
+    ensures { λ r. ⌜ checkedOutcome r ≡ together (listsIn (now (meta .entry)) (now (raw .entry)) (now (unclassified .entry)) lists) ⌝ }
 {
-    if !are_lists(
-        meta,
-        meta_list,
-        raw,
-        raw_list,
-        unclassified,
-        unclassified_list,
-    ) {
+    if !are_lists(meta, raw, unclassified, lists) {
         return Checked::Refused(Refusal::NotAList);
     }
     let all = Cursors {
-        meta: meta_list.count,
-        raw: raw_list.count,
-        unclassified: unclassified_list.count,
+        meta: lists.metadata.count,
+        raw: lists.raw.count,
+        unclassified: lists.unclassified.count,
     };
     if share_any(meta, raw, unclassified, all) {
         return Checked::Refused(Refusal::SharedAddress);
@@ -217,30 +205,21 @@ fn walk_down(meta: &[u64], raw: &[u64], unclassified: &[u64], all: Cursors, eof:
 // The lowest address of the run of free bytes that reaches the end of file, over three lists; `eof` itself where nothing there is free.
 pub fn trailing_run_start(
     meta: &[u64],
-    meta_list: FreeList,
     raw: &[u64],
-    raw_list: FreeList,
     unclassified: &[u64],
-    unclassified_list: FreeList,
+    lists: FileLists,
     eof: u64,
 ) -> Number
-    ensures { λ r. ⌜ numberOutcome r ≡ runStart (three (now (meta .entry)) «meta_list» (now (raw .entry)) «raw_list» (now (unclassified .entry)) «unclassified_list») eof ⌝ }
+    ensures { λ r. ⌜ numberOutcome r ≡ runStart (listsIn (now (meta .entry)) (now (raw .entry)) (now (unclassified .entry)) lists) eof ⌝ }
 {
-    let checked = check_lists(
-        meta,
-        meta_list,
-        raw,
-        raw_list,
-        unclassified,
-        unclassified_list,
-    );
+    let checked = check_lists(meta, raw, unclassified, lists);
     match checked {
         Checked::Refused(r) => Number::Refused(r),
         Checked::Fine => {
             let all = Cursors {
-                meta: meta_list.count,
-                raw: raw_list.count,
-                unclassified: unclassified_list.count,
+                meta: lists.metadata.count,
+                raw: lists.raw.count,
+                unclassified: lists.unclassified.count,
             };
             Number::Is(walk_down(meta, raw, unclassified, all, eof))
         }

@@ -7,18 +7,18 @@ are-lists-requires : tie.Need-are-lists-requires
 are-lists-requires c κs = search needs
 
 returns : tie.Need-returns
-returns c = apart-not _ _ _ _ _ _ (c .before .are-lists .ensures) (c .if1 .taken)
+returns c = apart-not _ _ _ _ (c .before .are-lists .ensures) (c .if1 .taken)
 
 share-any-requires : tie.Need-share-any-requires
-share-any-requires c κs = lists-order _ _ _ _ _ _ (c .before .are-lists .ensures) (c .if1 .left)
+share-any-requires c κs = lists-order _ _ _ _ (c .before .are-lists .ensures) (c .if1 .left)
 
 returns-2 : tie.Need-returns-2
 returns-2 c =
-    apart-shared _ _ _ _ _ _ (c .before .before .before .are-lists .ensures) (c .before .before .if1 .left) (c .before .share-any .ensures) (c .if2 .taken)
+    apart-shared _ _ _ _ (c .before .before .before .are-lists .ensures) (c .before .before .if1 .left) (c .before .share-any .ensures) (c .if2 .taken)
 
 returns-3 : tie.Need-returns-3
 returns-3 c =
-    apart-fine _ _ _ _ _ _ (c .before .before .before .are-lists .ensures) (c .before .before .if1 .left) (c .before .share-any .ensures) (c .if2 .left)
+    apart-fine _ _ _ _ (c .before .before .before .are-lists .ensures) (c .before .before .if1 .left) (c .before .share-any .ensures) (c .if2 .left)
 
 pub check-lists-spec : {M : Type 1} → statement M
 check-lists-spec =

@@ -13,13 +13,13 @@ enum-told : tie.Need-enum-told
 enum-told c = search needs
 
 walk-down-requires : tie.Need-walk-down-requires
-walk-down-requires c κs = fine-order _ _ _ _ _ _ (c .before .before .check-lists .ensures) (c .enum-told .given .1)
+walk-down-requires c κs = fine-order _ _ _ _ (c .before .before .check-lists .ensures) (c .enum-told .given .1)
 
 returns : tie.Need-returns
-returns c = start-refused _ _ _ _ _ _ (c .before .before .before .check-lists .ensures) _ _ (c .before .checked .given .1)
+returns c = start-refused _ _ _ _ (c .before .before .before .check-lists .ensures) _ _ (c .before .checked .given .1)
 
 returns-2 : tie.Need-returns-2
-returns-2 c = start-is _ _ _ _ _ _ (c .before .before .before .check-lists .ensures) _ _ (c .before .enum-told .given .1) (c .walk-down .ensures)
+returns-2 c = start-is _ _ _ _ (c .before .before .before .check-lists .ensures) _ _ (c .before .enum-told .given .1) (c .walk-down .ensures)
 
 pub trailing-run-start-spec : {M : Type 1} → statement M
 trailing-run-start-spec =
