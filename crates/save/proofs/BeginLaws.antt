@@ -20,7 +20,9 @@ use Rattle.error.proofs.OverLaws.{over-nil}
 use Rattle.fields.specs.Ranges.{top}
 use Rattle.free_regions.specs.Regions.{region, meets, shareBytes}
 use Rattle.free_space.specs.Runs.{isList}
-use Rattle.free_lists.specs.Lists.{Lists, Which, regionsOf, metadata, raw, unclassified}
+use Rattle.free_lists.specs.declared.calls.Which.{Which}
+use Rattle.free_lists.specs.declared.calls.Which.the-variants.{Metadata, Raw, Unclassified}
+use Rattle.free_lists.specs.Lists.{Lists, regionsOf}
 use Rattle.fsm_sections.specs.Sections.{space}
 use Rattle.save_step.specs.declared.Save.{Save}
 use Rattle.save_step.specs.Stores.{messageLen}
@@ -35,9 +37,9 @@ pub record Planned (ls : Lists) (page start : ℕ) : Type 0 where
   pub sum2 : space (smallRaw page ls) ≤ top
   pub sum6 : space (large page ls) ≤ top
   pub last : start + blockLen page ls ≤ top
-  pub apart01 : shareBytes (regionsOf (ls metadata)) (regionsOf (ls raw)) ≡ false
-  pub apart02 : shareBytes (regionsOf (ls metadata)) (regionsOf (ls unclassified)) ≡ false
-  pub apart12 : shareBytes (regionsOf (ls raw)) (regionsOf (ls unclassified)) ≡ false
+  pub apart01 : shareBytes (regionsOf (ls Metadata)) (regionsOf (ls Raw)) ≡ false
+  pub apart02 : shareBytes (regionsOf (ls Metadata)) (regionsOf (ls Unclassified)) ≡ false
+  pub apart12 : shareBytes (regionsOf (ls Raw)) (regionsOf (ls Unclassified)) ≡ false
 
 pub record Placed (start place L : ℕ) (image : List ℕ) : Type 0 where
   pub inside : place + messageLen ≤ length image
@@ -62,10 +64,10 @@ module _ (ls : Lists) (page start place : ℕ) (image : List ℕ) (given : ℕ) 
       let t0 = or-false (ltb top (space (small page ls))) _ t in
       let t2 = or-false (ltb top (space (smallRaw page ls))) _ (t0 .1) in
       let t6 = or-false (ltb top (space (large page ls))) _ (t2 .1) in
-      let s0 = or-false (shareBytes (regionsOf (ls metadata)) (regionsOf (ls raw))) _ (h .1 .1 .1 .0) in
-      let s1 = or-false (shareBytes (regionsOf (ls metadata)) (regionsOf (ls unclassified))) _ (s0 .1) in
-      let v0 = and-true (isList (ls metadata .run) (ls metadata .list)) _ (not-false _ (h .1 .0)) in
-      let v1 = and-true (isList (ls raw .run) (ls raw .list)) _ (v0 .1) in
+      let s0 = or-false (shareBytes (regionsOf (ls Metadata)) (regionsOf (ls Raw))) _ (h .1 .1 .1 .0) in
+      let s1 = or-false (shareBytes (regionsOf (ls Metadata)) (regionsOf (ls Unclassified))) _ (s0 .1) in
+      let v0 = and-true (isList (ls Metadata .run) (ls Metadata .list)) _ (not-false _ (h .1 .0)) in
+      let v1 = and-true (isList (ls Raw .run) (ls Raw .list)) _ (v0 .1) in
       record {
         some = let z : page ≡ 0 → ⊥ = eqb-false page 0 (h .0) in omega arith;
         valid = each (v0 .0) (v1 .0) (v1 .1);
@@ -78,11 +80,11 @@ module _ (ls : Lists) (page start place : ℕ) (image : List ℕ) (given : ℕ) 
         apart12 = s1 .1;
       }
     where
-      each : isList (ls metadata .run) (ls metadata .list) ≡ true → isList (ls raw .run) (ls raw .list) ≡ true
-          → isList (ls unclassified .run) (ls unclassified .list) ≡ true → (i : Which) → isList (ls i .run) (ls i .list) ≡ true
-      each a b c metadata = a
-      each a b c raw = b
-      each a b c unclassified = c
+      each : isList (ls Metadata .run) (ls Metadata .list) ≡ true → isList (ls Raw .run) (ls Raw .list) ≡ true
+          → isList (ls Unclassified .run) (ls Unclassified .list) ≡ true → (i : Which) → isList (ls i .run) (ls i .list) ≡ true
+      each a b c Metadata = a
+      each a b c Raw = b
+      each a b c Unclassified = c
 
   placed : Placed start place L image
   placed =

@@ -14,8 +14,11 @@ use Rattle.checksum.specs.Lookup3.{lookup3}
 use Rattle.free_regions.specs.Regions.{region}
 use Rattle.free_space.specs.Runs.{isList, stored}
 use Rattle.free_space.specs.Calls.{freed}
-use Rattle.free_lists.specs.Lists.{Which, metadata, raw, unclassified, Lists, regionsOf}
-use Rattle.free_lists.specs.History.{free, On, run, begun as begunEmpty}
+use Rattle.free_lists.specs.declared.calls.Which.{Which}
+use Rattle.free_lists.specs.declared.calls.Which.the-variants.{Metadata, Raw, Unclassified}
+use Rattle.free_lists.specs.Lists.{Lists, regionsOf}
+use Rattle.free_lists.specs.declared.calls.ListCall.the-variants.{Free}
+use Rattle.free_lists.specs.History.{CallOn, run, begun as begunEmpty}
 use Rattle.fsm_sections.specs.declared.FreeSection.{FreeSection}
 use Rattle.fsm_sections.specs.Sections.{section, space, ofSize, distinct, insert, bySizeThenAddr}
 use Rattle.fsm_sections.specs.Pages.{piecesFrom, pieces, split, belowPage, fromPage}
@@ -30,17 +33,17 @@ use Rattle.save.proofs.PlanLaws.{length-blocks}
 use Rattle.save.proofs.Demand3.{demand3}
 
 runs : Which → List ℕ
-runs metadata = 7 ∷ 7 ∷ 7 ∷ 7 ∷ []
-runs raw = []
-runs unclassified = []
+runs Metadata = 7 ∷ 7 ∷ 7 ∷ 7 ∷ []
+runs Raw = []
+runs Unclassified = []
 
-calls : List On
-calls = record { list = metadata; what = free 4000 5000 } ∷ []
+calls : List CallOn
+calls = record { list = Metadata; what = Free 4000 5000 } ∷ []
 
 abbrev lists : Lists
 lists = run calls (begunEmpty runs)
 
-m9-list : regionsOf (lists metadata) ≡ region 4000 5000 ∷ []
+m9-list : regionsOf (lists Metadata) ≡ region 4000 5000 ∷ []
 unfolding run calls runs freed firstOf isList stored
 m9-list = refl
 

@@ -18,8 +18,10 @@ use Rattle.free_regions.specs.Regions.{Free}
 use Rattle.free_regions.proofs.OkLaws.{Within, ok-prop}
 use Rattle.free_space.specs.Runs.{isList}
 use Rattle.free_space.proofs.ListLaws.{listed}
-use Rattle.free_lists.specs.Lists.{Lst, Which, metadata, raw, unclassified, Lists, regionsOf}
-use Rattle.free_lists.specs.History.{On, run, begun as begunEmpty, lastOver, wasFree, freeByHistory}
+use Rattle.free_lists.specs.declared.calls.Which.{Which}
+use Rattle.free_lists.specs.declared.calls.Which.the-variants.{Metadata, Raw, Unclassified}
+use Rattle.free_lists.specs.Lists.{LentList, Lists, regionsOf}
+use Rattle.free_lists.specs.History.{CallOn, run, begun as begunEmpty, lastOver, wasFree, freeByHistory}
 use Rattle.free_lists.proofs.HistoryLaws.{history}
 use Rattle.fsm_sections.specs.declared.FreeSection.{FreeSection}
 use Rattle.fsm_sections.specs.Sections.{bySizeThenAddr, flat, All}
@@ -74,12 +76,12 @@ module _ (page : ℕ) (ls : Lists) where
   slots-counted = refl
 
 -- the regions of a list that passes refusal 3's test stand in order
-in-order : (l : Lst) → isList (l .run) (l .list) ≡ true → Within 0 top (regionsOf l)
+in-order : (l : LentList) → isList (l .run) (l .list) ≡ true → Within 0 top (regionsOf l)
 in-order l e = ok-prop 0 (regionsOf l) .0 (listed (l .run) (l .list) e .ok)
 
 -- ---- the addresses
 
-module _ (runs : Which → List ℕ) (calls : List On) (page start : ℕ) (planned : Planned (run calls (begunEmpty runs)) page start) where
+module _ (runs : Which → List ℕ) (calls : List CallOn) (page start : ℕ) (planned : Planned (run calls (begunEmpty runs)) page start) where
   abbrev lists : Lists
   lists = run calls (begunEmpty runs)
 
@@ -94,9 +96,9 @@ module _ (runs : Which → List ℕ) (calls : List On) (page start : ℕ) (plann
 
   pub held-once : (b : ℕ) → holding b (foundIn (inSlot 0 (S page lists) ++ (inSlot 2 (R page lists) ++ inSlot 6 (G page lists)))) ≡ cond (freeByHistory calls (begunEmpty runs) b) 1 0
   held-once b =
-      let M : List FreeSection = sectionsOf (lists metadata) in
-      let W : List FreeSection = sectionsOf (lists raw) in
-      let U : List FreeSection = sectionsOf (lists unclassified) in
+      let M : List FreeSection = sectionsOf (lists Metadata) in
+      let W : List FreeSection = sectionsOf (lists Raw) in
+      let U : List FreeSection = sectionsOf (lists Unclassified) in
       let all : holding b (foundIn (inSlot 0 (S page lists) ++ (inSlot 2 (R page lists) ++ inSlot 6 (G page lists)))) ≡ holding b M + (holding b W + holding b U) =
       ap (λ (r : List Listed). holding b (foundIn (inSlot 0 (S page lists) ++ (inSlot 2 (R page lists) ++ r)))) (sym (append-nil (inSlot 6 (G page lists))))
       ∙ omega (
@@ -111,15 +113,15 @@ module _ (runs : Which → List ℕ) (calls : List On) (page start : ℕ) (plann
         slots-hold page M W U b (planned .some),
       ) in
       all
-      ∙ ap₂ (λ (m n : ℕ). m + n) (held-in metadata b) (ap₂ (λ (m n : ℕ). m + n) (held-in raw b) (held-in unclassified b))
-      ∙ one-of (was metadata b) (was raw b) (was unclassified b)
-      (λ p q. in-both (regionsOf (lists metadata)) (regionsOf (lists raw)) b (planned .apart01) (free-in metadata b p) (free-in raw b q))
-      (λ p q. in-both (regionsOf (lists metadata)) (regionsOf (lists unclassified)) b (planned .apart02) (free-in metadata b p) (free-in unclassified b q))
-      (λ p q. in-both (regionsOf (lists raw)) (regionsOf (lists unclassified)) b (planned .apart12) (free-in raw b p) (free-in unclassified b q))
+      ∙ ap₂ (λ (m n : ℕ). m + n) (held-in Metadata b) (ap₂ (λ (m n : ℕ). m + n) (held-in Raw b) (held-in Unclassified b))
+      ∙ one-of (was Metadata b) (was Raw b) (was Unclassified b)
+      (λ p q. in-both (regionsOf (lists Metadata)) (regionsOf (lists Raw)) b (planned .apart01) (free-in Metadata b p) (free-in Raw b q))
+      (λ p q. in-both (regionsOf (lists Metadata)) (regionsOf (lists Unclassified)) b (planned .apart02) (free-in Metadata b p) (free-in Unclassified b q))
+      (λ p q. in-both (regionsOf (lists Raw)) (regionsOf (lists Unclassified)) b (planned .apart12) (free-in Raw b p) (free-in Unclassified b q))
 
 -- ---- the save
 
-module _ (runs : Which → List ℕ) (calls : List On) (page start place : ℕ) (image scratch : List ℕ) (save : Save) (lent : List ℕ) (p64 : page < 2 ^ 64) (s64 : start < 2 ^ 64)
+module _ (runs : Which → List ℕ) (calls : List CallOn) (page start place : ℕ) (image scratch : List ℕ) (save : Save) (lent : List ℕ) (p64 : page < 2 ^ 64) (s64 : start < 2 ^ 64)
     (a : Accepted (run calls (begunEmpty runs)) page start place image scratch save lent) where
   abbrev ls : Lists
   ls = run calls (begunEmpty runs)

@@ -19,7 +19,8 @@ use Rattle.error.proofs.OverLaws.{length-over}
 use Rattle.fields.specs.Ranges.{top}
 use Rattle.free_space.specs.declared.list.FreeList.{FreeList}
 use Rattle.free_space.specs.Runs.{isList}
-use Rattle.free_lists.specs.Lists.{Lists, three}
+use Rattle.free_lists.specs.declared.FileLists.{FileLists}
+use Rattle.free_lists.specs.Lists.{Lists, listsIn}
 use Rattle.fsm_sections.specs.declared.FreeSection.{FreeSection}
 use Rattle.fsm_sections.specs.Sections.{space}
 use Rattle.fsm_writer.specs.declared.slots.Slot.{Slot}
@@ -135,10 +136,10 @@ slot-fits slot xs k ys l zs m page start at given some f g h s e a b c =
 behind : (u v d d₁ d₂ : List ℕ) (n : ℕ) → d₁ ≡ over 0 u d → n ≡ length u → d₂ ≡ over n v d₁ → d₂ ≡ over 0 (u ++ v) d
 behind u v d d₁ d₂ n e h g = g ∙ ap₂ (λ (i : ℕ) (q : List ℕ). over i v q) h e ∙ over-behind u v d
 
-module _ (xs : List ℕ) (k : FreeList) (ys : List ℕ) (l : FreeList) (zs : List ℕ) (m : FreeList) (page start : ℕ) (o : Offsets) (d : List ℕ)
-    (f : ScratchFits (three xs k ys l zs m) page start o (length d)) where
+module _ (xs ys zs : List ℕ) (f : FileLists) (page start : ℕ) (o : Offsets) (d : List ℕ)
+    (g : ScratchFits (listsIn xs ys zs f) page start o (length d)) where
   abbrev ls : Lists
-  ls = three xs k ys l zs m
+  ls = listsIn xs ys zs f
 
   abbrev x : ℕ
   x = blocksSize 8 (small page ls)
@@ -150,50 +151,50 @@ module _ (xs : List ℕ) (k : FreeList) (ys : List ℕ) (l : FreeList) (zs : Lis
   z = blocksSize 8 (large page ls)
 
   raw-at : o .raw ≡ x
-  raw-at = ap (λ (q : Offsets). q .raw) (f .offsets)
+  raw-at = ap (λ (q : Offsets). q .raw) (g .offsets)
 
   large-at : o .large ≡ x + y
-  large-at = ap (λ (q : Offsets). q .large) (f .offsets)
+  large-at = ap (λ (q : Offsets). q .large) (g .offsets)
 
   len-at : o .len ≡ x + y + z
-  len-at = ap (λ (q : Offsets). q .len) (f .offsets)
+  len-at = ap (λ (q : Offsets). q .len) (g .offsets)
 
   last : start + (x + y + z) ≤ top
-  last = let q = sums page start ls (f .fits) .last in omega (arith, total page ls)
+  last = let q = sums page start ls (g .fits) .last in omega (arith, total page ls)
 
-  pub first-fits : SlotFits Small xs (k .count) xs (k .count) xs (k .count) page start 0 (length d)
+  pub first-fits : SlotFits Small xs (f .metadata .count) xs (f .metadata .count) xs (f .metadata .count) page start 0 (length d)
   first-fits =
-      let v = each-list xs k ys l zs m (f .lists) .0 in
-      slot-fits Small xs k xs k xs k page start 0 (length d) (f .some) v v v (small page ls) (small-is xs k ys l zs m page)
-      (sums page start ls (f .fits) .sum0) (omega (arith, last)) (omega (arith, f .room, len-at))
+      let v = each-list xs ys zs f (g .lists) .0 in
+      slot-fits Small xs (f .metadata) xs (f .metadata) xs (f .metadata) page start 0 (length d) (g .some) v v v (small page ls) (small-is xs ys zs f page)
+      (sums page start ls (g .fits) .sum0) (omega (arith, last)) (omega (arith, g .room, len-at))
 
-  module _ (d₁ : List ℕ) (e₁ : d₁ ≡ over 0 (slotBytes (start + 0) 1 (slotIn Small xs (k .count) xs (k .count) xs (k .count) page)) d) where
+  module _ (d₁ : List ℕ) (e₁ : d₁ ≡ over 0 (slotBytes (start + 0) 1 (slotIn Small xs (f .metadata .count) xs (f .metadata .count) xs (f .metadata .count) page)) d) where
     long₁ : length d₁ ≡ length d
     long₁ = ap length e₁ ∙ length-over 0 _ d
 
-    pub second-fits : SlotFits Small ys (l .count) ys (l .count) ys (l .count) page start (o .raw) (length d₁)
+    pub second-fits : SlotFits Small ys (f .raw .count) ys (f .raw .count) ys (f .raw .count) page start (o .raw) (length d₁)
     second-fits =
-        let v = each-list xs k ys l zs m (f .lists) .1 in
-        slot-fits Small ys l ys l ys l page start (o .raw) (length d₁) (f .some) v v v (smallRaw page ls) (raw-is xs k ys l zs m page)
-        (sums page start ls (f .fits) .sum2) (omega (arith, last, raw-at)) (omega (arith, f .room, raw-at, len-at, long₁))
+        let v = each-list xs ys zs f (g .lists) .1 in
+        slot-fits Small ys (f .raw) ys (f .raw) ys (f .raw) page start (o .raw) (length d₁) (g .some) v v v (smallRaw page ls) (raw-is xs ys zs f page)
+        (sums page start ls (g .fits) .sum2) (omega (arith, last, raw-at)) (omega (arith, g .room, raw-at, len-at, long₁))
 
-    module _ (d₂ : List ℕ) (e₂ : d₂ ≡ over (o .raw) (slotBytes (start + o .raw) 1 (slotIn Small ys (l .count) ys (l .count) ys (l .count) page)) d₁) where
+    module _ (d₂ : List ℕ) (e₂ : d₂ ≡ over (o .raw) (slotBytes (start + o .raw) 1 (slotIn Small ys (f .raw .count) ys (f .raw .count) ys (f .raw .count) page)) d₁) where
       long₂ : length d₂ ≡ length d
       long₂ = ap length e₂ ∙ length-over (o .raw) _ d₁ ∙ long₁
 
-      pub third-fits : SlotFits Large xs (k .count) ys (l .count) zs (m .count) page start (o .large) (length d₂)
+      pub third-fits : SlotFits Large xs (f .metadata .count) ys (f .raw .count) zs (f .unclassified .count) page start (o .large) (length d₂)
       third-fits =
-          let v = each-list xs k ys l zs m (f .lists) in
-          slot-fits Large xs k ys l zs m page start (o .large) (length d₂) (f .some) (v .0) (v .1) (v .2) (large page ls) (large-is xs k ys l zs m page)
-          (sums page start ls (f .fits) .sum6) (omega (arith, last, large-at)) (omega (arith, f .room, large-at, len-at, long₂))
+          let v = each-list xs ys zs f (g .lists) in
+          slot-fits Large xs (f .metadata) ys (f .raw) zs (f .unclassified) page start (o .large) (length d₂) (g .some) (v .0) (v .1) (v .2) (large page ls) (large-is xs ys zs f page)
+          (sums page start ls (g .fits) .sum6) (omega (arith, last, large-at)) (omega (arith, g .room, large-at, len-at, long₂))
 
-      module _ (d₃ : List ℕ) (e₃ : d₃ ≡ over (o .large) (slotBytes (start + o .large) 2 (slotIn Large xs (k .count) ys (l .count) zs (m .count) page)) d₂) where
+      module _ (d₃ : List ℕ) (e₃ : d₃ ≡ over (o .large) (slotBytes (start + o .large) 2 (slotIn Large xs (f .metadata .count) ys (f .raw .count) zs (f .unclassified .count) page)) d₂) where
         long₃ : length d₃ ≡ length d
         long₃ = ap length e₃ ∙ length-over (o .large) _ d₂ ∙ long₂
 
         pub message-asks : ((o .raw ≤ o .large) × (o .large ≤ o .len)) × ((start + o .len ≤ top) × (o .len + 125 ≤ length d₃))
         message-asks =
-            ((omega (arith, raw-at, large-at), omega (arith, large-at, len-at)), (omega (arith, last, len-at), omega (arith, f .room, long₃)))
+            ((omega (arith, raw-at, large-at), omega (arith, large-at, len-at)), (omega (arith, last, len-at), omega (arith, g .room, long₃)))
 
         pub all-put : (d₄ : List ℕ) → d₄ ≡ over (o .len) (messageBy page start o) d₃ → d₄ ≡ over 0 (blockBytes page start ls ++ messageOf page start ls) d
         all-put d₄ e₄ =
@@ -205,24 +206,24 @@ module _ (xs : List ℕ) (k : FreeList) (ys : List ℕ) (l : FreeList) (zs : Lis
             let n6 : length b6 ≡ z = length-bytes 2 (large page ls) (start + (x + y)) in
             let m2 : length (b0 ++ b2) ≡ x + y = length-append b0 b2 ∙ ap₂ (λ (i j : ℕ). i + j) n0 n2 in
             let m6 : length ((b0 ++ b2) ++ b6) ≡ x + y + z = length-append (b0 ++ b2) b6 ∙ ap₂ (λ (i j : ℕ). i + j) m2 n6 in
-            let p1 : d₁ ≡ over 0 b0 d = e₁ ∙ ap₂ (λ (a : ℕ) (s : List FreeSection). over 0 (slotBytes a 1 s) d) (add-zero start) (small-is xs k ys l zs m page) in
+            let p1 : d₁ ≡ over 0 b0 d = e₁ ∙ ap₂ (λ (a : ℕ) (s : List FreeSection). over 0 (slotBytes a 1 s) d) (add-zero start) (small-is xs ys zs f page) in
             let p2 : d₂ ≡ over 0 (b0 ++ b2) d =
             behind b0 b2 d d₁ d₂ (o .raw) p1 (raw-at ∙ sym n0)
-            (e₂ ∙ ap₂ (λ (a : ℕ) (s : List FreeSection). over (o .raw) (slotBytes (start + a) 1 s) d₁) raw-at (raw-is xs k ys l zs m page)) in
+            (e₂ ∙ ap₂ (λ (a : ℕ) (s : List FreeSection). over (o .raw) (slotBytes (start + a) 1 s) d₁) raw-at (raw-is xs ys zs f page)) in
             let p3 : d₃ ≡ over 0 ((b0 ++ b2) ++ b6) d =
             behind (b0 ++ b2) b6 d d₂ d₃ (o .large) p2 (large-at ∙ sym m2)
-            (e₃ ∙ ap₂ (λ (a : ℕ) (s : List FreeSection). over (o .large) (slotBytes (start + a) 2 s) d₂) large-at (large-is xs k ys l zs m page)) in
+            (e₃ ∙ ap₂ (λ (a : ℕ) (s : List FreeSection). over (o .large) (slotBytes (start + a) 2 s) d₂) large-at (large-is xs ys zs f page)) in
             let message : messageBy page start o ≡ messageOf page start ls =
-            ap (λ (s : List ℕ). messageBytes 8 8 (made true strategy.Page 1 page start) s) (ap (slotsAt start) (f .offsets) ∙ sym (slots-are page ls start)) in
+            ap (λ (s : List ℕ). messageBytes 8 8 (made true strategy.Page 1 page start) s) (ap (slotsAt start) (g .offsets) ∙ sym (slots-are page ls start)) in
             behind ((b0 ++ b2) ++ b6) (messageBy page start o) d d₃ d₄ (o .len) p3 (len-at ∙ sym m6) e₄
             ∙ ap₂ (λ (u v : List ℕ). over 0 (u ++ v) d) (sym (blocks-are page ls start)) message
 
 -- ---- the beginning
 
-module _ (xs : List ℕ) (k : FreeList) (ys : List ℕ) (l : FreeList) (zs : List ℕ) (m : FreeList) (page start place : ℕ) (image scratch : List ℕ)
-    (c : Tested) (ce : testedOutcome c ≡ firstOf (conditions (three xs k ys l zs m) page start place image (length scratch)) (answer (offsetsOf page (three xs k ys l zs m)))) where
+module _ (xs ys zs : List ℕ) (f : FileLists) (page start place : ℕ) (image scratch : List ℕ)
+    (c : Tested) (ce : testedOutcome c ≡ firstOf (conditions (listsIn xs ys zs f) page start place image (length scratch)) (answer (offsetsOf page (listsIn xs ys zs f)))) where
   abbrev all : Lists
-  all = three xs k ys l zs m
+  all = listsIn xs ys zs f
 
   pub begun-refused : (r : Refusal) → c ≡ code.Refused r → left (refused r) scratch ≡ leaving scratch (begun all page start place image scratch)
   unfolding begun

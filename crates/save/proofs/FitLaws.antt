@@ -15,7 +15,9 @@ use Rattle.fields.specs.Width.{encSize, leastFrom}
 use Rattle.free_regions.specs.declared.FreeRegion.{FreeRegion}
 use Rattle.free_regions.specs.Regions.{end as endOf}
 use Rattle.free_regions.proofs.OkLaws.{Within}
-use Rattle.free_lists.specs.Lists.{Lists, Which, metadata, raw, unclassified}
+use Rattle.free_lists.specs.declared.calls.Which.{Which}
+use Rattle.free_lists.specs.declared.calls.Which.the-variants.{Metadata, Raw, Unclassified}
+use Rattle.free_lists.specs.Lists.{Lists}
 use Rattle.fsm_sections.specs.declared.FreeSection.{FreeSection}
 use Rattle.fsm_sections.specs.Sections.{section, space, All}
 use Rattle.fsm_sections.specs.Pages.{end, cutAt, piecesFrom, pieces, split, belowPage, fromPage}
@@ -119,20 +121,20 @@ slots-fit (m ∷ ms) a h = (fit (eqb (length (m .sections)) 0), slots-fit ms (a 
 
 module _ (page : ℕ) (ls : Lists) (ends : (i : Which) → All (Ends top) (sectionsOf (ls i))) where
   abbrev M : List FreeSection
-  M = sectionsOf (ls metadata)
+  M = sectionsOf (ls Metadata)
 
   abbrev R : List FreeSection
-  R = sectionsOf (ls raw)
+  R = sectionsOf (ls Raw)
 
   abbrev U : List FreeSection
-  U = sectionsOf (ls unclassified)
+  U = sectionsOf (ls Unclassified)
 
   pub small-plan : space (small page ls) ≤ top → space (smallRaw page ls) ≤ top → space (large page ls) ≤ top → All Small (plan page ls)
   unfolding space
   small-plan a b c =
-      let m : All (Ends top) (split page M) = split-end page top M (ends metadata) in
-      let r : All (Ends top) (split page R) = split-end page top R (ends raw) in
-      let u : All (Ends top) (fromPage page (split page R) ++ U) = all-append (Ends top) (fromPage page (split page R)) U (from-all (Ends top) page (split page R) r) (ends unclassified) in
+      let m : All (Ends top) (split page M) = split-end page top M (ends Metadata) in
+      let r : All (Ends top) (split page R) = split-end page top R (ends Raw) in
+      let u : All (Ends top) (fromPage page (split page R) ++ U) = all-append (Ends top) (fromPage page (split page R)) U (from-all (Ends top) page (split page R) r) (ends Unclassified) in
       let g : All (Ends top) (large page ls) = all-append (Ends top) (fromPage page (split page M)) (fromPage page (split page R) ++ U) (from-all (Ends top) page (split page M) m) u in
       let s0 = below-all (Ends top) page (split page M) m in
       let s2 = below-all (Ends top) page (split page R) r in

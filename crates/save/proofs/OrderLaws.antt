@@ -15,8 +15,8 @@ use Rattle.error.specs.Answers.{checkedOutcome}
 use Rattle.error.specs.Outcome.{Outcome, answer, refused, Condition, when, firstOf}
 use Rattle.error.proofs.OutcomeLaws.{NoneHolds, first-none, first-holds, first-passes, first-pass, first-answers, first-append, first-refuses}
 use Rattle.fields.specs.Ranges.{top}
-use Rattle.free_space.specs.declared.list.FreeList.{FreeList}
-use Rattle.free_lists.specs.Lists.{together, Lists, three, areLists, sharedByte}
+use Rattle.free_lists.specs.declared.FileLists.{FileLists}
+use Rattle.free_lists.specs.Lists.{together, Lists, listsIn, areLists, sharedByte}
 use Rattle.save_step.specs.Stores.{messageLen}
 use Rattle.save.specs.declared.tests.Offsets.{Offsets}
 use Rattle.save.specs.declared.tests.Tested.{Tested}
@@ -120,10 +120,10 @@ module _ (ls : Lists) (L start place : ℕ) (image : List ℕ) (given : ℕ) whe
 
 -- ---- refusal 5, once refusal 3 is past
 
-module _ (xs : List ℕ) (k : FreeList) (ys : List ℕ) (l : FreeList) (zs : List ℕ) (m : FreeList) (lists : areLists (three xs k ys l zs m) ≡ true)
-    (c : Checked) (e : checkedOutcome c ≡ together (three xs k ys l zs m)) (cs : List Condition) where
+module _ (xs ys zs : List ℕ) (f : FileLists) (lists : areLists (listsIn xs ys zs f) ≡ true)
+    (c : Checked) (e : checkedOutcome c ≡ together (listsIn xs ys zs f)) (cs : List Condition) where
   abbrev share : Condition
-  share = when (sharedByte (three xs k ys l zs m)) SharedAddress
+  share = when (sharedByte (listsIn xs ys zs f)) SharedAddress
 
   shared-only : checkedOutcome c ≡ firstOf (share ∷ []) (answer tt)
   shared-only = e ∙ first-passes _ NotAList _ _ (ap not lists)
@@ -139,9 +139,9 @@ module _ (xs : List ℕ) (k : FreeList) (ys : List ℕ) (l : FreeList) (zs : Lis
 
 -- ---- all tests
 
-module _ (xs : List ℕ) (k : FreeList) (ys : List ℕ) (l : FreeList) (zs : List ℕ) (m : FreeList) (page start place : ℕ) (image : List ℕ) (given : ℕ) where
+module _ (xs ys zs : List ℕ) (f : FileLists) (page start place : ℕ) (image : List ℕ) (given : ℕ) where
   abbrev lists3 : Lists
-  lists3 = three xs k ys l zs m
+  lists3 = listsIn xs ys zs f
 
   abbrev late : ℕ → List Condition
   late L = lateTests lists3 L start place image given

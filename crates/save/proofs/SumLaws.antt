@@ -17,9 +17,9 @@ use Rattle.error.specs.Outcome.{Outcome, answer, refused, when, firstOf}
 use Rattle.error.proofs.TestLaws.{and-true, or-false}
 use Rattle.error.proofs.OutcomeLaws.{refuses, passes}
 use Rattle.fields.specs.Ranges.{top}
-use Rattle.free_space.specs.declared.list.FreeList.{FreeList}
 use Rattle.free_space.specs.Runs.{isList}
-use Rattle.free_lists.specs.Lists.{Lists, three, areLists}
+use Rattle.free_lists.specs.declared.FileLists.{FileLists}
+use Rattle.free_lists.specs.Lists.{Lists, listsIn, areLists}
 use Rattle.fsm_sections.specs.declared.FreeSection.{FreeSection}
 use Rattle.fsm_sections.specs.Sections.{space}
 use Rattle.fsm_writer.specs.declared.slots.Slot.the-variants.{Small, Large}
@@ -100,41 +100,41 @@ module _ (page start : ℕ) (ls : Lists) where
       }
 
 -- three lists that pass refusal 3's test, each by itself
-pub each-list : (xs : List ℕ) (k : FreeList) (ys : List ℕ) (l : FreeList) (zs : List ℕ) (m : FreeList) → areLists (three xs k ys l zs m) ≡ true
-    → (isList xs k ≡ true) × (isList ys l ≡ true) × (isList zs m ≡ true)
-each-list xs k ys l zs m e =
-    let p = and-true (isList xs k) (isList ys l && isList zs m) e in
-    let q = and-true (isList ys l) (isList zs m) (p .1) in
+pub each-list : (xs ys zs : List ℕ) (f : FileLists) → areLists (listsIn xs ys zs f) ≡ true
+    → (isList xs (f .metadata) ≡ true) × (isList ys (f .raw) ≡ true) × (isList zs (f .unclassified) ≡ true)
+each-list xs ys zs f e =
+    let p = and-true (isList xs (f .metadata)) _ e in
+    let q = and-true (isList ys (f .raw)) (isList zs (f .unclassified)) (p .1) in
     (p .0, q .0, q .1)
 
-module _ (xs : List ℕ) (k : FreeList) (ys : List ℕ) (l : FreeList) (zs : List ℕ) (m : FreeList) (page start : ℕ) (some : 0 < page)
-    (lists : areLists (three xs k ys l zs m) ≡ true) where
+module _ (xs ys zs : List ℕ) (f : FileLists) (page start : ℕ) (some : 0 < page)
+    (lists : areLists (listsIn xs ys zs f) ≡ true) where
   abbrev ls : Lists
-  ls = three xs k ys l zs m
+  ls = listsIn xs ys zs f
 
   abbrev W : Outcome Offsets
   W = firstOf (when (tooLarge page start ls) Overflow ∷ []) (answer (offsetsOf page ls))
 
-  first-len : slotLen Small xs (k .count) xs (k .count) xs (k .count) page 8 ≡ lenOf 8 (small page ls)
-  first-len = let v = each-list xs k ys l zs m lists .0 in length-is Small xs k xs k xs k page some v v v ∙ ap (lenOf 8) (small-is xs k ys l zs m page)
+  first-len : slotLen Small xs (f .metadata .count) xs (f .metadata .count) xs (f .metadata .count) page 8 ≡ lenOf 8 (small page ls)
+  first-len = let v = each-list xs ys zs f lists .0 in length-is Small xs (f .metadata) xs (f .metadata) xs (f .metadata) page some v v v ∙ ap (lenOf 8) (small-is xs ys zs f page)
 
-  second-len : slotLen Small ys (l .count) ys (l .count) ys (l .count) page 8 ≡ lenOf 8 (smallRaw page ls)
-  second-len = let v = each-list xs k ys l zs m lists .1 in length-is Small ys l ys l ys l page some v v v ∙ ap (lenOf 8) (raw-is xs k ys l zs m page)
+  second-len : slotLen Small ys (f .raw .count) ys (f .raw .count) ys (f .raw .count) page 8 ≡ lenOf 8 (smallRaw page ls)
+  second-len = let v = each-list xs ys zs f lists .1 in length-is Small ys (f .raw) ys (f .raw) ys (f .raw) page some v v v ∙ ap (lenOf 8) (raw-is xs ys zs f page)
 
-  third-len : slotLen Large xs (k .count) ys (l .count) zs (m .count) page 8 ≡ lenOf 8 (large page ls)
+  third-len : slotLen Large xs (f .metadata .count) ys (f .raw .count) zs (f .unclassified .count) page 8 ≡ lenOf 8 (large page ls)
   third-len =
-      let v = each-list xs k ys l zs m lists in
-      length-is Large xs k ys l zs m page some (v .0) (v .1) (v .2) ∙ ap (lenOf 8) (large-is xs k ys l zs m page)
+      let v = each-list xs ys zs f lists in
+      length-is Large xs (f .metadata) ys (f .raw) zs (f .unclassified) page some (v .0) (v .1) (v .2) ∙ ap (lenOf 8) (large-is xs ys zs f page)
 
-  module _ (c : Number) (ce : numberOutcome c ≡ slotLen Small xs (k .count) xs (k .count) xs (k .count) page 8) where
+  module _ (c : Number) (ce : numberOutcome c ≡ slotLen Small xs (f .metadata .count) xs (f .metadata .count) xs (f .metadata .count) page 8) where
     pub first-refused : (r : Refusal) → c ≡ number.Refused r → refused Overflow ≡ W
     first-refused r h = refuses _ Overflow _ (first-over page start ls (len-over c (small page ls) (ce ∙ first-len) r h))
 
-    module _ (x : ℕ) (cx : c ≡ number.Is x) (d : Number) (de : numberOutcome d ≡ slotLen Small ys (l .count) ys (l .count) ys (l .count) page 8) where
+    module _ (x : ℕ) (cx : c ≡ number.Is x) (d : Number) (de : numberOutcome d ≡ slotLen Small ys (f .raw .count) ys (f .raw .count) ys (f .raw .count) page 8) where
       pub second-refused : (r : Refusal) → d ≡ number.Refused r → refused Overflow ≡ W
       second-refused r h = refuses _ Overflow _ (second-over page start ls (len-over d (smallRaw page ls) (de ∙ second-len) r h))
 
-      module _ (y : ℕ) (dy : d ≡ number.Is y) (e : Number) (ee : numberOutcome e ≡ slotLen Large xs (k .count) ys (l .count) zs (m .count) page 8) where
+      module _ (y : ℕ) (dy : d ≡ number.Is y) (e : Number) (ee : numberOutcome e ≡ slotLen Large xs (f .metadata .count) ys (f .raw .count) zs (f .unclassified .count) page 8) where
         pub third-refused : (r : Refusal) → e ≡ number.Refused r → refused Overflow ≡ W
         third-refused r h = refuses _ Overflow _ (third-over page start ls (len-over e (large page ls) (ee ∙ third-len) r h))
 

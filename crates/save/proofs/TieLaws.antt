@@ -23,7 +23,8 @@ use Rattle.free_regions.proofs.OkLaws.{ok-prop}
 use Rattle.free_space.specs.declared.list.FreeList.{FreeList}
 use Rattle.free_space.specs.Runs.{isList, decode as regionsIn}
 use Rattle.free_space.proofs.ListLaws.{listed}
-use Rattle.free_lists.specs.Lists.{Lists, three}
+use Rattle.free_lists.specs.declared.FileLists.{FileLists}
+use Rattle.free_lists.specs.Lists.{Lists, listsIn}
 use Rattle.fsm_sections.specs.declared.FreeSection.{FreeSection}
 use Rattle.fsm_sections.specs.Sections.{section, decode, space, All}
 use Rattle.fsm_sections.specs.Pages.{end, slot0, slot6}
@@ -175,15 +176,15 @@ module _ (page : ℕ) (ls : Lists) where
 
 -- ---- the plan's sections by the runs
 
-module _ (xs : List ℕ) (k : FreeList) (ys : List ℕ) (l : FreeList) (zs : List ℕ) (m : FreeList) (page : ℕ) where
+module _ (xs ys zs : List ℕ) (f : FileLists) (page : ℕ) where
   abbrev ls : Lists
-  ls = three xs k ys l zs m
+  ls = listsIn xs ys zs f
 
-  pub small-is : slotIn Small xs (k .count) xs (k .count) xs (k .count) page ≡ small page ls
-  small-is = ap (slot0 page) (decode-sections (k .count) xs)
+  pub small-is : slotIn Small xs (f .metadata .count) xs (f .metadata .count) xs (f .metadata .count) page ≡ small page ls
+  small-is = ap (slot0 page) (decode-sections (f .metadata .count) xs)
 
-  pub raw-is : slotIn Small ys (l .count) ys (l .count) ys (l .count) page ≡ smallRaw page ls
-  raw-is = ap (slot0 page) (decode-sections (l .count) ys)
+  pub raw-is : slotIn Small ys (f .raw .count) ys (f .raw .count) ys (f .raw .count) page ≡ smallRaw page ls
+  raw-is = ap (slot0 page) (decode-sections (f .raw .count) ys)
 
-  pub large-is : slotIn Large xs (k .count) ys (l .count) zs (m .count) page ≡ large page ls
-  large-is = λ i. slot6 page (decode-sections (k .count) xs i) (decode-sections (l .count) ys i) (decode-sections (m .count) zs i)
+  pub large-is : slotIn Large xs (f .metadata .count) ys (f .raw .count) zs (f .unclassified .count) page ≡ large page ls
+  large-is = λ i. slot6 page (decode-sections (f .metadata .count) xs i) (decode-sections (f .raw .count) ys i) (decode-sections (f .unclassified .count) zs i)

@@ -25,8 +25,9 @@ use mathlib.Core.List.{List, [], _∷_, _++_, map}
 use lib.ListN.{length, getD, replicate}
 use Rattle.error.specs.Outcome.{answer}
 use Rattle.error.specs.Lent.{with, over}
-use Rattle.free_lists.specs.Lists.{Which, Lists}
-use Rattle.free_lists.specs.History.{On, run, begun as begunEmpty, freeByHistory}
+use Rattle.free_lists.specs.declared.calls.Which.{Which}
+use Rattle.free_lists.specs.Lists.{Lists}
+use Rattle.free_lists.specs.History.{CallOn, run, begun as begunEmpty, freeByHistory}
 use Rattle.fsm_sections.specs.declared.FreeSection.{FreeSection}
 use Rattle.fsm_sections.specs.Sections.{bySizeThenAddr, flat}
 use Rattle.fsm_sections.specs.Pages.{holding}
@@ -37,7 +38,7 @@ use Rattle.save_step.specs.Steps.{stored, finished as saysFinished, stepped, Sa
 use Rattle.save.specs.Saving.{small, smallRaw, large, blockBytes, messageOf, begun}
 use Rattle.image.specs.Reading.{Listed, inSlot, readListed, imageInto}
 
-module _ (runs : Which → List ℕ) (calls : List On) (page start place : ℕ) (image : List ℕ) (save : Save) (lent : List ℕ) where
+module _ (runs : Which → List ℕ) (calls : List CallOn) (page start place : ℕ) (image : List ℕ) (save : Save) (lent : List ℕ) where
   abbrev pub lists : Lists
   lists = run calls (begunEmpty runs)
 
@@ -100,7 +101,7 @@ module _ (runs : Which → List ℕ) (calls : List On) (page start place : ℕ) 
 -- whatever is lent, called and saved; page and start are 64-bit numbers
 abbrev pub Demand : Type 0
 Demand =
-    (runs : Which → List ℕ) (calls : List On) (page start place : ℕ) (image scratch : List ℕ) (save : Save) (lent : List ℕ)
+    (runs : Which → List ℕ) (calls : List CallOn) (page start place : ℕ) (image scratch : List ℕ) (save : Save) (lent : List ℕ)
     → page < 2 ^ 64 → start < 2 ^ 64
     → begun (run calls (begunEmpty runs)) page start place image scratch ≡ answer (with save lent)
     → Demand3 runs calls page start place image save lent

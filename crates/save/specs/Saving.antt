@@ -31,7 +31,8 @@ use Rattle.fields.specs.Ranges.{top}
 use Rattle.checksum.specs.Lookup3.{lookup3}
 use Rattle.free_regions.specs.declared.FreeRegion.{FreeRegion}
 use Rattle.free_regions.specs.Regions.{region, end, meets, shares}
-use Rattle.free_lists.specs.Lists.{Lst, regionsOf, metadata, raw, unclassified, Lists, areLists, sharedByte}
+use Rattle.free_lists.specs.declared.calls.Which.the-variants.{Metadata, Raw, Unclassified}
+use Rattle.free_lists.specs.Lists.{LentList, regionsOf, Lists, areLists, sharedByte}
 use Rattle.fsm_sections.specs.declared.FreeSection.{FreeSection}
 use Rattle.fsm_sections.specs.Sections.{section, space}
 use Rattle.fsm_sections.specs.Pages.{slot0, slot2, slot6}
@@ -45,23 +46,23 @@ use Rattle.save_step.specs.Stores.{messageLen}
 use Rattle.save.specs.declared.Begin.{Begin}
 use Rattle.save.specs.declared.Begin.the-variants as begin
 
-abbrev pub sectionsOf : Lst → List FreeSection
+abbrev pub sectionsOf : LentList → List FreeSection
 sectionsOf l = map (λ r. section (r .addr) (r .len)) (regionsOf l)
 
 -- ---- the plan
 
 module _ (page : ℕ) (ls : Lists) where
   abbrev pub small : List FreeSection
-  small = slot0 page (sectionsOf (ls metadata))
+  small = slot0 page (sectionsOf (ls Metadata))
 
   abbrev pub smallRaw : List FreeSection
-  smallRaw = slot2 page (sectionsOf (ls raw))
+  smallRaw = slot2 page (sectionsOf (ls Raw))
 
   abbrev pub large : List FreeSection
-  large = slot6 page (sectionsOf (ls metadata)) (sectionsOf (ls raw)) (sectionsOf (ls unclassified))
+  large = slot6 page (sectionsOf (ls Metadata)) (sectionsOf (ls Raw)) (sectionsOf (ls Unclassified))
 
   abbrev pub plan : List Manager
-  plan = managersOf page (sectionsOf (ls metadata)) (sectionsOf (ls raw)) (sectionsOf (ls unclassified))
+  plan = managersOf page (sectionsOf (ls Metadata)) (sectionsOf (ls Raw)) (sectionsOf (ls Unclassified))
 
   abbrev pub blockLen : ℕ
   blockLen = sizeOf 8 (startingSet 8) plan
@@ -87,7 +88,7 @@ abbrev pub endsPast : ℕ → List FreeRegion → Bool
 endsPast a [] = false
 endsPast a (r ∷ rs) = ltb a (end r) || endsPast a rs
 
-abbrev pub inTheWay : ℕ → ℕ → Lst → Bool
+abbrev pub inTheWay : ℕ → ℕ → LentList → Bool
 inTheWay start place l = endsPast start (regionsOf l) || shares (region place messageLen) (regionsOf l)
 
 abbrev pub messageIn : ℕ → List ℕ → Bool
@@ -98,7 +99,7 @@ abbrev pub blocksOut : ℕ → ℕ → ℕ → List ℕ → Bool
 blocksOut L start place image = ltb 0 L && (ltb (length image) (start + L) || meets (region start L) (region place messageLen))
 
 abbrev pub anyInTheWay : ℕ → ℕ → Lists → Bool
-anyInTheWay start place ls = inTheWay start place (ls metadata) || (inTheWay start place (ls raw) || inTheWay start place (ls unclassified))
+anyInTheWay start place ls = inTheWay start place (ls Metadata) || (inTheWay start place (ls Raw) || inTheWay start place (ls Unclassified))
 
 -- of L block bytes; `given` is the length of the scratch
 module _ (ls : Lists) (L start place : ℕ) (image : List ℕ) (given : ℕ) where

@@ -6,15 +6,16 @@ ghost use lib.ListN.{length};
 ghost use Rattle.error.specs.Lent.{over};
 ghost use Rattle.fields.specs.Ranges.{top};
 ghost use Rattle.fsm_writer.specs.Slots.{slotBytes};
-ghost use Rattle.free_lists.specs.Lists.{three};
+ghost use Rattle.free_lists.specs.Lists.{listsIn};
 ghost use Rattle.save.specs.Saving.{blockBytes, messageOf};
 ghost use Rattle.save.specs.Beginning.{slotAt, messageBy, slotIn, SlotFits, ScratchFits};
+use crate::Target;
 use crate::tests::Offsets;
 use file_space_info::DEFAULT_THRESHOLD;
 use file_space_info::FileSpaceInfo;
 use file_space_info::FileSpaceStrategy;
 use file_space_info::UNDEF;
-use free_space::list::FreeList;
+use free_lists::FileLists;
 use fsm_writer::slots::Slot;
 use fsm_writer::slots::write_slot;
 
@@ -107,22 +108,19 @@ fn put_message(page: u64, start: u64, o: Offsets, scratch: &mut [u8])
 // Writes all blocks of the plan and then the message.
 pub(crate) fn fill_scratch(
     meta: &[u64],
-    meta_list: FreeList,
     raw: &[u64],
-    raw_list: FreeList,
     unclassified: &[u64],
-    unclassified_list: FreeList,
-    page: u64,
-    start: u64,
+    lists: FileLists,
+    to: Target,
     o: Offsets,
     scratch: &mut [u8],
 )
-    requires { ⌜ ScratchFits (three (now meta) «meta_list» (now raw) «raw_list» (now unclassified) «unclassified_list») page start o (length (now scratch)) ⌝ }
-    ensures { λ _. ⌜ now (scratch .exit) ≡ over 0 (blockBytes page start (three (now (meta .entry)) «meta_list» (now (raw .entry)) «raw_list» (now (unclassified .entry)) «unclassified_list») ++ messageOf page start (three (now (meta .entry)) «meta_list» (now (raw .entry)) «raw_list» (now (unclassified .entry)) «unclassified_list»)) (now (scratch .entry)) ⌝ }
+    requires { ⌜ ScratchFits (listsIn (now meta) (now raw) (now unclassified) lists) (to .page) (to .start) o (length (now scratch)) ⌝ }
+    ensures { λ _. ⌜ now (scratch .exit) ≡ over 0 (blockBytes (to .page) (to .start) (listsIn (now (meta .entry)) (now (raw .entry)) (now (unclassified .entry)) lists) ++ messageOf (to .page) (to .start) (listsIn (now (meta .entry)) (now (raw .entry)) (now (unclassified .entry)) lists)) (now (scratch .entry)) ⌝ }
 {
-    let m = meta_list.count;
-    let r = raw_list.count;
-    let u = unclassified_list.count;
+    let m = lists.metadata.count;
+    let r = lists.raw.count;
+    let u = lists.unclassified.count;
     put_slot(
         Slot::Small,
         meta,
@@ -131,8 +129,8 @@ pub(crate) fn fill_scratch(
         m,
         meta,
         m,
-        page,
-        start,
+        to.page,
+        to.start,
         SMALL_CLASS,
         0,
         scratch,
@@ -145,8 +143,8 @@ pub(crate) fn fill_scratch(
         r,
         raw,
         r,
-        page,
-        start,
+        to.page,
+        to.start,
         SMALL_CLASS,
         o.raw,
         scratch,
@@ -159,11 +157,11 @@ pub(crate) fn fill_scratch(
         r,
         unclassified,
         u,
-        page,
-        start,
+        to.page,
+        to.start,
         LARGE_CLASS,
         o.large,
         scratch,
     );
-    put_message(page, start, o, scratch);
+    put_message(to.page, to.start, o, scratch);
 }

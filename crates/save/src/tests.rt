@@ -11,12 +11,14 @@ ghost use Rattle.error.specs.Outcome.{answer, when, firstOf};
 ghost use Rattle.fields.specs.Ranges.{top};
 ghost use Rattle.free_regions.specs.Regions.{region, meets};
 ghost use Rattle.free_space.specs.Runs.{isList};
-ghost use Rattle.free_lists.specs.Lists.{lst, three, areLists};
+ghost use Rattle.free_lists.specs.Lists.{listIn, listsIn, areLists};
 ghost use Rattle.save.specs.Saving.{tooLarge, inTheWay, messageIn, blocksOut, conditions, anyInTheWay, placeTests, lateTests};
 ghost use Rattle.save.specs.Beginning.{offsetsOf, testedOutcome};
+use crate::Target;
 use error::Checked;
 use error::Number;
 use error::Refusal;
+use free_lists::FileLists;
 use free_lists::are_lists;
 use free_lists::check_lists;
 use free_space::list::FreeList;
@@ -56,21 +58,19 @@ fn ends_above(start: u64, a: u64, b: u64, c: u64) -> bool
 // The offsets of the plan's blocks: refusal 4.
 fn plan_offsets(
     meta: &[u64],
-    meta_list: FreeList,
     raw: &[u64],
-    raw_list: FreeList,
     unclassified: &[u64],
-    unclassified_list: FreeList,
-    page: u64,
-    start: u64,
+    lists: FileLists,
+    to: Target,
 ) -> Tested
-    requires page { ⌜ 0 < page ⌝ }
-    requires lists { ⌜ areLists (three (now meta) «meta_list» (now raw) «raw_list» (now unclassified) «unclassified_list») ≡ true ⌝ }
-    ensures { λ r. ⌜ testedOutcome r ≡ firstOf (when (tooLarge page start (three (now (meta .entry)) «meta_list» (now (raw .entry)) «raw_list» (now (unclassified .entry)) «unclassified_list»)) Overflow ∷ []) (answer (offsetsOf page (three (now (meta .entry)) «meta_list» (now (raw .entry)) «raw_list» (now (unclassified .entry)) «unclassified_list»))) ⌝ }
+    requires page { ⌜ 0 < to .page ⌝ }
+    requires lists { ⌜ areLists (listsIn (now meta) (now raw) (now unclassified) lists) ≡ true ⌝ }
+    ensures { λ r. ⌜ testedOutcome r ≡ firstOf (when (tooLarge (to .page) (to .start) (listsIn (now (meta .entry)) (now (raw .entry)) (now (unclassified .entry)) lists)) Overflow ∷ []) (answer (offsetsOf (to .page) (listsIn (now (meta .entry)) (now (raw .entry)) (now (unclassified .entry)) lists))) ⌝ }
 {
-    let m = meta_list.count;
-    let r = raw_list.count;
-    let u = unclassified_list.count;
+    let m = lists.metadata.count;
+    let r = lists.raw.count;
+    let u = lists.unclassified.count;
+    let page = to.page;
     let Number::Is(first) = slot_len(Slot::Small, meta, m, meta, m, meta, m, page, 8) else {
         return Tested::Refused(Refusal::Overflow);
     };
@@ -80,14 +80,15 @@ fn plan_offsets(
     let Number::Is(third) = slot_len(Slot::Large, meta, m, raw, r, unclassified, u, page, 8) else {
         return Tested::Refused(Refusal::Overflow);
     };
-    if ends_above(start, first, second, third) {
+    if ends_above(to.start, first, second, third) {
         return Tested::Refused(Refusal::Overflow);
     }
     let large = first + second;
+    let len = large + third;
     Tested::Fine(Offsets {
         raw: first,
         large: large,
-        len: large + third,
+        len: len,
     })
 }
 
@@ -142,7 +143,7 @@ fn is_in_the_way(addr: u64, len: u64, start: u64, place: u64) -> bool
 // Whether some region of a list does.
 fn in_the_way(run: &[u64], list: FreeList, start: u64, place: u64) -> bool
     requires { ⌜ (isList (now run) list ≡ true) × (place + 125 ≤ top) ⌝ }
-    ensures { λ r. ⌜ r ≡ inTheWay start place (lst (now (run .entry)) list) ⌝ }
+    ensures { λ r. ⌜ r ≡ inTheWay start place (listIn (now (run .entry)) list) ⌝ }
 {
     let count = list.count;
     let mut i = 0;
@@ -158,25 +159,22 @@ fn in_the_way(run: &[u64], list: FreeList, start: u64, place: u64) -> bool
 // Whether some region of three lists does.
 fn any_in_the_way(
     meta: &[u64],
-    meta_list: FreeList,
     raw: &[u64],
-    raw_list: FreeList,
     unclassified: &[u64],
-    unclassified_list: FreeList,
-    start: u64,
-    place: u64,
+    lists: FileLists,
+    to: Target,
 ) -> bool
-    requires lists { ⌜ areLists (three (now meta) «meta_list» (now raw) «raw_list» (now unclassified) «unclassified_list») ≡ true ⌝ }
-    requires message { ⌜ place + 125 ≤ top ⌝ }
-    ensures { λ r. ⌜ r ≡ anyInTheWay start place (three (now (meta .entry)) «meta_list» (now (raw .entry)) «raw_list» (now (unclassified .entry)) «unclassified_list») ⌝ }
+    requires lists { ⌜ areLists (listsIn (now meta) (now raw) (now unclassified) lists) ≡ true ⌝ }
+    requires message { ⌜ to .place + 125 ≤ top ⌝ }
+    ensures { λ r. ⌜ r ≡ anyInTheWay (to .start) (to .place) (listsIn (now (meta .entry)) (now (raw .entry)) (now (unclassified .entry)) lists) ⌝ }
 {
-    if in_the_way(meta, meta_list, start, place) {
+    if in_the_way(meta, lists.metadata, to.start, to.place) {
         return true;
     }
-    if in_the_way(raw, raw_list, start, place) {
+    if in_the_way(raw, lists.raw, to.start, to.place) {
         return true;
     }
-    in_the_way(unclassified, unclassified_list, start, place)
+    in_the_way(unclassified, lists.unclassified, to.start, to.place)
 }
 
 // Refusal 14. The blocks are no longer than the image.
@@ -198,25 +196,22 @@ fn test_room(len: u64, image: &[u8], given: usize) -> Checked
 // Refusals 8, 9, 13 and 14. A message that leaves the image is 13 and has no bytes for 8 and 9 to test.
 fn test_place(
     meta: &[u64],
-    meta_list: FreeList,
     raw: &[u64],
-    raw_list: FreeList,
     unclassified: &[u64],
-    unclassified_list: FreeList,
+    lists: FileLists,
     len: u64,
-    start: u64,
-    place: u64,
+    to: Target,
     image: &[u8],
     given: usize,
 ) -> Checked
-    requires lists { ⌜ areLists (three (now meta) «meta_list» (now raw) «raw_list» (now unclassified) «unclassified_list») ≡ true ⌝ }
-    requires last { ⌜ start + len ≤ top ⌝ }
-    ensures { λ r. ⌜ checkedOutcome r ≡ firstOf (placeTests (three (now (meta .entry)) «meta_list» (now (raw .entry)) «raw_list» (now (unclassified .entry)) «unclassified_list») len start place (now (image .entry)) given) (answer tt) ⌝ }
+    requires lists { ⌜ areLists (listsIn (now meta) (now raw) (now unclassified) lists) ≡ true ⌝ }
+    requires last { ⌜ to .start + len ≤ top ⌝ }
+    ensures { λ r. ⌜ checkedOutcome r ≡ firstOf (placeTests (listsIn (now (meta .entry)) (now (raw .entry)) (now (unclassified .entry)) lists) len (to .start) (to .place) (now (image .entry)) given) (answer tt) ⌝ }
 {
-    if !message_in(place, image) {
+    if !message_in(to.place, image) {
         return Checked::Refused(Refusal::Place);
     }
-    let at = place as usize;
+    let at = to.place as usize;
     let version = image[at];
     if version != 1 {
         return Checked::Refused(Refusal::MessageVersion(version));
@@ -225,19 +220,10 @@ fn test_place(
     if 3 < code {
         return Checked::Refused(Refusal::Strategy(code));
     }
-    if blocks_out(len, start, place, image) {
+    if blocks_out(len, to.start, to.place, image) {
         return Checked::Refused(Refusal::Place);
     }
-    if any_in_the_way(
-        meta,
-        meta_list,
-        raw,
-        raw_list,
-        unclassified,
-        unclassified_list,
-        start,
-        place,
-    ) {
+    if any_in_the_way(meta, raw, unclassified, lists, to) {
         return Checked::Refused(Refusal::Place);
     }
     test_room(len, image, given)
@@ -246,99 +232,54 @@ fn test_place(
 // Refusal 5 and then those.
 fn test_late(
     meta: &[u64],
-    meta_list: FreeList,
     raw: &[u64],
-    raw_list: FreeList,
     unclassified: &[u64],
-    unclassified_list: FreeList,
+    lists: FileLists,
     len: u64,
-    start: u64,
-    place: u64,
+    to: Target,
     image: &[u8],
     given: usize,
 ) -> Checked
-    requires lists { ⌜ areLists (three (now meta) «meta_list» (now raw) «raw_list» (now unclassified) «unclassified_list») ≡ true ⌝ }
-    requires last { ⌜ start + len ≤ top ⌝ }
-    ensures { λ r. ⌜ checkedOutcome r ≡ firstOf (lateTests (three (now (meta .entry)) «meta_list» (now (raw .entry)) «raw_list» (now (unclassified .entry)) «unclassified_list») len start place (now (image .entry)) given) (answer tt) ⌝ }
+    requires lists { ⌜ areLists (listsIn (now meta) (now raw) (now unclassified) lists) ≡ true ⌝ }
+    requires last { ⌜ to .start + len ≤ top ⌝ }
+    ensures { λ r. ⌜ checkedOutcome r ≡ firstOf (lateTests (listsIn (now (meta .entry)) (now (raw .entry)) (now (unclassified .entry)) lists) len (to .start) (to .place) (now (image .entry)) given) (answer tt) ⌝ }
 {
-    let shared = check_lists(
-        meta,
-        meta_list,
-        raw,
-        raw_list,
-        unclassified,
-        unclassified_list,
-    );
+    let shared = check_lists(meta, raw, unclassified, lists);
     match shared {
         Checked::Refused(r) => Checked::Refused(r),
-        Checked::Fine => test_place(
-            meta,
-            meta_list,
-            raw,
-            raw_list,
-            unclassified,
-            unclassified_list,
-            len,
-            start,
-            place,
-            image,
-            given,
-        ),
+        Checked::Fine => test_place(meta, raw, unclassified, lists, len, to, image, given),
     }
 }
 
 // All tests of a beginning; `given` is the length of the scratch.
 pub(crate) fn test_begin(
     meta: &[u64],
-    meta_list: FreeList,
     raw: &[u64],
-    raw_list: FreeList,
     unclassified: &[u64],
-    unclassified_list: FreeList,
-    page: u64,
-    start: u64,
-    place: u64,
+    lists: FileLists,
+    to: Target,
     image: &[u8],
     given: usize,
 ) -> Tested
-    ensures { λ r. ⌜ testedOutcome r ≡ firstOf (conditions (three (now (meta .entry)) «meta_list» (now (raw .entry)) «raw_list» (now (unclassified .entry)) «unclassified_list») page start place (now (image .entry)) given) (answer (offsetsOf page (three (now (meta .entry)) «meta_list» (now (raw .entry)) «raw_list» (now (unclassified .entry)) «unclassified_list»))) ⌝ }
+    ensures { λ r. ⌜ testedOutcome r ≡ firstOf (conditions (listsIn (now (meta .entry)) (now (raw .entry)) (now (unclassified .entry)) lists) (to .page) (to .start) (to .place) (now (image .entry)) given) (answer (offsetsOf (to .page) (listsIn (now (meta .entry)) (now (raw .entry)) (now (unclassified .entry)) lists))) ⌝ }
 {
-    if page == 0 {
+    if to.page == 0 {
         return Tested::Refused(Refusal::Page);
     }
-    if !are_lists(
-        meta,
-        meta_list,
-        raw,
-        raw_list,
-        unclassified,
-        unclassified_list,
-    ) {
+    if !are_lists(meta, raw, unclassified, lists) {
         return Tested::Refused(Refusal::NotAList);
     }
-    let planned = plan_offsets(
-        meta,
-        meta_list,
-        raw,
-        raw_list,
-        unclassified,
-        unclassified_list,
-        page,
-        start,
-    );
+    let planned = plan_offsets(meta, raw, unclassified, lists, to);
     match planned {
         Tested::Refused(r) => Tested::Refused(r),
         Tested::Fine(offsets) => {
             let late = test_late(
                 meta,
-                meta_list,
                 raw,
-                raw_list,
                 unclassified,
-                unclassified_list,
+                lists,
                 offsets.len,
-                start,
-                place,
+                to,
                 image,
                 given,
             );

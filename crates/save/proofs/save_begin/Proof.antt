@@ -18,14 +18,14 @@ fill-scratch-requires c κs =
     let a = c .before .before .before .before .before .before .before .before .before .before .args in
     let test-begin = c .before .before .before .before .test-begin in
     let tested2 = c .before .before .tested2 in
-    begun-asks (now (a .meta)) (a .meta-list) (now (a .raw)) (a .raw-list) (now (a .unclassified)) (a .unclassified-list) (a .page) (a .start) (a .place) (now (a .image))
+    begun-asks (now (a .meta)) (now (a .raw)) (now (a .unclassified)) (a .lists) (a .to .page) (a .to .start) (a .to .place) (now (a .image))
     (now (a .scratch)) _ (test-begin .ensures) _ (tested2 .given .1)
 
 returns : tie.Need-returns
 returns c =
     let a = c .before .before .before .before .before .before .before .before .before .args in
     let test-begin = c .before .before .before .test-begin in
-    begun-refused (now (a .meta)) (a .meta-list) (now (a .raw)) (a .raw-list) (now (a .unclassified)) (a .unclassified-list) (a .page) (a .start) (a .place)
+    begun-refused (now (a .meta)) (now (a .raw)) (now (a .unclassified)) (a .lists) (a .to .page) (a .to .start) (a .to .place)
     (now (a .image)) (now (a .scratch)) _ (test-begin .ensures) _ (c .before .tested .given .1)
 
 same-length : tie.Need-same-length
@@ -37,7 +37,7 @@ returns-2 c =
     let test-begin = c .before .before .before .before .before .before .before .test-begin in
     let tested2 = c .before .before .before .before .before .tested2 in
     let fill-scratch = c .before .before .fill-scratch in
-    begun-done (now (a .meta)) (a .meta-list) (now (a .raw)) (a .raw-list) (now (a .unclassified)) (a .unclassified-list) (a .page) (a .start) (a .place) (now (a .image))
+    begun-done (now (a .meta)) (now (a .raw)) (now (a .unclassified)) (a .lists) (a .to .page) (a .to .start) (a .to .place) (now (a .image))
     (now (a .scratch)) _ (test-begin .ensures) _ (tested2 .given .1) _ (fill-scratch .ensures)
 
 pub save-begin-spec : {M : Type 1} → statement M

@@ -8,7 +8,7 @@ put-slot-requires : tie.Need-put-slot-requires
 put-slot-requires c κs =
     let a = c .before .before .before .before .before .args in
     let pre = c .before .before .before .before .before .pre in
-    first-fits (now (a .meta)) (a .meta-list) (now (a .raw)) (a .raw-list) (now (a .unclassified)) (a .unclassified-list) (a .page) (a .start) (a .o) (now (a .scratch))
+    first-fits (now (a .meta)) (now (a .raw)) (now (a .unclassified)) (a .lists) (a .to .page) (a .to .start) (a .o) (now (a .scratch))
     pre
 
 put-slot-requires-2 : tie.Need-put-slot-requires-2
@@ -16,7 +16,7 @@ put-slot-requires-2 c κs =
     let a = c .before .before .before .before .before .before .before .before .before .args in
     let pre = c .before .before .before .before .before .before .before .before .before .pre in
     let put-slot = c .before .before .before .put-slot in
-    second-fits (now (a .meta)) (a .meta-list) (now (a .raw)) (a .raw-list) (now (a .unclassified)) (a .unclassified-list) (a .page) (a .start) (a .o) (now (a .scratch))
+    second-fits (now (a .meta)) (now (a .raw)) (now (a .unclassified)) (a .lists) (a .to .page) (a .to .start) (a .o) (now (a .scratch))
     pre _ (put-slot .ensures)
 
 put-slot-requires-3 : tie.Need-put-slot-requires-3
@@ -25,7 +25,7 @@ put-slot-requires-3 c κs =
     let pre = c .before .before .before .before .before .before .before .before .before .before .before .before .before .pre in
     let put-slot = c .before .before .before .before .before .before .before .put-slot in
     let put-slot2 = c .before .before .before .put-slot2 in
-    third-fits (now (a .meta)) (a .meta-list) (now (a .raw)) (a .raw-list) (now (a .unclassified)) (a .unclassified-list) (a .page) (a .start) (a .o) (now (a .scratch))
+    third-fits (now (a .meta)) (now (a .raw)) (now (a .unclassified)) (a .lists) (a .to .page) (a .to .start) (a .o) (now (a .scratch))
     pre _ (put-slot .ensures) _ (put-slot2 .ensures)
 
 put-message-requires : tie.Need-put-message-requires
@@ -35,7 +35,7 @@ put-message-requires c κs =
     let put-slot = c .before .before .before .before .before .before .before .before .before .before .before .put-slot in
     let put-slot2 = c .before .before .before .before .before .before .before .put-slot2 in
     let put-slot3 = c .before .before .before .put-slot3 in
-    message-asks (now (a .meta)) (a .meta-list) (now (a .raw)) (a .raw-list) (now (a .unclassified)) (a .unclassified-list) (a .page) (a .start) (a .o) (now (a .scratch))
+    message-asks (now (a .meta)) (now (a .raw)) (now (a .unclassified)) (a .lists) (a .to .page) (a .to .start) (a .o) (now (a .scratch))
     pre _ (put-slot .ensures) _ (put-slot2 .ensures) _ (put-slot3 .ensures)
 
 same-length : tie.Need-same-length
@@ -51,7 +51,7 @@ returns c =
     let put-slot2 = c .before .before .before .before .before .before .before .before .before .before .put-slot2 in
     let put-slot3 = c .before .before .before .before .before .before .put-slot3 in
     let put-message = c .before .before .put-message in
-    all-put (now (a .meta)) (a .meta-list) (now (a .raw)) (a .raw-list) (now (a .unclassified)) (a .unclassified-list) (a .page) (a .start) (a .o) (now (a .scratch))
+    all-put (now (a .meta)) (now (a .raw)) (now (a .unclassified)) (a .lists) (a .to .page) (a .to .start) (a .o) (now (a .scratch))
     pre _ (put-slot .ensures) _ (put-slot2 .ensures) _ (put-slot3 .ensures) _ (put-message .ensures)
 
 pub fill-scratch-spec : {M : Type 1} → statement M

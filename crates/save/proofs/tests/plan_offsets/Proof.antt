@@ -21,7 +21,7 @@ returns c =
     let a = c .before .before .before .before .before .before .args in
     let pre = c .before .before .before .before .before .before .pre in
     let slot-len = c .before .before .slot-len in
-    first-refused (now (a .meta)) (a .meta-list) (now (a .raw)) (a .raw-list) (now (a .unclassified)) (a .unclassified-list) (a .page) (a .start) (pre .0) (pre .1) _
+    first-refused (now (a .meta)) (now (a .raw)) (now (a .unclassified)) (a .lists) (a .to .page) (a .to .start) (pre .0) (pre .1) _
     (slot-len .ensures) _ (c .enum-told .given .1)
 
 slot-len-requires-2 : tie.Need-slot-len-requires-2
@@ -40,7 +40,7 @@ returns-2 c =
     let slot-len = c .before .before .before .before .before .before .slot-len in
     let first = c .before .before .before .before .first in
     let slot-len2 = c .before .before .slot-len2 in
-    second-refused (now (a .meta)) (a .meta-list) (now (a .raw)) (a .raw-list) (now (a .unclassified)) (a .unclassified-list) (a .page) (a .start) (pre .0) (pre .1) _
+    second-refused (now (a .meta)) (now (a .raw)) (now (a .unclassified)) (a .lists) (a .to .page) (a .to .start) (pre .0) (pre .1) _
     (slot-len .ensures) _ (first .given .1) _ (slot-len2 .ensures) _ (c .enum-told2 .given .1)
 
 slot-len-requires-3 : tie.Need-slot-len-requires-3
@@ -61,7 +61,7 @@ returns-3 c =
     let slot-len2 = c .before .before .before .before .before .before .slot-len2 in
     let second = c .before .before .before .before .second in
     let slot-len3 = c .before .before .slot-len3 in
-    third-refused (now (a .meta)) (a .meta-list) (now (a .raw)) (a .raw-list) (now (a .unclassified)) (a .unclassified-list) (a .page) (a .start) (pre .0) (pre .1) _
+    third-refused (now (a .meta)) (now (a .raw)) (now (a .unclassified)) (a .lists) (a .to .page) (a .to .start) (pre .0) (pre .1) _
     (slot-len .ensures) _ (first .given .1) _ (slot-len2 .ensures) _ (second .given .1) _ (slot-len3 .ensures) _ (c .enum-told3 .given .1)
 
 ends-above-requires : tie.Need-ends-above-requires
@@ -72,14 +72,14 @@ low : (c : tie.Else1) →
     let third = c .before .before .before in
     let second = third .before .before .before .before in
     let first = second .before .before .before .before in
-    first .before .before .before .before .before .before .args .start + (first .first .given .0 .0 + second .second .given .0 .0 + third .third .given .0 .0) ≤ top
+    first .before .before .before .before .before .before .args .to .start + (first .first .given .0 .0 + second .second .given .0 .0 + third .third .given .0 .0) ≤ top
 low c =
     let third = c .before .before .before in
     let second = third .before .before .before .before in
     let first = second .before .before .before .before in
     let s = first .before .before .before .before .before .before in
     let a = s .args in
-    sum-low (now (a .meta)) (a .meta-list) (now (a .raw)) (a .raw-list) (now (a .unclassified)) (a .unclassified-list) (a .page) (a .start) (s .pre .0) (s .pre .1)
+    sum-low (now (a .meta)) (now (a .raw)) (now (a .unclassified)) (a .lists) (a .to .page) (a .to .start) (s .pre .0) (s .pre .1)
     _ (first .before .before .slot-len .ensures) _ (first .first .given .1) _ (second .before .before .slot-len2 .ensures) _ (second .second .given .1)
     _ (third .before .before .slot-len3 .ensures) _ (third .third .given .1) _ (c .before .ends-above .ensures) (c .if1 .left)
 
@@ -90,15 +90,15 @@ returns-4 c =
     let first = second .before .before .before .before in
     let s = first .before .before .before .before .before .before in
     let a = s .args in
-    above-refused (now (a .meta)) (a .meta-list) (now (a .raw)) (a .raw-list) (now (a .unclassified)) (a .unclassified-list) (a .page) (a .start) (s .pre .0) (s .pre .1)
+    above-refused (now (a .meta)) (now (a .raw)) (now (a .unclassified)) (a .lists) (a .to .page) (a .to .start) (s .pre .0) (s .pre .1)
     _ (first .before .before .slot-len .ensures) _ (first .first .given .1) _ (second .before .before .slot-len2 .ensures) _ (second .second .given .1)
     _ (third .before .before .slot-len3 .ensures) _ (third .third .given .1) _ (c .before .ends-above .ensures) (c .if1 .taken)
 
 add-large : tie.Need-add-large
 add-large c = omega (arith, low c)
 
-add-t25 : tie.Need-add-t25
-add-t25 c = omega (arith, low c)
+add-len : tie.Need-add-len
+add-len c = omega (arith, low c)
 
 returns-5 : tie.Need-returns-5
 returns-5 c =
@@ -107,7 +107,7 @@ returns-5 c =
     let first = second .before .before .before .before in
     let s = first .before .before .before .before .before .before in
     let a = s .args in
-    offsets-are (now (a .meta)) (a .meta-list) (now (a .raw)) (a .raw-list) (now (a .unclassified)) (a .unclassified-list) (a .page) (a .start) (s .pre .0) (s .pre .1)
+    offsets-are (now (a .meta)) (now (a .raw)) (now (a .unclassified)) (a .lists) (a .to .page) (a .to .start) (s .pre .0) (s .pre .1)
     _ (first .before .before .slot-len .ensures) _ (first .first .given .1) _ (second .before .before .slot-len2 .ensures) _ (second .second .given .1)
     _ (third .before .before .slot-len3 .ensures) _ (third .third .given .1) _ (c .before .ends-above .ensures) (c .if1 .left)
 
@@ -130,5 +130,5 @@ plan-offsets-spec =
     ends-above-requires
     returns-4
     add-large
-    add-t25
+    add-len
     returns-5)
