@@ -12,8 +12,10 @@ use Rattle.fields.specs.Width.{encSize, leastFrom}
 use Rattle.checksum.specs.Lookup3.{lookup3}
 use Rattle.free_space.specs.Runs.{isList, stored}
 use Rattle.free_space.specs.Calls.{freed}
-use Rattle.free_lists.specs.History.{free, units, takeTrailing, run}
-use Rattle.free_lists.specs.Lists.{metadata, raw, unclassified, Lists}
+use Rattle.free_lists.specs.declared.calls.Which.the-variants.{Metadata, Raw, Unclassified}
+use Rattle.free_lists.specs.declared.calls.ListCall.the-variants.{Free, AllocWholeUnits, TakeTrailing}
+use Rattle.free_lists.specs.History.{run}
+use Rattle.free_lists.specs.Lists.{Lists}
 use Rattle.fsm_sections.specs.Sections.{space, ofSize, distinct, insert, bySizeThenAddr}
 use Rattle.fsm_sections.specs.Pages.{piecesFrom, pieces, split, belowPage, fromPage}
 use Rattle.fsm_blocks.specs.Managers.{startingSet}
@@ -21,20 +23,20 @@ use Rattle.fsm_plan.specs.Managers.{sizeOf}
 use Rattle.save_step.specs.declared.Save.{Save}
 use Rattle.save.specs.Saving.{plan, blockLen, filled, begun}
 use Rattle.save.proofs.PlanLaws.{length-blocks}
-use Rattle.end_to_end.specs.Encoding.{whichOf, callOf, onsOf, runsOf, afterCalls}
+use Rattle.end_to_end.specs.Encoding.{whichOf, callOf, callsOf, runsOf, afterCalls}
 use Rattle.end_to_end.specs.Cuts.{Cut, cutAfter}
 use Rattle.end_to_end.specs.Demanded.{Shown}
 use Rattle.end_to_end.proofs.DemandedLaws.{demanded}
 
 -- two calls, and three numbers that are none
-two-calls : onsOf (1 ∷ 2 ∷ 30 ∷ 10 ∷ 0 ∷ 0 ∷ 5 ∷ 6 ∷ 2 ∷ 4 ∷ 7 ∷ [])
-    ≡ record { list = raw; what = units 30 10 } ∷ record { list = metadata; what = free 5 6 } ∷ []
-unfolding onsOf whichOf callOf
+two-calls : callsOf (1 ∷ 2 ∷ 30 ∷ 10 ∷ 0 ∷ 0 ∷ 5 ∷ 6 ∷ 2 ∷ 4 ∷ 7 ∷ [])
+    ≡ record { list = Raw; what = AllocWholeUnits 30 10 } ∷ record { list = Metadata; what = Free 5 6 } ∷ []
+unfolding callsOf whichOf callOf
 two-calls = refl
 
 -- numbers above those of the lists and the calls
-above : onsOf (9 ∷ 9 ∷ 100 ∷ 1 ∷ []) ≡ record { list = unclassified; what = takeTrailing 100 } ∷ []
-unfolding onsOf whichOf callOf
+above : callsOf (9 ∷ 9 ∷ 100 ∷ 1 ∷ []) ≡ record { list = Unclassified; what = TakeTrailing 100 } ∷ []
+unfolding callsOf whichOf callOf
 above = refl
 
 abbrev calls : List ℕ
@@ -44,7 +46,7 @@ abbrev lists : Lists
 lists = afterCalls calls (7 ∷ 7 ∷ 7 ∷ 7 ∷ []) [] []
 
 m9-len : blockLen 4096 lists ≡ 252
-unfolding onsOf whichOf callOf run freed firstOf isList stored piecesFrom pieces split belowPage fromPage sizeOf distinct ofSize encSize leastFrom
+unfolding callsOf whichOf callOf run freed firstOf isList stored piecesFrom pieces split belowPage fromPage sizeOf distinct ofSize encSize leastFrom
 m9-len = refl
 
 -- any image of 21000 bytes with an accepted message at 0, and any scratch with room
@@ -56,15 +58,15 @@ module _ (image scratch : List ℕ) (long : length image ≡ 21000) (version : g
   lent = filled lists 4096 20000 0 scratch
 
   m9-begun : begun lists 4096 20000 0 image scratch ≡ answer (with save lent)
-  unfolding begun onsOf whichOf callOf run freed firstOf isList stored piecesFrom pieces split belowPage fromPage sizeOf distinct ofSize encSize leastFrom space
+  unfolding begun callsOf whichOf callOf run freed firstOf isList stored piecesFrom pieces split belowPage fromPage sizeOf distinct ofSize encSize leastFrom space
   m9-begun = rw (long, version, le-ltb 3 (getD image 1 0) strategy, le-ltb (length scratch) 377 room)
 
   -- what the code leaves after 378 steps or more, in a lent run with room for three pairs
   module _ (k : ℕ) (out : List ℕ) (pairs : length out % 2 ≡ 0) (three : 3 ≤ length out / 2) (all : 378 ≤ k) (x : Cut)
       (e : x ≡ cutAfter k 0 image scratch out (begun lists 4096 20000 0 image scratch)) where
-    m9-shown : Shown (runsOf (7 ∷ 7 ∷ 7 ∷ 7 ∷ []) [] []) (onsOf calls) 4096 20000 0 image save lent k out x
-    m9-shown = demanded (runsOf (7 ∷ 7 ∷ 7 ∷ 7 ∷ []) [] []) (onsOf calls) 4096 20000 0 k image scratch out x (lit< tt) (lit< tt) e .shown save lent m9-begun
+    m9-shown : Shown (runsOf (7 ∷ 7 ∷ 7 ∷ 7 ∷ []) [] []) (callsOf calls) 4096 20000 0 image save lent k out x
+    m9-shown = demanded (runsOf (7 ∷ 7 ∷ 7 ∷ 7 ∷ []) [] []) (callsOf calls) 4096 20000 0 k image scratch out x (lit< tt) (lit< tt) e .shown save lent m9-begun
 
     m9-read : (x .read ≡ answer (2 ∷ 0 ∷ 0 ∷ 0 ∷ 0 ∷ 0 ∷ 1 ∷ 0 ∷ 0 ∷ 0 ∷ 0 ∷ 0 ∷ [])) × (x .out ≡ over 0 (4000 ∷ 96 ∷ 8192 ∷ 808 ∷ 4096 ∷ 4096 ∷ []) out)
-    unfolding onsOf whichOf callOf run freed firstOf isList stored piecesFrom pieces split belowPage fromPage bySizeThenAddr insert
+    unfolding callsOf whichOf callOf run freed firstOf isList stored piecesFrom pieces split belowPage fromPage bySizeThenAddr insert
     m9-read = rw (length-blocks 8 (startingSet 8) lookup3 (plan 4096 lists) 20000, m9-len) at (m9-shown .finished) all (pairs, three)

@@ -10,8 +10,8 @@ use lib.ListN.{length, replicate}
 use Rattle.error.specs.Outcome.{Outcome, answer, nothing, refuse}
 use Rattle.error.specs.Lent.{With, with, Left, left, leaving, over}
 use Rattle.error.proofs.TestLaws.{le-or-lt}
-use Rattle.free_lists.specs.Lists.{Which}
-use Rattle.free_lists.specs.History.{On, run, begun as begunEmpty, freeByHistory}
+use Rattle.free_lists.specs.declared.calls.Which.{Which}
+use Rattle.free_lists.specs.History.{CallOn, run, begun as begunEmpty, freeByHistory}
 use Rattle.fsm_sections.specs.declared.FreeSection.{FreeSection}
 use Rattle.fsm_sections.specs.Sections.{decode, flat}
 use Rattle.fsm_sections.specs.Pages.{holding}
@@ -43,7 +43,7 @@ found-last i (s ∷ l) = ap (λ (q : List FreeSection). s ∷ q) (found-last i l
 read-is : (x : Cut) (o : Left (List ℕ) (List ℕ)) → left (x .read) (x .out) ≡ o → (x .read ≡ o .outcome) × (x .out ≡ o .memory)
 read-is x o e = (ap (λ (q : Left (List ℕ) (List ℕ)). q .outcome) e, ap (λ (q : Left (List ℕ) (List ℕ)). q .memory) e)
 
-module _ (runs : Which → List ℕ) (calls : List On) (page start place : ℕ) (image : List ℕ) (save : Save) (lent : List ℕ)
+module _ (runs : Which → List ℕ) (calls : List CallOn) (page start place : ℕ) (image : List ℕ) (save : Save) (lent : List ℕ)
     (d : Demand3 runs calls page start place image save lent) where
   abbrev t : ℕ
   t = T runs calls page start place image save lent
@@ -128,7 +128,7 @@ begins k place image scratch out (answer b) after e = (b .value, b .memory, refl
 begins k place image scratch out nothing after e = let z : _≡_ {A = ℕ} 0 1 = cc in absurd (omega arith)
 begins k place image scratch out (refuse n vs) after e = let z : _≡_ {A = ℕ} 0 1 = cc in absurd (omega arith)
 
-module _ (runs : Which → List ℕ) (calls : List On) (page start place k : ℕ) (image scratch out : List ℕ) (x : Cut) where
+module _ (runs : Which → List ℕ) (calls : List CallOn) (page start place k : ℕ) (image scratch out : List ℕ) (x : Cut) where
   abbrev B : Outcome (With Save (List ℕ))
   B = begun (run calls (begunEmpty runs)) page start place image scratch
 

@@ -21,8 +21,8 @@ use mathlib.Core.List.{List, [], _∷_, _++_}
 use lib.ListN.{length, replicate}
 use Rattle.error.specs.Outcome.{answer, refuse}
 use Rattle.error.specs.Lent.{with, left, leaving, over}
-use Rattle.free_lists.specs.Lists.{Which}
-use Rattle.free_lists.specs.History.{On, run, begun as begunEmpty, freeByHistory}
+use Rattle.free_lists.specs.declared.calls.Which.{Which}
+use Rattle.free_lists.specs.History.{CallOn, run, begun as begunEmpty, freeByHistory}
 use Rattle.fsm_sections.specs.declared.FreeSection.{FreeSection}
 use Rattle.fsm_sections.specs.Sections.{decode, flat}
 use Rattle.fsm_sections.specs.Pages.{holding}
@@ -34,7 +34,7 @@ use Rattle.save.specs.Demand3.{Demand3}
 use Rattle.image.specs.Reading.{imageInto}
 use Rattle.end_to_end.specs.Cuts.{Cut, cutWith}
 
-module _ (runs : Which → List ℕ) (calls : List On) (page start place : ℕ) (image : List ℕ) (save : Save) (lent : List ℕ) where
+module _ (runs : Which → List ℕ) (calls : List CallOn) (page start place : ℕ) (image : List ℕ) (save : Save) (lent : List ℕ) where
   abbrev pub T : ℕ
   T = d.T runs calls page start place image save lent
 
@@ -71,7 +71,7 @@ module _ (runs : Which → List ℕ) (calls : List On) (page start place : ℕ) 
     pub once : T ≤ k → Room out → (b : ℕ)
         → holding b (decode (length found) (x .out)) ≡ cond (freeByHistory calls (begunEmpty runs) b) 1 0
 
-pub record Demanded (runs : Which → List ℕ) (calls : List On) (page start place k : ℕ) (image scratch out : List ℕ) (x : Cut) : Type 0 where
+pub record Demanded (runs : Which → List ℕ) (calls : List CallOn) (page start place k : ℕ) (image scratch out : List ℕ) (x : Cut) : Type 0 where
   pub accepted : (after : Save) → x .outcome ≡ answer after
       → (save : Save) × (lent : List ℕ) × (begun (run calls (begunEmpty runs)) page start place image scratch ≡ answer (with save lent))
   pub shown : (save : Save) (lent : List ℕ) → begun (run calls (begunEmpty runs)) page start place image scratch ≡ answer (with save lent)

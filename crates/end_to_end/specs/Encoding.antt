@@ -2,8 +2,8 @@
 --   whichOf        the list of a number: 0 metadata, 1 raw, any other unclassified
 --   callOf         the call of a number and two arguments: 0 `free`, 1 `alloc`, 2 `alloc_whole_units`, 3 `take_range`, any other `take_trailing`;
 --                  `alloc` and `take_trailing` have one argument and leave the second out
---   onOf           the call that four numbers are, with its list
---   onsOf          the calls of a run, in order; fewer than four numbers at its end are none
+--   callOnOf       the call that four numbers are, with its list
+--   callsOf        the calls of a run, in order; fewer than four numbers at its end are none
 --   runsOf         three lent runs by list
 --   afterCalls     three lists that begin empty, after the calls of a run
 --   numbersOf      the numbers of a call and its arguments, in front of others
@@ -16,46 +16,50 @@ use mathlib.Core.Path.{_≡_}
 use mathlib.Core.Bool.{cond}
 use mathlib.Core.List.{List, [], _∷_}
 use lib.Dec.{eqb}
-use Rattle.free_lists.specs.History.{Call, free, alloc, units, takeRange, takeTrailing, On, run, begun}
-use Rattle.free_lists.specs.Lists.{Which, metadata, raw, unclassified, index, Lists}
+use Rattle.free_lists.specs.declared.calls.Which.{Which}
+use Rattle.free_lists.specs.declared.calls.Which.the-variants.{Metadata, Raw, Unclassified}
+use Rattle.free_lists.specs.declared.calls.ListCall.{ListCall}
+use Rattle.free_lists.specs.declared.calls.ListCall.the-variants.{Free, Alloc, AllocWholeUnits, TakeRange, TakeTrailing}
+use Rattle.free_lists.specs.History.{CallOn, run, begun}
+use Rattle.free_lists.specs.Lists.{index, Lists}
 
 -- ---- numbers to calls
 
 unfoldable pub whichOf : ℕ → Which
-whichOf w = cond (eqb w 0) metadata (cond (eqb w 1) raw unclassified)
+whichOf w = cond (eqb w 0) Metadata (cond (eqb w 1) Raw Unclassified)
 
-unfoldable pub callOf : ℕ → ℕ → ℕ → Call
+unfoldable pub callOf : ℕ → ℕ → ℕ → ListCall
 callOf n a b =
-    cond (eqb n 0) (free a b) (cond (eqb n 1) (alloc a) (cond (eqb n 2) (units a b) (cond (eqb n 3) (takeRange a b) (takeTrailing a))))
+    cond (eqb n 0) (Free a b) (cond (eqb n 1) (Alloc a) (cond (eqb n 2) (AllocWholeUnits a b) (cond (eqb n 3) (TakeRange a b) (TakeTrailing a))))
 
-abbrev pub onOf : ℕ → ℕ → ℕ → ℕ → On
-onOf w n a b = record { list = whichOf w; what = callOf n a b }
+abbrev pub callOnOf : ℕ → ℕ → ℕ → ℕ → CallOn
+callOnOf w n a b = record { list = whichOf w; what = callOf n a b }
 
-unfoldable pub onsOf : List ℕ → List On
-onsOf [] = []
-onsOf (w ∷ []) = []
-onsOf (w ∷ n ∷ []) = []
-onsOf (w ∷ n ∷ a ∷ []) = []
-onsOf (w ∷ n ∷ a ∷ b ∷ rest) = onOf w n a b ∷ onsOf rest
+unfoldable pub callsOf : List ℕ → List CallOn
+callsOf [] = []
+callsOf (w ∷ []) = []
+callsOf (w ∷ n ∷ []) = []
+callsOf (w ∷ n ∷ a ∷ []) = []
+callsOf (w ∷ n ∷ a ∷ b ∷ rest) = callOnOf w n a b ∷ callsOf rest
 
 abbrev pub runsOf : List ℕ → List ℕ → List ℕ → Which → List ℕ
-runsOf m r u metadata = m
-runsOf m r u raw = r
-runsOf m r u unclassified = u
+runsOf m r u Metadata = m
+runsOf m r u Raw = r
+runsOf m r u Unclassified = u
 
 abbrev pub afterCalls : List ℕ → List ℕ → List ℕ → List ℕ → Lists
-afterCalls calls m r u = run (onsOf calls) (begun (runsOf m r u))
+afterCalls calls m r u = run (callsOf calls) (begun (runsOf m r u))
 
 -- ---- calls to numbers
 
-abbrev pub numbersOf : Call → List ℕ → List ℕ
-numbersOf (free a n) rest = 0 ∷ a ∷ n ∷ rest
-numbersOf (alloc n) rest = 1 ∷ n ∷ 0 ∷ rest
-numbersOf (units n u) rest = 2 ∷ n ∷ u ∷ rest
-numbersOf (takeRange a n) rest = 3 ∷ a ∷ n ∷ rest
-numbersOf (takeTrailing e) rest = 4 ∷ e ∷ 0 ∷ rest
+abbrev pub numbersOf : ListCall → List ℕ → List ℕ
+numbersOf (Free a n) rest = 0 ∷ a ∷ n ∷ rest
+numbersOf (Alloc n) rest = 1 ∷ n ∷ 0 ∷ rest
+numbersOf (AllocWholeUnits n u) rest = 2 ∷ n ∷ u ∷ rest
+numbersOf (TakeRange a n) rest = 3 ∷ a ∷ n ∷ rest
+numbersOf (TakeTrailing e) rest = 4 ∷ e ∷ 0 ∷ rest
 
-abbrev pub encoded : List On → List ℕ
+abbrev pub encoded : List CallOn → List ℕ
 encoded [] = []
 encoded (c ∷ cs) = index (c .list) ∷ numbersOf (c .what) (encoded cs)
 
@@ -63,17 +67,17 @@ abbrev pub InWord : List ℕ → Type 0
 InWord [] = Unit {0}
 InWord (x ∷ xs) = (x < 2 ^ 64) × InWord xs
 
-abbrev pub Fits : Call → Type 0
-Fits (free a n) = (a < 2 ^ 64) × (n < 2 ^ 64)
-Fits (alloc n) = n < 2 ^ 64
-Fits (units n u) = (n < 2 ^ 64) × (u < 2 ^ 64)
-Fits (takeRange a n) = (a < 2 ^ 64) × (n < 2 ^ 64)
-Fits (takeTrailing e) = e < 2 ^ 64
+abbrev pub Fits : ListCall → Type 0
+Fits (Free a n) = (a < 2 ^ 64) × (n < 2 ^ 64)
+Fits (Alloc n) = n < 2 ^ 64
+Fits (AllocWholeUnits n u) = (n < 2 ^ 64) × (u < 2 ^ 64)
+Fits (TakeRange a n) = (a < 2 ^ 64) × (n < 2 ^ 64)
+Fits (TakeTrailing e) = e < 2 ^ 64
 
-abbrev pub AllFit : List On → Type 0
+abbrev pub AllFit : List CallOn → Type 0
 AllFit [] = Unit {0}
 AllFit (c ∷ cs) = Fits (c .what) × AllFit cs
 
-pub record Encodes (cs : List On) : Type 0 where
-  pub again : onsOf (encoded cs) ≡ cs
+pub record Encodes (cs : List CallOn) : Type 0 where
+  pub again : callsOf (encoded cs) ≡ cs
   pub lendable : AllFit cs → InWord (encoded cs)

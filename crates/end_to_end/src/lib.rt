@@ -2,20 +2,21 @@
 pub mod calls;
 
 ghost use mathlib.Core.Path.{_≡_};
-ghost use Rattle.free_lists.specs.Lists.{lst, listsOf};
+ghost use Rattle.free_lists.specs.Lists.{listsIn};
 ghost use Rattle.save.specs.Saving.{begun, beginOutcome};
 ghost use Rattle.image.specs.Answers.{imageOutcome, countsIn};
-ghost use Rattle.end_to_end.specs.Encoding.{onsOf, runsOf, afterCalls};
+ghost use Rattle.end_to_end.specs.Encoding.{callsOf, runsOf, afterCalls};
 ghost use Rattle.end_to_end.specs.Demanded.{Demanded};
 ghost use Rattle.end_to_end.specs.Cuts.{cutAfter, cutBy, begunWith, notBegun};
-use crate::calls::Records;
 use crate::calls::make_calls;
 use error::Refusal;
 use file_space_info::NUM_FILE_FSM_MANAGERS;
+use free_lists::FileLists;
 use image::ImageAnswer;
 use image::ImageRead;
 use image::read_image;
 use save::Begin;
+use save::Target;
 use save::save_begin;
 use save_step::save_steps;
 
@@ -66,7 +67,7 @@ fn step_and_read(
 
 // The records of the lists after the calls, and what the save of them came to.
 pub struct AfterCalls {
-    pub lists: Records,
+    pub lists: FileLists,
     pub saved: Saved,
 }
 
@@ -77,41 +78,24 @@ pub fn call_save_read(
     metadata: &mut [u64],
     raw: &mut [u64],
     unclassified: &mut [u64],
-    page: u64,
-    start: u64,
-    place: u64,
+    to: Target,
     image: &mut [u8],
     scratch: &mut [u8],
     k: u64,
     out: &mut [u64],
 ) -> AfterCalls
-    ensures lists { λ r. ⌜ listsOf (lst (now (metadata .exit)) (r .lists .metadata)) (lst (now (raw .exit)) (r .lists .raw)) (lst (now (unclassified .exit)) (r .lists .unclassified))
+    ensures lists { λ r. ⌜ listsIn (now (metadata .exit)) (now (raw .exit)) (now (unclassified .exit)) (r .lists)
         ≡ afterCalls (now (calls .entry)) (now (metadata .entry)) (now (raw .entry)) (now (unclassified .entry)) ⌝ }
     ensures cut { λ r. ⌜ cutBy (r .saved) (now (image .exit)) (now (scratch .exit)) (now (out .exit))
-        ≡ cutAfter k place (now (image .entry)) (now (scratch .entry)) (now (out .entry))
-        (begun (afterCalls (now (calls .entry)) (now (metadata .entry)) (now (raw .entry)) (now (unclassified .entry))) page start place (now (image .entry)) (now (scratch .entry))) ⌝ }
+        ≡ cutAfter k (to .place) (now (image .entry)) (now (scratch .entry)) (now (out .entry))
+        (begun (afterCalls (now (calls .entry)) (now (metadata .entry)) (now (raw .entry)) (now (unclassified .entry))) (to .page) (to .start) (to .place) (now (image .entry)) (now (scratch .entry))) ⌝ }
     ensures counted { λ r. ⌜ r .saved .read .counts ≡ countsIn (imageOutcome (r .saved .read)) ⌝ }
-    ensures demand { λ r. ⌜ Demanded (runsOf (now (metadata .entry)) (now (raw .entry)) (now (unclassified .entry))) (onsOf (now (calls .entry)))
-        page start place k (now (image .entry)) (now (scratch .entry)) (now (out .entry)) (cutBy (r .saved) (now (image .exit)) (now (scratch .exit)) (now (out .exit))) ⌝ }
+    ensures demand { λ r. ⌜ Demanded (runsOf (now (metadata .entry)) (now (raw .entry)) (now (unclassified .entry))) (callsOf (now (calls .entry)))
+        (to .page) (to .start) (to .place) k (now (image .entry)) (now (scratch .entry)) (now (out .entry)) (cutBy (r .saved) (now (image .exit)) (now (scratch .exit)) (now (out .exit))) ⌝ }
 {
     let lists = make_calls(calls, metadata, raw, unclassified);
-    let m = lists.metadata;
-    let r = lists.raw;
-    let u = lists.unclassified;
-    let begin = save_begin(
-        metadata,
-        m,
-        raw,
-        r,
-        unclassified,
-        u,
-        page,
-        start,
-        place,
-        image,
-        scratch,
-    );
-    let saved = step_and_read(begin, place, image, scratch, k, out);
+    let begin = save_begin(metadata, raw, unclassified, lists, to, image, scratch);
+    let saved = step_and_read(begin, to.place, image, scratch, k, out);
     AfterCalls {
         lists: lists,
         saved: saved,

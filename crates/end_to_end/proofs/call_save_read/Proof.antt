@@ -1,53 +1,44 @@
 use denote.Ref.{now}
+use native.Mathlib.Omega.{arith}
 use borrow.Author.Needs.{needs}
-use Rattle.end_to_end.specs.Encoding.{onsOf, runsOf, afterCalls}
+use Rattle.end_to_end.specs.Encoding.{callsOf, runsOf, afterCalls}
 use Rattle.end_to_end.proofs.CutLaws.{cut-of-lists}
 use Rattle.end_to_end.proofs.DemandedLaws.{demanded}
 use Rattle.end_to_end.proofs.call_save_read.Statement.{statement}
 use Rattle.end_to_end.proofs.call_save_read.Tie as tie
 
--- src/lib.rt:88:9
 make-calls-requires : tie.Need-make-calls-requires
 make-calls-requires c κs = search needs
 
--- src/lib.rt:92:9
 save-begin-requires : tie.Need-save-begin-requires
 save-begin-requires c κs = search needs
 
--- src/lib.rt:93:9
 step-and-read-requires : tie.Need-step-and-read-requires
 step-and-read-requires c κs = search needs
 
--- src/lib.rt:66:1
 same-length : tie.Need-same-length
 same-length c = search needs
 
--- src/lib.rt:66:1
 same-length-2 : tie.Need-same-length-2
 same-length-2 c = search needs
 
--- src/lib.rt:66:1
 same-length-3 : tie.Need-same-length-3
 same-length-3 c = search needs
 
--- src/lib.rt:66:1
 same-length-4 : tie.Need-same-length-4
 same-length-4 c = search needs
 
--- src/lib.rt:66:1
 same-length-5 : tie.Need-same-length-5
 same-length-5 c = search needs
 
--- src/lib.rt:66:1
 same-length-6 : tie.Need-same-length-6
 same-length-6 c = search needs
 
--- src/lib.rt:66:1
 returns : tie.Need-returns
 returns c =
     let read = c .before .before .before .before in
     let began = read .before .before .before .before .before .before in
-    let made = began .before .before .before .before .before .before .before .before .before .before .before .before .before .before .before in
+    let made = began .before .before .before .before .before .before .before .before .before .before .before .before in
     let given = made .before .before .before .before .before .before .before .before .before .before .before in
     let a = given .args in
     let image = now (a .image) in
@@ -56,11 +47,11 @@ returns c =
     let runs = runsOf (now (a .metadata)) (now (a .raw)) (now (a .unclassified)) in
     let ls = afterCalls (now (a .calls)) (now (a .metadata)) (now (a .raw)) (now (a .unclassified)) in
     let cut =
-    cut-of-lists (a .k) (a .place) (a .page) (a .start) image scratch out ls _ (made .make-calls .ensures)
+    cut-of-lists (a .k) (a .to .place) (a .to .page) (a .to .start) image scratch out ls _ (made .make-calls .ensures)
     (began .save-begin .result) _ (began .save-begin .ensures) _ (read .step-and-read .ensures .0) in
     let shown =
-    demanded runs (onsOf (now (a .calls))) (a .page) (a .start) (a .place) (a .k) image scratch out _
-    (given .fits .page .fits) (given .fits .start .fits) cut in
+    demanded runs (callsOf (now (a .calls))) (a .to .page) (a .to .start) (a .to .place) (a .k) image scratch out _
+    (omega (arith, given .good)) (omega (arith, given .good)) cut in
     (made .make-calls .ensures, (cut, (read .step-and-read .ensures .1, shown)))
 
 pub call-save-read-spec : {M : Type 1} → statement M
