@@ -1,5 +1,5 @@
 -- What the benchmarks see of a plan and of a save's beginning: one number, and the lent memory. Assumes nothing.
---   wholeList   the record of a run that is full
+--   wholeLists  the records of three runs that are full
 --   endOrTop    the end of the managers, all ones for a refusal; lenOrTop the length of the blocks
 --   planLeft    that number and the run of sections; saveLeft and the scratch
 use Prim.Native.Nat.{ℕ, _/_}
@@ -8,12 +8,13 @@ use lib.ListN.{length}
 use Rattle.error.specs.Outcome.{Outcome, answer, nothing, refuse}
 use Rattle.error.specs.Lent.{With, with, Left}
 use Rattle.fields.specs.Ranges.{top}
-use Rattle.free_space.specs.declared.list.FreeList.{FreeList}
+use Rattle.free_lists.specs.declared.FileLists.{FileLists}
 use Rattle.fsm_plan.specs.declared.plan.PagedManagerPlan.{PagedManagerPlan}
 use Rattle.save_step.specs.declared.Save.{Save}
 
-abbrev pub wholeList : List ℕ → FreeList
-wholeList xs = record { count = length xs / 2 }
+abbrev pub wholeLists : List ℕ → List ℕ → List ℕ → FileLists
+wholeLists xs ys zs =
+    record { metadata = record { count = length xs / 2 }; raw = record { count = length ys / 2 }; unclassified = record { count = length zs / 2 } }
 
 abbrev pub endOrTop : Outcome PagedManagerPlan → ℕ
 endOrTop (answer p) = p .«end_of_managers»

@@ -5,13 +5,15 @@ ghost use Prim.Native.Nat.{_/_};
 ghost use lib.ListN.{length};
 ghost use Rattle.error.specs.Lent.{with, leaving};
 ghost use Rattle.fsm_plan.specs.Plan.{plannedOutcome, planned};
-ghost use Rattle.free_lists.specs.Lists.{three};
+ghost use Rattle.free_lists.specs.Lists.{listsIn};
 ghost use Rattle.save.specs.Saving.{begun, beginOutcome};
-ghost use Rattle.bench_save.specs.Lengths.{wholeList, endOrTop, lenOrTop, planLeft, saveLeft};
+ghost use Rattle.bench_save.specs.Lengths.{wholeLists, endOrTop, lenOrTop, planLeft, saveLeft};
+use free_lists::FileLists;
 use free_space::list::FreeList;
 use fsm_plan::plan::Planned;
 use fsm_plan::plan::plan_paged_managers;
 use save::Begin;
+use save::Target;
 use save::save_begin;
 
 fn end_of(p: Planned) -> u64
@@ -32,11 +34,19 @@ fn len_of(b: Begin) -> u64
     }
 }
 
-fn list_of(run: &[u64]) -> FreeList
-    ensures { λ r. ⌜ r ≡ wholeList (now (run .entry)) ⌝ }
+fn lists_of(meta: &[u64], raw: &[u64], unclassified: &[u64]) -> FileLists
+    ensures { λ r. ⌜ r ≡ wholeLists (now (meta .entry)) (now (raw .entry)) (now (unclassified .entry)) ⌝ }
 {
-    FreeList {
-        count: run.len() / 2,
+    FileLists {
+        metadata: FreeList {
+            count: meta.len() / 2,
+        },
+        raw: FreeList {
+            count: raw.len() / 2,
+        },
+        unclassified: FreeList {
+            count: unclassified.len() / 2,
+        },
     }
 }
 
@@ -67,22 +77,13 @@ pub extern "C" fn bench_save_begin(
     image: &[u8],
     scratch: &mut [u8],
 ) -> u64
-    ensures { λ r. ⌜ with r (now (scratch .exit)) ≡ saveLeft (leaving (now (scratch .entry)) (begun (three (now (meta .entry)) (wholeList (now (meta .entry))) (now (raw .entry)) (wholeList (now (raw .entry))) (now (unclassified .entry)) (wholeList (now (unclassified .entry)))) page start 0 (now (image .entry)) (now (scratch .entry)))) ⌝ }
+    ensures { λ r. ⌜ with r (now (scratch .exit)) ≡ saveLeft (leaving (now (scratch .entry)) (begun (listsIn (now (meta .entry)) (now (raw .entry)) (now (unclassified .entry)) (wholeLists (now (meta .entry)) (now (raw .entry)) (now (unclassified .entry)))) page start 0 (now (image .entry)) (now (scratch .entry)))) ⌝ }
 {
-    let m = list_of(meta);
-    let r = list_of(raw);
-    let u = list_of(unclassified);
-    len_of(save_begin(
-        meta,
-        m,
-        raw,
-        r,
-        unclassified,
-        u,
-        page,
-        start,
-        0,
-        image,
-        scratch,
-    ))
+    let lists = lists_of(meta, raw, unclassified);
+    let to = Target {
+        page: page,
+        start: start,
+        place: 0,
+    };
+    len_of(save_begin(meta, raw, unclassified, lists, to, image, scratch))
 }

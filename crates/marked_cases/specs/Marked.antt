@@ -16,8 +16,11 @@ use Rattle.fields.specs.Ranges.{top}
 use Rattle.fields.specs.Width.{encSize, fshdLen}
 use Rattle.free_regions.specs.Regions.{region}
 use Rattle.free_space.specs.Calls.{allocated, allocatedUnits, rangeTaken}
-use Rattle.free_lists.specs.Lists.{Which, metadata, raw, unclassified, Lists, regionsOf}
-use Rattle.free_lists.specs.History.{free, On, run, begun}
+use Rattle.free_lists.specs.declared.calls.Which.{Which}
+use Rattle.free_lists.specs.declared.calls.Which.the-variants.{Metadata, Raw, Unclassified}
+use Rattle.free_lists.specs.declared.calls.ListCall.the-variants.{Free}
+use Rattle.free_lists.specs.Lists.{Lists, regionsOf}
+use Rattle.free_lists.specs.History.{CallOn, on, run, begun}
 use Rattle.fsm_sections.specs.Sections.{section}
 use Rattle.fsm_lengths.specs.Lengths.{fsseLen}
 use Rattle.fsm_pages.specs.Split.{splitInto}
@@ -31,12 +34,12 @@ use Rattle.save.specs.Saving.{small, smallRaw, large, blockLen, slotAddrs}
 
 -- any lent runs do, with room for what is freed
 abbrev pub lent : Which → List ℕ
-lent metadata = 7 ∷ 7 ∷ 7 ∷ 7 ∷ []
-lent raw = []
-lent unclassified = []
+lent Metadata = 7 ∷ 7 ∷ 7 ∷ 7 ∷ []
+lent Raw = []
+lent Unclassified = []
 
-abbrev pub freeing : ℕ → ℕ → On
-freeing a n = record { list = metadata; what = free a n }
+abbrev pub freeing : ℕ → ℕ → CallOn
+freeing a n = on Metadata (Free a n)
 
 abbrev pub m4Lists : Lists
 m4Lists = run (freeing 100 50 ∷ freeing 200 50 ∷ freeing 150 50 ∷ []) (begun lent)
@@ -54,7 +57,7 @@ pub record Marked : Type 0 where
   pub m1 : map encSize (0 ∷ 255 ∷ 256 ∷ (2 ^ 64 - 1) ∷ []) ≡ 1 ∷ 1 ∷ 2 ∷ 8 ∷ []
   pub m2 : map fshdLen (1 ∷ 8 ∷ []) ≡ answer 75 ∷ answer 82 ∷ []
   pub m3 : map (fsseLen 8) ([] ∷ (16 ∷ 16 ∷ 32 ∷ []) ∷ replicate 255 16 ∷ replicate 256 16 ∷ []) ≡ answer 17 ∷ answer 62 ∷ answer 2321 ∷ answer 2331 ∷ []
-  pub m4 : regionsOf (m4Lists metadata) ≡ region 100 150 ∷ []
+  pub m4 : regionsOf (m4Lists Metadata) ≡ region 100 150 ∷ []
   pub m5 : allocated (0 ∷ 16 ∷ 100 ∷ 16 ∷ []) (of 2) 16 ≡ gives 0 1 (100 ∷ 16 ∷ 0 ∷ 0 ∷ [])
   pub m5-front : allocated (0 ∷ 64 ∷ 100 ∷ 16 ∷ []) (of 2) 10 ≡ gives 100 2 (0 ∷ 64 ∷ 110 ∷ 6 ∷ [])
   pub m6 : allocatedUnits (5000 ∷ 10000 ∷ 0 ∷ 0 ∷ []) (of 1) 4096 4096 ≡ gives 8192 2 (5000 ∷ 3192 ∷ 12288 ∷ 2712 ∷ [])

@@ -10,10 +10,13 @@ use crate::reply::say_pairs;
 use crate::words::few_of;
 use crate::words::line_numbers;
 use crate::words::name_in;
+use free_lists::FileLists;
+use free_lists::calls::Answered;
+use free_lists::calls::ListCall;
+use free_lists::calls::Which;
+use free_lists::calls::apply;
 use free_lists::trailing_run_start;
 use free_space::list::FreeList;
-use free_space::list::Given;
-use free_space::list::Kept;
 
 // The numbers that the run of a list has.
 const RUN: usize = 8192;
@@ -23,42 +26,6 @@ pub(crate) const COUNTS: usize = 24576;
 
 // The place of the length of a save's scratch.
 pub(crate) const SCRATCH: usize = 24579;
-
-// An answer, and the list's count after the call.
-struct Answered {
-    reply: Reply,
-    count: usize,
-}
-
-fn kept(k: Kept, list: FreeList) -> Answered {
-    match k {
-        Kept::Done(after) => Answered {
-            reply: Reply::Done,
-            count: after.count,
-        },
-        Kept::Refused(r) => Answered {
-            reply: Reply::Refused(r),
-            count: list.count,
-        },
-    }
-}
-
-fn given(g: Given, list: FreeList) -> Answered {
-    match g {
-        Given::At { addr, list: after } => Answered {
-            reply: Reply::Some(addr),
-            count: after.count,
-        },
-        Given::Nothing => Answered {
-            reply: Reply::Nothing,
-            count: list.count,
-        },
-        Given::Refused(r) => Answered {
-            reply: Reply::Refused(r),
-            count: list.count,
-        },
-    }
-}
 
 fn is_empty_call(list: FreeList) -> Reply {
     if list.is_empty() {

@@ -1,24 +1,17 @@
 use mathlib.Core.Path.{ap, _∙_}
-use mathlib.Core.List.{List}
 use Prim.Native.Nat.{ℕ}
 use denote.Ref.{now}
 use borrow.Author.Needs.{needs}
-use Rattle.error.specs.Lent.{With, with, leaving}
-use Rattle.free_space.specs.declared.list.FreeList.{FreeList}
-use Rattle.free_lists.specs.Lists.{three}
+use Rattle.error.specs.Lent.{with, leaving}
+use Rattle.free_lists.specs.declared.FileLists.{FileLists}
+use Rattle.free_lists.specs.Lists.{listsIn}
 use Rattle.save.specs.Saving.{begun}
-use Rattle.bench_save.specs.Lengths.{wholeList, saveLeft}
+use Rattle.bench_save.specs.Lengths.{saveLeft}
 use Rattle.bench_save.proofs.bench_save_begin.Statement.{statement}
 use Rattle.bench_save.proofs.bench_save_begin.Tie as tie
 
-list-of-requires : tie.Need-list-of-requires
-list-of-requires c κs = search needs
-
-list-of-requires-2 : tie.Need-list-of-requires-2
-list-of-requires-2 c κs = search needs
-
-list-of-requires-3 : tie.Need-list-of-requires-3
-list-of-requires-3 c κs = search needs
+lists-of-requires : tie.Need-lists-of-requires
+lists-of-requires c κs = search needs
 
 save-begin-requires : tie.Need-save-begin-requires
 save-begin-requires c κs = search needs
@@ -33,24 +26,12 @@ returns : tie.Need-returns
 returns c =
     let p = c .before .before .before .before .before in
     let d = c .before .before .before .save-begin in
-    let a = p .before .before .before .before .before .before .before .before .args in
-    let saved : FreeList → FreeList → FreeList → With ℕ (List ℕ) =
-    λ m r u. saveLeft (leaving (now (a .scratch))
-    (begun (three (now (a .meta)) m (now (a .raw)) r (now (a .unclassified)) u) (a .page) (a .start) 0 (now (a .image)) (now (a .scratch)))) in
-    ap (λ (n : ℕ). with n (d .last .1 .1 .1 .1 .1 .1 .1 .1 .1 .1 .0)) (c .len-of .ensures)
+    let a = p .before .before .before .before .before .before .args in
+    ap (λ (n : ℕ). with n (d .last .1 .1 .1 .1 .1 .1 .0)) (c .len-of .ensures)
     ∙ ap saveLeft (d .ensures)
-    ∙ ap (λ (m : FreeList). saved m (p .before .list-of2 .result) (p .list-of3 .result)) (p .before .before .list-of .ensures)
-    ∙ ap (λ (r : FreeList). saved (wholeList (now (a .meta))) r (p .list-of3 .result)) (p .before .list-of2 .ensures)
-    ∙ ap (λ (u : FreeList). saved (wholeList (now (a .meta))) (wholeList (now (a .raw))) u) (p .list-of3 .ensures)
+    ∙ ap (λ (f : FileLists). saveLeft (leaving (now (a .scratch))
+    (begun (listsIn (now (a .meta)) (now (a .raw)) (now (a .unclassified)) f) (a .page) (a .start) 0 (now (a .image)) (now (a .scratch))))) (p .lists-of .ensures)
 
 pub bench-save-begin-spec : {M : Type 1} → statement M
 bench-save-begin-spec =
-    tie.close
-    (tie.spec
-    list-of-requires
-    list-of-requires-2
-    list-of-requires-3
-    save-begin-requires
-    len-of-requires
-    same-length
-    returns)
+    tie.close (tie.spec lists-of-requires save-begin-requires len-of-requires same-length returns)
