@@ -14,7 +14,7 @@ use Rattle.free_lists.specs.declared.calls.Which.{Which}
 use Rattle.free_lists.specs.declared.calls.Which.the-variants.{Metadata, Raw, Unclassified}
 use Rattle.free_lists.specs.declared.calls.ListCall.{ListCall}
 use Rattle.free_lists.specs.declared.calls.ListCall.the-variants as call
-use Rattle.free_lists.specs.declared.calls.Made.{Made}
+use Rattle.free_lists.specs.declared.calls.Performed.{Performed}
 use Rattle.free_lists.specs.Lists.{LentList, listIn, Lists, listsOf, listsIn}
 use Rattle.free_lists.specs.History.{mapped, recordAfter, effect, bytes, perform, givenOut, answeredOutcome, on, next}
 
@@ -26,7 +26,7 @@ mapped-twice over give nothing = refl
 mapped-twice over give (refuse n vs) = refl
 
 -- the record and the answer of the code are those of the call's outcome, of which the bytes it goes over and what it gives of them are told
-module _ (xs ys : List ℕ) (l : FreeList) (r : Made) where
+module _ (xs ys : List ℕ) (l : FreeList) (r : Performed) where
   made : {A : Type 0} (list : A → FreeList) (over : A → Range) (give : Range → List ℕ) (o : Outcome A) (d : Left A (List ℕ)) → left o ys ≡ d
       → (r .list ≡ recordAfter list l o) × (answeredOutcome (r .answer) ≡ mapped (λ a. give (over a)) o)
       → (listIn ys (r .list) ≡ effect list over l d .left) × (answeredOutcome (r .answer) ≡ mapped give (effect list over l d .outcome))

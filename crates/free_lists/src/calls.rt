@@ -41,22 +41,22 @@ pub struct Applied {
 }
 
 // The answer, and the record of the one list after the call.
-struct Made {
-    answer: Answered,
-    list: FreeList,
+pub struct Performed {
+    pub answer: Answered,
+    pub list: FreeList,
 }
 
 // After a call that gives nothing out; a refusal leaves the old record.
-fn after_kept(list: FreeList, k: Kept) -> Made
+fn after_kept(list: FreeList, k: Kept) -> Performed
     ensures list { λ r. ⌜ r .list ≡ recordAfter keeping list (keptOutcome k) ⌝ }
     ensures answer { λ r. ⌜ answeredOutcome (r .answer) ≡ mapped (λ l. []) (keptOutcome k) ⌝ }
 {
     match k {
-        Kept::Done(after) => Made {
+        Kept::Done(after) => Performed {
             answer: Answered::Done,
             list: after,
         },
-        Kept::Refused(r) => Made {
+        Kept::Refused(r) => Performed {
             answer: Answered::Refused(r),
             list: list,
         },
@@ -64,20 +64,20 @@ fn after_kept(list: FreeList, k: Kept) -> Made
 }
 
 // After one that gives an address out.
-fn after_given(list: FreeList, g: Given) -> Made
+fn after_given(list: FreeList, g: Given) -> Performed
     ensures list { λ r. ⌜ r .list ≡ recordAfter (λ a. a .list) list (givenOutcome g) ⌝ }
     ensures answer { λ r. ⌜ answeredOutcome (r .answer) ≡ mapped (λ a. a .addr ∷ []) (givenOutcome g) ⌝ }
 {
     match g {
-        Given::At { addr, list: after } => Made {
+        Given::At { addr, list: after } => Performed {
             answer: Answered::At(addr),
             list: after,
         },
-        Given::Nothing => Made {
+        Given::Nothing => Performed {
             answer: Answered::Nothing,
             list: list,
         },
-        Given::Refused(r) => Made {
+        Given::Refused(r) => Performed {
             answer: Answered::Refused(r),
             list: list,
         },
@@ -85,7 +85,7 @@ fn after_given(list: FreeList, g: Given) -> Made
 }
 
 // Makes a call on one list.
-fn make(run: &mut [u64], list: FreeList, call: ListCall) -> Made
+pub fn perform(run: &mut [u64], list: FreeList, call: ListCall) -> Performed
     ensures list { λ r. ⌜ listIn (now (run .exit)) (r .list) ≡ perform call (listIn (now (run .entry)) list) .left ⌝ }
     ensures answer { λ r. ⌜ answeredOutcome (r .answer) ≡ mapped (givenOut call) (perform call (listIn (now (run .entry)) list) .outcome) ⌝ }
 {
@@ -119,7 +119,7 @@ pub fn apply(
     let u = lists.unclassified;
     match which {
         Which::Metadata => {
-            let made = make(metadata, m, call);
+            let made = perform(metadata, m, call);
             let answer = made.answer;
             let after = made.list;
             Applied {
@@ -132,7 +132,7 @@ pub fn apply(
             }
         }
         Which::Raw => {
-            let made = make(raw, r, call);
+            let made = perform(raw, r, call);
             let answer = made.answer;
             let after = made.list;
             Applied {
@@ -145,7 +145,7 @@ pub fn apply(
             }
         }
         Which::Unclassified => {
-            let made = make(unclassified, u, call);
+            let made = perform(unclassified, u, call);
             let answer = made.answer;
             let after = made.list;
             Applied {

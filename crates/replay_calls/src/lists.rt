@@ -13,8 +13,7 @@ use crate::words::name_in;
 use free_lists::FileLists;
 use free_lists::calls::Answered;
 use free_lists::calls::ListCall;
-use free_lists::calls::Which;
-use free_lists::calls::apply;
+use free_lists::calls::perform;
 use free_lists::trailing_run_start;
 use free_space::list::FreeList;
 
@@ -22,10 +21,35 @@ use free_space::list::FreeList;
 const RUN: usize = 8192;
 
 // The place of the first list's count.
-pub(crate) const COUNTS: usize = 24576;
+const COUNTS: usize = 24576;
 
 // The place of the length of a save's scratch.
 pub(crate) const SCRATCH: usize = 24579;
+
+// An answer, and the list's count after the call.
+struct AfterCall {
+    reply: Reply,
+    count: usize,
+}
+
+fn answered_reply(answer: Answered) -> Reply {
+    match answer {
+        Answered::Done => Reply::Done,
+        Answered::At(addr) => Reply::Some(addr),
+        Answered::Nothing => Reply::Nothing,
+        Answered::Refused(r) => Reply::Refused(r),
+    }
+}
+
+// Makes a call that changes a list.
+fn change(run: &mut [u64], list: FreeList, call: ListCall) -> AfterCall {
+    let done = perform(run, list, call);
+    let answer = done.answer;
+    AfterCall {
+        reply: answered_reply(answer),
+        count: done.list.count,
+    }
+}
 
 fn is_empty_call(list: FreeList) -> Reply {
     if list.is_empty() {
@@ -45,15 +69,39 @@ fn question(call: u64, run: &[u64], list: FreeList, first: u64) -> Reply {
 }
 
 // The calls on one list, by their places among the names of `lists_name`.
-fn one_list(call: u64, run: &mut [u64], list: FreeList, first: u64, second: u64) -> Answered {
+fn one_list(call: u64, run: &mut [u64], list: FreeList, first: u64, second: u64) -> AfterCall {
     match call {
-        1 => kept(list.free(run, first, second), list),
-        2 => kept(list.take_range(run, first, second), list),
-        3 => given(list.alloc_whole_units(run, first, second), list),
-        4 => given(list.alloc(run, first), list),
-        5 => given(list.take_trailing(run, first), list),
-        9 => kept(Kept::Done(FreeList::new()), list),
-        _ => Answered {
+        1 => change(
+            run,
+            list,
+            ListCall::Free {
+                addr: first,
+                len: second,
+            },
+        ),
+        2 => change(
+            run,
+            list,
+            ListCall::TakeRange {
+                addr: first,
+                len: second,
+            },
+        ),
+        3 => change(
+            run,
+            list,
+            ListCall::AllocWholeUnits {
+                len: first,
+                unit: second,
+            },
+        ),
+        4 => change(run, list, ListCall::Alloc { len: first }),
+        5 => change(run, list, ListCall::TakeTrailing { eof: first }),
+        9 => AfterCall {
+            reply: Reply::Done,
+            count: FreeList::new().count,
+        },
+        _ => AfterCall {
             reply: question(call, run, list, first),
             count: list.count,
         },
@@ -147,6 +195,23 @@ fn lend_call(line: &[u8], lists: &mut [u64]) -> Reply
     lend(&numbers[0..n], lists)
 }
 
+// The records of the three lists.
+pub(crate) fn file_lists(lists: &[u64]) -> FileLists
+    requires { ⌜ 24580 ≤ length (now lists) ⌝ }
+{
+    FileLists {
+        metadata: FreeList {
+            count: lists[COUNTS] as usize,
+        },
+        raw: FreeList {
+            count: lists[COUNTS + 1] as usize,
+        },
+        unclassified: FreeList {
+            count: lists[COUNTS + 2] as usize,
+        },
+    }
+}
+
 fn trailing_run_start_call(line: &[u8], lists: &[u64]) -> Reply
     requires { ⌜ 24580 ≤ length (now lists) ⌝ }
 {
@@ -154,22 +219,11 @@ fn trailing_run_start_call(line: &[u8], lists: &[u64]) -> Reply
     if few.count != 1 {
         return Reply::Bad;
     }
-    let meta = FreeList {
-        count: lists[COUNTS] as usize,
-    };
-    let raw = FreeList {
-        count: lists[COUNTS + 1] as usize,
-    };
-    let unclassified = FreeList {
-        count: lists[COUNTS + 2] as usize,
-    };
     let n = trailing_run_start(
         &lists[0..8192],
-        meta,
         &lists[8192..16384],
-        raw,
         &lists[16384..24576],
-        unclassified,
+        file_lists(lists),
         few.first,
     );
     number_reply(n)

@@ -1,17 +1,17 @@
 // The call of a save. `lists` has the three lists and the length of the scratch that a save is lent.
 ghost use Prim.Native.Nat.{_≤_};
 ghost use lib.ListN.{length};
-use crate::lists::COUNTS;
 use crate::lists::SCRATCH;
+use crate::lists::file_lists;
 use crate::memory::bytes_memory;
 use crate::reply::Reply;
 use crate::reply::write_out;
 use crate::text::end_line;
 use crate::text::put_bytes;
-use free_space::list::FreeList;
 use listing::text::write_bytes;
 use replay_lines::answer::put_number;
 use save::Begin;
+use save::Target;
 use save::save_begin;
 use save_step::Save;
 use save_step::save_steps;
@@ -36,25 +36,17 @@ fn steps(s: Save, k: u64, image: &mut [u8], scratch: &[u8]) -> Reply {
 fn begin(args: &[u64], lists: &[u64], image: &[u8], scratch: &mut [u8]) -> Begin
     requires { ⌜ (4 ≤ length (now args)) × (24580 ≤ length (now lists)) ⌝ }
 {
-    let meta = FreeList {
-        count: lists[COUNTS] as usize,
-    };
-    let raw = FreeList {
-        count: lists[COUNTS + 1] as usize,
-    };
-    let unclassified = FreeList {
-        count: lists[COUNTS + 2] as usize,
+    let to = Target {
+        page: args[0],
+        start: args[1],
+        place: args[2],
     };
     save_begin(
         &lists[0..8192],
-        meta,
         &lists[8192..16384],
-        raw,
         &lists[16384..24576],
-        unclassified,
-        args[0],
-        args[1],
-        args[2],
+        file_lists(lists),
+        to,
         image,
         scratch,
     )

@@ -7,20 +7,20 @@ use Rattle.free_lists.proofs.calls.apply.Tie as tie
 enum-told : tie.Need-enum-told
 enum-told c = search needs
 
-make-requires : tie.Need-make-requires
-make-requires c κs = search needs
+perform-requires : tie.Need-perform-requires
+perform-requires c κs = search needs
 
 enum-told-2 : tie.Need-enum-told-2
 enum-told-2 c = search needs
 
-make-requires-2 : tie.Need-make-requires-2
-make-requires-2 c κs = search needs
+perform-requires-2 : tie.Need-perform-requires-2
+perform-requires-2 c κs = search needs
 
 enum-told-3 : tie.Need-enum-told-3
 enum-told-3 c = search needs
 
-make-requires-3 : tie.Need-make-requires-3
-make-requires-3 c κs = search needs
+perform-requires-3 : tie.Need-perform-requires-3
+perform-requires-3 c κs = search needs
 
 same-length : tie.Need-same-length
 same-length c = search needs
@@ -29,7 +29,7 @@ returns : tie.Need-returns
 returns c =
     let made = c .before .before .before in
     let a = made .before .before .before .before .before .before .before .before .before .before .args in
-    on-metadata (now (a .metadata)) (now (a .raw)) (now (a .unclassified)) (a .lists) (a .call) (a .which) _ _ (made .before .before .enum-told .given .1) (made .make .ensures)
+    on-metadata (now (a .metadata)) (now (a .raw)) (now (a .unclassified)) (a .lists) (a .call) (a .which) _ _ (made .before .before .enum-told .given .1) (made .perform .ensures)
 
 same-length-2 : tie.Need-same-length-2
 same-length-2 c = search needs
@@ -38,7 +38,7 @@ returns-2 : tie.Need-returns-2
 returns-2 c =
     let made = c .before .before .before in
     let a = made .before .before .before .before .before .before .before .before .before .before .args in
-    on-raw (now (a .metadata)) (now (a .raw)) (now (a .unclassified)) (a .lists) (a .call) (a .which) _ _ (made .before .before .enum-told2 .given .1) (made .make2 .ensures)
+    on-raw (now (a .metadata)) (now (a .raw)) (now (a .unclassified)) (a .lists) (a .call) (a .which) _ _ (made .before .before .enum-told2 .given .1) (made .perform2 .ensures)
 
 same-length-3 : tie.Need-same-length-3
 same-length-3 c = search needs
@@ -47,18 +47,18 @@ returns-3 : tie.Need-returns-3
 returns-3 c =
     let made = c .before .before .before in
     let a = made .before .before .before .before .before .before .before .before .before .before .args in
-    on-unclassified (now (a .metadata)) (now (a .raw)) (now (a .unclassified)) (a .lists) (a .call) (a .which) _ _ (made .before .before .enum-told3 .given .1) (made .make3 .ensures)
+    on-unclassified (now (a .metadata)) (now (a .raw)) (now (a .unclassified)) (a .lists) (a .call) (a .which) _ _ (made .before .before .enum-told3 .given .1) (made .perform3 .ensures)
 
 pub apply-spec : {M : Type 1} → statement M
 apply-spec =
     tie.close
     (tie.spec
     enum-told
-    make-requires
+    perform-requires
     enum-told-2
-    make-requires-2
+    perform-requires-2
     enum-told-3
-    make-requires-3
+    perform-requires-3
     same-length
     returns
     same-length-2

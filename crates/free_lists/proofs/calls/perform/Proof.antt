@@ -1,7 +1,7 @@
 use borrow.Author.Needs.{needs}
 use Rattle.free_lists.proofs.ApplyLaws.{made-free, made-alloc, made-units, made-range, made-trailing}
-use Rattle.free_lists.proofs.calls.make.Statement.{statement}
-use Rattle.free_lists.proofs.calls.make.Tie as tie
+use Rattle.free_lists.proofs.calls.perform.Statement.{statement}
+use Rattle.free_lists.proofs.calls.perform.Tie as tie
 
 enum-known-call : tie.Need-enum-known-call
 enum-known-call c = search needs
@@ -93,8 +93,8 @@ returns-5 c =
     let told = done .before .before .before in
     made-trailing _ _ _ (c .after-given3 .result) _ _ (told .call5 .given .1) (done .take-trailing .result) (done .take-trailing .ensures) (c .after-given3 .ensures)
 
-pub make-spec : {M : Type 1} → statement M
-make-spec =
+pub perform-spec : {M : Type 1} → statement M
+perform-spec =
     tie.close
     (tie.spec
     enum-known-call
