@@ -15,13 +15,13 @@ use Rattle.free_space.specs.Calls.{freed}
 use Rattle.free_lists.specs.declared.calls.Which.the-variants.{Metadata, Raw, Unclassified}
 use Rattle.free_lists.specs.declared.calls.ListCall.the-variants.{Free, AllocWholeUnits, TakeTrailing}
 use Rattle.free_lists.specs.History.{run}
-use Rattle.free_lists.specs.Lists.{Lists}
+use Rattle.free_lists.specs.Lists.{Lists, regionsIn}
 use Rattle.fsm_sections.specs.Sections.{space, ofSize, distinct, insert, bySizeThenAddr}
 use Rattle.fsm_sections.specs.Pages.{piecesFrom, pieces, split, belowPage, fromPage}
 use Rattle.fsm_blocks.specs.Managers.{startingSet}
 use Rattle.fsm_plan.specs.Managers.{sizeOf}
 use Rattle.save_step.specs.declared.Save.{Save}
-use Rattle.save.specs.Saving.{plan, blockLen, filled, begun}
+use Rattle.save.specs.Saving.{plan, blockLen, filled, begunOf, begun}
 use Rattle.save.proofs.PlanLaws.{length-blocks}
 use Rattle.end_to_end.specs.Encoding.{whichOf, callOf, callsOf, runsOf, afterCalls}
 use Rattle.end_to_end.specs.Cuts.{Cut, cutAfter}
@@ -45,7 +45,7 @@ calls = 0 ∷ 0 ∷ 4000 ∷ 5000 ∷ []
 abbrev lists : Lists
 lists = afterCalls calls (7 ∷ 7 ∷ 7 ∷ 7 ∷ []) [] []
 
-m9-len : blockLen 4096 lists ≡ 252
+m9-len : blockLen 4096 (regionsIn lists) ≡ 252
 unfolding callsOf whichOf callOf run freed firstOf isList stored piecesFrom pieces split belowPage fromPage sizeOf distinct ofSize encSize leastFrom
 m9-len = refl
 
@@ -55,10 +55,10 @@ module _ (image scratch : List ℕ) (long : length image ≡ 21000) (version : g
   save = record { start = 20000; place = 0; len = 252; done = 0 }
 
   abbrev lent : List ℕ
-  lent = filled lists 4096 20000 0 scratch
+  lent = filled (regionsIn lists) 4096 20000 0 scratch
 
   m9-begun : begun lists 4096 20000 0 image scratch ≡ answer (with save lent)
-  unfolding begun callsOf whichOf callOf run freed firstOf isList stored piecesFrom pieces split belowPage fromPage sizeOf distinct ofSize encSize leastFrom space
+  unfolding begun begunOf callsOf whichOf callOf run freed firstOf isList stored piecesFrom pieces split belowPage fromPage sizeOf distinct ofSize encSize leastFrom space
   m9-begun = rw (long, version, le-ltb 3 (getD image 1 0) strategy, le-ltb (length scratch) 377 room)
 
   -- what the code leaves after 378 steps or more, in a lent run with room for three pairs
@@ -69,4 +69,4 @@ module _ (image scratch : List ℕ) (long : length image ≡ 21000) (version : g
 
     m9-read : (x .read ≡ answer (2 ∷ 0 ∷ 0 ∷ 0 ∷ 0 ∷ 0 ∷ 1 ∷ 0 ∷ 0 ∷ 0 ∷ 0 ∷ 0 ∷ [])) × (x .out ≡ over 0 (4000 ∷ 96 ∷ 8192 ∷ 808 ∷ 4096 ∷ 4096 ∷ []) out)
     unfolding callsOf whichOf callOf run freed firstOf isList stored piecesFrom pieces split belowPage fromPage bySizeThenAddr insert
-    m9-read = rw (length-blocks 8 (startingSet 8) lookup3 (plan 4096 lists) 20000, m9-len) at (m9-shown .finished) all (pairs, three)
+    m9-read = rw (length-blocks 8 (startingSet 8) lookup3 (plan 4096 (regionsIn lists)) 20000, m9-len) at (m9-shown .finished) all (pairs, three)

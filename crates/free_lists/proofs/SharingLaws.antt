@@ -26,10 +26,11 @@ use Rattle.free_space.specs.Runs.{regionAt, decode, isList}
 use Rattle.free_space.proofs.DecodeLaws.{length-decode, decode-at, decode-end}
 use Rattle.free_space.proofs.QuestionLaws.{denied, held, here}
 use Rattle.free_space.proofs.ListLaws.{listed}
+use Rattle.free_lists.specs.declared.Cursors.{Cursors}
 use Rattle.free_lists.specs.declared.FileLists.{FileLists}
 use Rattle.free_lists.specs.Trailing.{falling, walk, runStart}
-use Rattle.free_lists.specs.Lists.{Lists, listsIn, areLists, sharedByte, apart, together}
-use Rattle.free_lists.specs.Walks.{allOf, InOrder, AllInOrder, remaining}
+use Rattle.free_lists.specs.Lists.{Lists, listsIn, regionsIn, areLists, sharedByte, apart, together}
+use Rattle.free_lists.specs.Walks.{InOrder, AllInOrder, remaining}
 
 -- ---- regions in order
 
@@ -109,11 +110,14 @@ module _ {xs : List ℕ} {n : ℕ} {ys : List ℕ} {m i j : ℕ} (c : Compared x
 -- ---- refusals 3 and 5 of three lists
 
 module _ (xs ys zs : List ℕ) (f : FileLists) where
+  abbrev counts : Cursors
+  counts = record { meta = f .metadata .count; raw = f .raw .count; unclassified = f .unclassified .count }
+
   abbrev ls : Lists
   ls = listsIn xs ys zs f
 
   -- b and s are the flags of the code
-  pub lists-order : {b : Bool} → b ≡ areLists ls → not b ≡ false → AllInOrder xs ys zs (allOf f)
+  pub lists-order : {b : Bool} → b ≡ areLists ls → not b ≡ false → AllInOrder xs ys zs counts
   lists-order e h =
       let p = and-true (isList xs (f .metadata)) _ (held e h) in
       let q = and-true (isList ys (f .raw)) (isList zs (f .unclassified)) (p .1) in
@@ -122,10 +126,10 @@ module _ (xs ys zs : List ℕ) (f : FileLists) where
   pub apart-not : {b : Bool} → b ≡ areLists ls → not b ≡ true → refused NotAList ≡ together ls
   apart-not e h = sym (first-holds _ _ _ _ (ap not (denied e h)))
 
-  pub apart-shared : {b s : Bool} → b ≡ areLists ls → not b ≡ false → s ≡ sharedByte ls → s ≡ true → refused SharedAddress ≡ together ls
+  pub apart-shared : {b s : Bool} → b ≡ areLists ls → not b ≡ false → s ≡ sharedByte (regionsIn ls) → s ≡ true → refused SharedAddress ≡ together ls
   apart-shared e h f g = sym (first-passes _ _ _ _ (ap not (held e h)) ∙ first-holds _ _ _ _ (sym f ∙ g))
 
-  pub apart-fine : {b s : Bool} → b ≡ areLists ls → not b ≡ false → s ≡ sharedByte ls → s ≡ false → answer tt ≡ together ls
+  pub apart-fine : {b s : Bool} → b ≡ areLists ls → not b ≡ false → s ≡ sharedByte (regionsIn ls) → s ≡ false → answer tt ≡ together ls
   apart-fine e h f g = sym (first-pass (apart ls) (answer tt) (ap not (held e h), (sym f ∙ g, tt)))
 
   -- what the answer of the test tells
@@ -133,10 +137,10 @@ module _ (xs ys zs : List ℕ) (f : FileLists) where
     none : o ≡ checked.Fine → NoneHolds (apart ls)
     none h = first-answers (apart ls) tt tt (sym a ∙ ap checkedOutcome h) .0
 
-    pub fine-order : o ≡ checked.Fine → AllInOrder xs ys zs (allOf f)
+    pub fine-order : o ≡ checked.Fine → AllInOrder xs ys zs counts
     fine-order h = lists-order refl (none h .0)
 
-    pub start-is : (eof n : ℕ) → o ≡ checked.Fine → n ≡ walk eof (falling (remaining xs ys zs (allOf f))) → answer n ≡ runStart ls eof
+    pub start-is : (eof n : ℕ) → o ≡ checked.Fine → n ≡ walk eof (falling (remaining xs ys zs counts)) → answer n ≡ runStart ls eof
     unfolding runStart
     start-is eof n h e = ap answer e ∙ sym (first-pass (apart ls) _ (none h))
 

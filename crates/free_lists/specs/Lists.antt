@@ -6,6 +6,7 @@
 --   index, same  the number of a list, 0 to 2; two lists are the same one
 --   listsOf      three lists from each of them
 --   listsIn      the same by their runs and the three records
+--   Regions, regionsIn   the regions of three lists; those of lists as they stand
 --   areLists     what refusal 3 tests, of all three
 --   sharedByte   refusal 5: two of the lists share a byte
 --   apart        these refusals, in their order
@@ -53,6 +54,12 @@ listsOf m r u Unclassified = u
 abbrev pub listsIn : List ℕ → List ℕ → List ℕ → FileLists → Lists
 listsIn xs ys zs f = listsOf (listIn xs (f .metadata)) (listIn ys (f .raw)) (listIn zs (f .unclassified))
 
+abbrev pub Regions : Type 0
+Regions = Which → List FreeRegion
+
+abbrev pub regionsIn : Lists → Regions
+regionsIn ls i = regionsOf (ls i)
+
 -- ---- refusals 3 and 5
 
 abbrev pub areLists : Lists → Bool
@@ -60,13 +67,11 @@ areLists ls =
     isList (ls Metadata .run) (ls Metadata .list)
     && (isList (ls Raw .run) (ls Raw .list) && isList (ls Unclassified .run) (ls Unclassified .list))
 
-abbrev pub sharedByte : Lists → Bool
-sharedByte ls =
-    shareBytes (regionsOf (ls Metadata)) (regionsOf (ls Raw))
-    || (shareBytes (regionsOf (ls Metadata)) (regionsOf (ls Unclassified)) || shareBytes (regionsOf (ls Raw)) (regionsOf (ls Unclassified)))
+abbrev pub sharedByte : Regions → Bool
+sharedByte rs = shareBytes (rs Metadata) (rs Raw) || (shareBytes (rs Metadata) (rs Unclassified) || shareBytes (rs Raw) (rs Unclassified))
 
 abbrev pub apart : Lists → List Condition
-apart ls = when (not (areLists ls)) NotAList ∷ when (sharedByte ls) SharedAddress ∷ []
+apart ls = when (not (areLists ls)) NotAList ∷ when (sharedByte (regionsIn ls)) SharedAddress ∷ []
 
 abbrev pub together : Lists → Outcome (Unit {0})
 together ls = firstOf (apart ls) (answer tt)

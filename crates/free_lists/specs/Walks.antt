@@ -1,5 +1,4 @@
 -- What the contracts of the private functions say. No public contract cites this file. Assumes nothing.
---   allOf        all regions of three lists, as counts
 --   InOrder      the first n pairs of a run are regions in order, each after the end of the one before with a gap
 --   AllInOrder   the same of three runs
 --   listsTo      three lists of the first regions of each run
@@ -17,14 +16,10 @@ use Rattle.free_regions.specs.declared.FreeRegion.{FreeRegion}
 use Rattle.free_regions.specs.Regions.{end, okFrom}
 use Rattle.free_space.specs.Runs.{regionAt, decode}
 use Rattle.free_lists.specs.declared.Cursors.{Cursors}
-use Rattle.free_lists.specs.declared.FileLists.{FileLists}
 use Rattle.free_lists.specs.declared.Reached.{Reached}
 use Rattle.free_lists.specs.declared.Reached.the-variants.{At, Nothing}
 use Rattle.free_lists.specs.Lists.{Lists, listsIn}
 use Rattle.free_lists.specs.Trailing.{falling, allRegions}
-
-abbrev pub allOf : FileLists → Cursors
-allOf f = record { meta = f .metadata .count; raw = f .raw .count; unclassified = f .unclassified .count }
 
 -- ---- regions in order
 

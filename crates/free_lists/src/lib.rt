@@ -7,7 +7,7 @@ ghost use lib.ListN.{length};
 ghost use Rattle.error.specs.Answers.{checkedOutcome, numberOutcome};
 ghost use Rattle.free_regions.specs.Regions.{shareBytes};
 ghost use Rattle.free_space.specs.Runs.{regionAt, decode};
-ghost use Rattle.free_lists.specs.Lists.{listsIn, areLists, sharedByte, together};
+ghost use Rattle.free_lists.specs.Lists.{listsIn, regionsIn, areLists, sharedByte, together};
 ghost use Rattle.free_lists.specs.Trailing.{falling, walk, runStart};
 ghost use Rattle.free_lists.specs.Walks.{InOrder, AllInOrder, listsTo, remaining, height, Onward};
 use error::Checked;
@@ -83,7 +83,7 @@ struct Cursors {
 // Whether two of three lists share a byte.
 fn share_any(meta: &[u64], raw: &[u64], unclassified: &[u64], all: Cursors) -> bool
     requires { ⌜ AllInOrder (now meta) (now raw) (now unclassified) all ⌝ }
-    ensures { λ r. ⌜ r ≡ sharedByte (listsTo (now (meta .entry)) (now (raw .entry)) (now (unclassified .entry)) all) ⌝ }
+    ensures { λ r. ⌜ r ≡ sharedByte (regionsIn (listsTo (now (meta .entry)) (now (raw .entry)) (now (unclassified .entry)) all)) ⌝ }
 {
     if share_two(meta, all.meta, raw, all.raw) {
         return true;

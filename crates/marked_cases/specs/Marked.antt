@@ -2,7 +2,7 @@
 --   lent      lent runs of any numbers
 --   freeing   a `free` on the first list
 --   m4Lists   three lists begun empty after the calls of M4 on the first
---   m9Lists   and after the one call of M9
+--   m9Regions   their regions after the one call of M9
 --   m10Message   the message of M10
 --   m10Bytes  124 bytes of a message with persist
 --   Marked    the table
@@ -19,7 +19,7 @@ use Rattle.free_space.specs.Calls.{allocated, allocatedUnits, rangeTaken}
 use Rattle.free_lists.specs.declared.calls.Which.{Which}
 use Rattle.free_lists.specs.declared.calls.Which.the-variants.{Metadata, Raw, Unclassified}
 use Rattle.free_lists.specs.declared.calls.ListCall.the-variants.{Free}
-use Rattle.free_lists.specs.Lists.{Lists, regionsOf}
+use Rattle.free_lists.specs.Lists.{Lists, regionsOf, Regions, regionsIn}
 use Rattle.free_lists.specs.History.{CallOn, on, run, begun}
 use Rattle.fsm_sections.specs.Sections.{section}
 use Rattle.fsm_lengths.specs.Lengths.{fsseLen}
@@ -44,8 +44,8 @@ freeing a n = on Metadata (Free a n)
 abbrev pub m4Lists : Lists
 m4Lists = run (freeing 100 50 ∷ freeing 200 50 ∷ freeing 150 50 ∷ []) (begun lent)
 
-abbrev pub m9Lists : Lists
-m9Lists = run (freeing 4000 5000 ∷ []) (begun lent)
+abbrev pub m9Regions : Regions
+m9Regions = regionsIn (run (freeing 4000 5000 ∷ []) (begun lent))
 
 abbrev pub m10Message : WithSlots
 m10Message = persistentSingleManager Page 1 4096 20000 30000
@@ -63,9 +63,9 @@ pub record Marked : Type 0 where
   pub m6 : allocatedUnits (5000 ∷ 10000 ∷ 0 ∷ 0 ∷ []) (of 1) 4096 4096 ≡ gives 8192 2 (5000 ∷ 3192 ∷ 12288 ∷ 2712 ∷ [])
   pub m7 : rangeTaken (90 ∷ 40 ∷ 0 ∷ 0 ∷ []) (of 1) 100 10 ≡ answer (with (of 2) (90 ∷ 10 ∷ 110 ∷ 20 ∷ []))
   pub m8 : splitInto (4000 ∷ 5000 ∷ []) 1 4096 (replicate 6 0) ≡ answer (with 3 (4000 ∷ 96 ∷ 4096 ∷ 4096 ∷ 8192 ∷ 808 ∷ []))
-  pub m9-sections : small 4096 m9Lists ∷ smallRaw 4096 m9Lists ∷ large 4096 m9Lists ∷ []
+  pub m9-sections : small 4096 m9Regions ∷ smallRaw 4096 m9Regions ∷ large 4096 m9Regions ∷ []
       ≡ (section 4000 96 ∷ section 8192 808 ∷ []) ∷ [] ∷ (section 4096 4096 ∷ []) ∷ []
-  pub m9-slots : slotAddrs 4096 20000 m9Lists ≡ 20000 ∷ top ∷ top ∷ top ∷ top ∷ top ∷ 20135 ∷ top ∷ top ∷ top ∷ top ∷ top ∷ []
-  pub m9-end : 20000 + blockLen 4096 m9Lists ≡ 20252
-  pub m9-stores : stores (blockLen 4096 m9Lists) ≡ 378
+  pub m9-slots : slotAddrs 4096 20000 m9Regions ≡ 20000 ∷ top ∷ top ∷ top ∷ top ∷ top ∷ 20135 ∷ top ∷ top ∷ top ∷ top ∷ top ∷ []
+  pub m9-end : 20000 + blockLen 4096 m9Regions ≡ 20252
+  pub m9-stores : stores (blockLen 4096 m9Regions) ≡ 378
   pub m10 : parsed m10Bytes 8 8 (replicate 11 0) ≡ answer (with (record { info = m10Message .info; count = 11 }) (20000 ∷ replicate 10 top))

@@ -1,8 +1,9 @@
 -- What an accepted beginning says, and that a beginning sees the image only by its length and by version and strategy of its message. Assumes nothing.
---   Planned    what the conditions leave of the lists and their plan
+--   Planned    what the conditions leave of the regions and their plan
 --   Placed     what they leave of the image
 --   Accepted   both, with the record and the scratch that are given
-use mathlib.Core.Path.{_≡_, ap, _∙_}
+--   Listed     what refusals 2 and 3 leave of lists: their regions are in order, and a beginning of them is one of their regions
+use mathlib.Core.Path.{_≡_, sym, ap, _∙_}
 use mathlib.Core.Logic.{_⊎_, inl, inr, ⊎-elim}
 use Prim.Native.Nat.{ℕ, _+_, _≤_, _<_, min, max}
 use native.Mathlib.Nat.{not-suc-le-zero, le-of-suc-le-suc}
@@ -15,31 +16,33 @@ use lib.ListN.{length, getD, drop, length-append}
 use Rattle.error.specs.Outcome.{answer, firstOf}
 use Rattle.error.specs.Lent.{With, with, over}
 use Rattle.error.proofs.TestLaws.{le-or-lt, and-true, and-false, or-false}
-use Rattle.error.proofs.OutcomeLaws.{NoneHolds, first-pass, first-answers}
+use Rattle.error.proofs.OutcomeLaws.{NoneHolds, first-pass, first-answers, first-append}
 use Rattle.error.proofs.OverLaws.{over-nil}
 use Rattle.fields.specs.Ranges.{top}
-use Rattle.free_regions.specs.Regions.{region, meets, shareBytes}
+use Rattle.free_regions.specs.Regions.{region, okFrom, meets, shareBytes}
 use Rattle.free_space.specs.Runs.{isList}
+use Rattle.free_space.proofs.ListLaws.{listed}
 use Rattle.free_lists.specs.declared.calls.Which.{Which}
 use Rattle.free_lists.specs.declared.calls.Which.the-variants.{Metadata, Raw, Unclassified}
-use Rattle.free_lists.specs.Lists.{Lists, regionsOf}
+use Rattle.free_lists.specs.Lists.{Lists, regionsOf, Regions, regionsIn}
 use Rattle.fsm_sections.specs.Sections.{space}
 use Rattle.save_step.specs.declared.Save.{Save}
 use Rattle.save_step.specs.Stores.{messageLen}
-use Rattle.save.specs.Saving.{small, smallRaw, large, blockLen, messageIn, conditions, fresh, filled, begun}
+use Rattle.save.specs.Saving.{small, smallRaw, large, blockLen, messageIn, regionTests, listTests, fresh, filled, begunOf, begun}
+use Rattle.save.specs.Beginning.{conditions}
 
 -- ---- the facts
 
-pub record Planned (ls : Lists) (page start : ℕ) : Type 0 where
+pub record Planned (rs : Regions) (page start : ℕ) : Type 0 where
   pub some : 0 < page
-  pub valid : (i : Which) → isList (ls i .run) (ls i .list) ≡ true
-  pub sum0 : space (small page ls) ≤ top
-  pub sum2 : space (smallRaw page ls) ≤ top
-  pub sum6 : space (large page ls) ≤ top
-  pub last : start + blockLen page ls ≤ top
-  pub apart01 : shareBytes (regionsOf (ls Metadata)) (regionsOf (ls Raw)) ≡ false
-  pub apart02 : shareBytes (regionsOf (ls Metadata)) (regionsOf (ls Unclassified)) ≡ false
-  pub apart12 : shareBytes (regionsOf (ls Raw)) (regionsOf (ls Unclassified)) ≡ false
+  pub valid : (i : Which) → okFrom 0 (rs i) ≡ true
+  pub sum0 : space (small page rs) ≤ top
+  pub sum2 : space (smallRaw page rs) ≤ top
+  pub sum6 : space (large page rs) ≤ top
+  pub last : start + blockLen page rs ≤ top
+  pub apart01 : shareBytes (rs Metadata) (rs Raw) ≡ false
+  pub apart02 : shareBytes (rs Metadata) (rs Unclassified) ≡ false
+  pub apart12 : shareBytes (rs Raw) (rs Unclassified) ≡ false
 
 pub record Placed (start place L : ℕ) (image : List ℕ) : Type 0 where
   pub inside : place + messageLen ≤ length image
@@ -54,47 +57,39 @@ apart start place L e h =
     let m : min (start + L) (place + messageLen) ≤ max start place = ltb-false _ _ e in
     ⊎-elim (λ (k : place + messageLen ≤ start). inl k) (λ (k : start < place + messageLen). inr (omega arith)) (le-or-lt (place + messageLen) start)
 
-module _ (ls : Lists) (page start place : ℕ) (image : List ℕ) (given : ℕ) (h : NoneHolds (conditions ls page start place image given)) where
+module _ (rs : Regions) (page start place : ℕ) (image : List ℕ) (given : ℕ) (some : 0 < page) (valid : (i : Which) → okFrom 0 (rs i) ≡ true)
+    (h : NoneHolds (regionTests rs page start place image given)) where
   abbrev L : ℕ
-  L = blockLen page ls
+  L = blockLen page rs
 
-  planned : Planned ls page start
+  planned : Planned rs page start
   planned =
-      let t = h .1 .1 .0 in
-      let t0 = or-false (ltb top (space (small page ls))) _ t in
-      let t2 = or-false (ltb top (space (smallRaw page ls))) _ (t0 .1) in
-      let t6 = or-false (ltb top (space (large page ls))) _ (t2 .1) in
-      let s0 = or-false (shareBytes (regionsOf (ls Metadata)) (regionsOf (ls Raw))) _ (h .1 .1 .1 .0) in
-      let s1 = or-false (shareBytes (regionsOf (ls Metadata)) (regionsOf (ls Unclassified))) _ (s0 .1) in
-      let v0 = and-true (isList (ls Metadata .run) (ls Metadata .list)) _ (not-false _ (h .1 .0)) in
-      let v1 = and-true (isList (ls Raw .run) (ls Raw .list)) _ (v0 .1) in
+      let t0 = or-false (ltb top (space (small page rs))) _ (h .0) in
+      let t2 = or-false (ltb top (space (smallRaw page rs))) _ (t0 .1) in
+      let t6 = or-false (ltb top (space (large page rs))) _ (t2 .1) in
+      let s0 = or-false (shareBytes (rs Metadata) (rs Raw)) _ (h .1 .0) in
+      let s1 = or-false (shareBytes (rs Metadata) (rs Unclassified)) _ (s0 .1) in
       record {
-        some = let z : page ≡ 0 → ⊥ = eqb-false page 0 (h .0) in omega arith;
-        valid = each (v0 .0) (v1 .0) (v1 .1);
-        sum0 = ltb-false top (space (small page ls)) (t0 .0);
-        sum2 = ltb-false top (space (smallRaw page ls)) (t2 .0);
-        sum6 = ltb-false top (space (large page ls)) (t6 .0);
+        some = some;
+        valid = valid;
+        sum0 = ltb-false top (space (small page rs)) (t0 .0);
+        sum2 = ltb-false top (space (smallRaw page rs)) (t2 .0);
+        sum6 = ltb-false top (space (large page rs)) (t6 .0);
         last = ltb-false top (start + L) (t6 .1);
         apart01 = s0 .0;
         apart02 = s1 .0;
         apart12 = s1 .1;
       }
-    where
-      each : isList (ls Metadata .run) (ls Metadata .list) ≡ true → isList (ls Raw .run) (ls Raw .list) ≡ true
-          → isList (ls Unclassified .run) (ls Unclassified .list) ≡ true → (i : Which) → isList (ls i .run) (ls i .list) ≡ true
-      each a b c Metadata = a
-      each a b c Raw = b
-      each a b c Unclassified = c
 
   placed : Placed start place L image
   placed =
-      let m = or-false (not (messageIn place image)) _ (h .1 .1 .1 .1 .1 .1 .0) in
+      let m = or-false (not (messageIn place image)) _ (h .1 .1 .1 .1 .0) in
       let i : messageIn place image ≡ true = not-false _ (m .0) in
       let b = or-false (ltb 0 L && (ltb (length image) (start + L) || meets (region start L) (region place messageLen))) _ (m .1) in
       record {
         inside = leb-true (place + messageLen) (length image) i;
-        version = eqb-true (getD image place 0) 1 (not-false _ (and-false (messageIn place image) _ (h .1 .1 .1 .1 .0) i));
-        strategy = ltb-false 3 (getD image (place + 1) 0) (and-false (messageIn place image) _ (h .1 .1 .1 .1 .1 .0) i);
+        version = eqb-true (getD image place 0) 1 (not-false _ (and-false (messageIn place image) _ (h .1 .1 .0) i));
+        strategy = ltb-false 3 (getD image (place + 1) 0) (and-false (messageIn place image) _ (h .1 .1 .1 .0) i);
         blocks-in = λ k. ltb-false (length image) (start + L) (within (b .0) k .0);
         blocks-apart = λ k. apart start place L (within (b .0) k .1) k;
       }
@@ -104,39 +99,39 @@ module _ (ls : Lists) (page start place : ℕ) (image : List ℕ) (given : ℕ) 
       within e k = or-false (ltb (length image) (start + L)) _ (and-false (ltb 0 L) _ e (lt-ltb 0 L k))
 
   room : L + messageLen ≤ given
-  room = ltb-false given (L + messageLen) (h .1 .1 .1 .1 .1 .1 .1 .0)
+  room = ltb-false given (L + messageLen) (h .1 .1 .1 .1 .1 .0)
 
   -- with any scratch that has room
   begun-again : (scratch : List ℕ) → L + messageLen ≤ length scratch
-      → begun ls page start place image scratch ≡ answer (with (fresh ls page start place) (filled ls page start place scratch))
-  unfolding begun
+      → begunOf rs page start place image scratch ≡ answer (with (fresh rs page start place) (filled rs page start place scratch))
+  unfolding begunOf
   begun-again scratch r =
-      first-pass (conditions ls page start place image (length scratch)) _
-      (h .0, (h .1 .0, (h .1 .1 .0, (h .1 .1 .1 .0, (h .1 .1 .1 .1 .0, (h .1 .1 .1 .1 .1 .0, (h .1 .1 .1 .1 .1 .1 .0, (le-ltb (length scratch) (L + messageLen) r, tt))))))))
+      first-pass (regionTests rs page start place image (length scratch)) _
+      (h .0, (h .1 .0, (h .1 .1 .0, (h .1 .1 .1 .0, (h .1 .1 .1 .1 .0, (le-ltb (length scratch) (L + messageLen) r, tt))))))
 
 -- ---- an accepted beginning
 
-pub record Accepted (ls : Lists) (page start place : ℕ) (image scratch : List ℕ) (save : Save) (lent : List ℕ) : Type 0 where
-  pub planned : Planned ls page start
-  pub placed : Placed start place (blockLen page ls) image
-  pub room : blockLen page ls + messageLen ≤ length scratch
-  pub save-is : fresh ls page start place ≡ save
-  pub lent-is : filled ls page start place scratch ≡ lent
-  pub begins : (scratch₂ : List ℕ) → blockLen page ls + messageLen ≤ length scratch₂
-      → begun ls page start place image scratch₂ ≡ answer (with (fresh ls page start place) (filled ls page start place scratch₂))
+pub record Accepted (rs : Regions) (page start place : ℕ) (image scratch : List ℕ) (save : Save) (lent : List ℕ) : Type 0 where
+  pub planned : Planned rs page start
+  pub placed : Placed start place (blockLen page rs) image
+  pub room : blockLen page rs + messageLen ≤ length scratch
+  pub save-is : fresh rs page start place ≡ save
+  pub lent-is : filled rs page start place scratch ≡ lent
+  pub begins : (scratch₂ : List ℕ) → blockLen page rs + messageLen ≤ length scratch₂
+      → begunOf rs page start place image scratch₂ ≡ answer (with (fresh rs page start place) (filled rs page start place scratch₂))
 
-pub accepted : (ls : Lists) (page start place : ℕ) (image scratch : List ℕ) (save : Save) (lent : List ℕ)
-    → begun ls page start place image scratch ≡ answer (with save lent) → Accepted ls page start place image scratch save lent
-unfolding begun
-accepted ls page start place image scratch save lent e =
-    let q = first-answers (conditions ls page start place image (length scratch)) _ _ e in
+pub accepted : (rs : Regions) (page start place : ℕ) (image scratch : List ℕ) (save : Save) (lent : List ℕ)
+    → 0 < page → ((i : Which) → okFrom 0 (rs i) ≡ true) → begunOf rs page start place image scratch ≡ answer (with save lent) → Accepted rs page start place image scratch save lent
+unfolding begunOf
+accepted rs page start place image scratch save lent some valid e =
+    let q = first-answers (regionTests rs page start place image (length scratch)) _ _ e in
     record {
-      planned = planned ls page start place image (length scratch) (q .0);
-      placed = placed ls page start place image (length scratch) (q .0);
-      room = room ls page start place image (length scratch) (q .0);
+      planned = planned rs page start place image (length scratch) some valid (q .0);
+      placed = placed rs page start place image (length scratch) some valid (q .0);
+      room = room rs page start place image (length scratch) some valid (q .0);
       save-is = ap (λ (w : With Save (List ℕ)). w .value) (q .1);
       lent-is = ap (λ (w : With Save (List ℕ)). w .memory) (q .1);
-      begins = begun-again ls page start place image (length scratch) (q .0);
+      begins = begun-again rs page start place image (length scratch) some valid (q .0);
     }
 
 -- a scratch with room gets blocks and message at its front
@@ -151,9 +146,45 @@ filled-is blocks message scratch h = filled-front (blocks ++ message) scratch (r
 
 -- ---- another image of the same length that has an accepted message at the place too
 
-pub begun-same : (ls : Lists) (page start place : ℕ) (image image₂ scratch : List ℕ) → place + messageLen ≤ length image → length image₂ ≡ length image
+pub begun-same : (rs : Regions) (page start place : ℕ) (image image₂ scratch : List ℕ) → place + messageLen ≤ length image → length image₂ ≡ length image
     → getD image place 0 ≡ 1 → getD image₂ place 0 ≡ 1 → getD image (place + 1) 0 ≤ 3 → getD image₂ (place + 1) 0 ≤ 3
-    → begun ls page start place image₂ scratch ≡ begun ls page start place image scratch
-unfolding begun firstOf
-begun-same ls page start place image image₂ scratch i e v v₂ s s₂ =
+    → begunOf rs page start place image₂ scratch ≡ begunOf rs page start place image scratch
+unfolding begunOf firstOf
+begun-same rs page start place image image₂ scratch i e v v₂ s s₂ =
     rw (e, v, v₂, le-ltb 3 (getD image (place + 1) 0) s, le-ltb 3 (getD image₂ (place + 1) 0) s₂, le-leb (place + messageLen) (length image) i)
+
+-- ---- a beginning of lists is one of their regions, once refusals 2 and 3 are past
+
+pub begun-is : (ls : Lists) (page start place : ℕ) (image scratch : List ℕ) → begun ls page start place image scratch
+    ≡ firstOf (conditions ls page start place image (length scratch))
+    (answer (with (fresh (regionsIn ls) page start place) (filled (regionsIn ls) page start place scratch)))
+unfolding begun begunOf
+begun-is ls page start place image scratch = sym (first-append (listTests ls page) (regionTests (regionsIn ls) page start place image (length scratch)) _)
+
+-- what refusals 2 and 3 leave
+pub record Listed (ls : Lists) (page : ℕ) : Type 0 where
+  pub some : 0 < page
+  pub valid : (i : Which) → okFrom 0 (regionsOf (ls i)) ≡ true
+  pub passes : (start place : ℕ) (image scratch : List ℕ) → begun ls page start place image scratch ≡ begunOf (regionsIn ls) page start place image scratch
+
+pub listed-lists : (ls : Lists) (page start place : ℕ) (image scratch : List ℕ) (w : With Save (List ℕ))
+    → begun ls page start place image scratch ≡ answer w → Listed ls page
+unfolding begun
+listed-lists ls page start place image scratch w e =
+    let h = first-answers (conditions ls page start place image (length scratch)) _ w (sym (begun-is ls page start place image scratch) ∙ e) .0 in
+    let v0 = and-true (isList (ls Metadata .run) (ls Metadata .list)) _ (not-false _ (h .1 .0)) in
+    let v1 = and-true (isList (ls Raw .run) (ls Raw .list)) _ (v0 .1) in
+    record {
+      some = let z : page ≡ 0 → ⊥ = eqb-false page 0 (h .0) in omega arith;
+      valid = each (v0 .0) (v1 .0) (v1 .1);
+      passes = λ start place image scratch. first-pass (listTests ls page) _ (h .0, (h .1 .0, tt));
+    }
+  where
+    ok : (i : Which) → isList (ls i .run) (ls i .list) ≡ true → okFrom 0 (regionsOf (ls i)) ≡ true
+    ok i e = listed (ls i .run) (ls i .list) e .ok
+
+    each : isList (ls Metadata .run) (ls Metadata .list) ≡ true → isList (ls Raw .run) (ls Raw .list) ≡ true
+        → isList (ls Unclassified .run) (ls Unclassified .list) ≡ true → (i : Which) → okFrom 0 (regionsOf (ls i)) ≡ true
+    each a b c Metadata = ok Metadata a
+    each a b c Raw = ok Raw b
+    each a b c Unclassified = ok Unclassified c

@@ -1,273 +1,59 @@
--- DEMAND 3, proved. Assumes nothing.
-use mathlib.Core.Path.{_≡_, refl, sym, ap, ap₂, _∙_, subst}
-use mathlib.Core.Logic.{⊎-elim}
-use Prim.Native.Nat.{ℕ, suc, _+_, _^_, _≤_, _<_}
-use native.Mathlib.Nat.{add-zero, le-refl}
-use native.Mathlib.Omega.{arith}
-use mathlib.Core.Bool.{Bool, true, cond}
-use mathlib.Core.List.{List, [], _∷_, _++_, map, append-nil}
-use lib.Dec.{lit<, lit≤}
-use lib.ListN.{length, drop, getD}
-use Rattle.error.specs.Outcome.{Outcome, answer}
-use Rattle.error.specs.Lent.{with, over}
-use Rattle.fields.specs.Le.{leBytes}
-use Rattle.fields.specs.Layout.{layout, window}
-use Rattle.fields.specs.Ranges.{top}
-use Rattle.checksum.specs.Lookup3.{lookup3}
-use Rattle.free_regions.specs.Regions.{Free}
-use Rattle.free_regions.proofs.OkLaws.{Within, ok-prop}
-use Rattle.free_space.specs.Runs.{isList}
-use Rattle.free_space.proofs.ListLaws.{listed}
+-- DEMAND 3, proved: the save of any three lists, of those that calls leave, and the history of these calls. Assumes nothing.
+use mathlib.Core.Path.{_≡_, refl, sym, ap, _∙_}
+use mathlib.Core.Logic.{_↔_}
+use Prim.Native.Nat.{ℕ}
+use mathlib.Core.Bool.{Bool, true, false, cond, _||_}
+use mathlib.Core.List.{List}
+use Rattle.error.specs.Outcome.{firstOf}
+use Rattle.error.proofs.TestLaws.{true-not-false}
 use Rattle.free_lists.specs.declared.calls.Which.{Which}
 use Rattle.free_lists.specs.declared.calls.Which.the-variants.{Metadata, Raw, Unclassified}
-use Rattle.free_lists.specs.Lists.{LentList, Lists, regionsOf}
+use Rattle.free_lists.specs.Lists.{regionsOf, regionsIn}
 use Rattle.free_lists.specs.History.{CallOn, run, begun as begunEmpty, lastOver, wasFree, freeByHistory}
 use Rattle.free_lists.proofs.HistoryLaws.{history}
-use Rattle.fsm_sections.specs.declared.FreeSection.{FreeSection}
-use Rattle.fsm_sections.specs.Sections.{bySizeThenAddr, flat, All}
-use Rattle.fsm_sections.specs.Pages.{holding}
-use Rattle.fsm_sections.proofs.PagesLaws.{slots-hold}
-use Rattle.fsm_blocks.specs.Managers.{startingSet}
-use Rattle.fsm_blocks.specs.Reading.{joined}
-use Rattle.file_space_info.specs.declared.FileSpaceStrategy.the-variants as strategy
-use Rattle.file_space_info.specs.Infos.{made}
-use Rattle.file_space_info.proofs.MessageLaws.{length-twelve}
-use Rattle.save_step.specs.declared.Save.{Save}
-use Rattle.save_step.specs.Stores.{after, messageLen, saveStores}
-use Rattle.save_step.specs.Steps.{stored, stores, Saving, saving, steps}
-use Rattle.save_step.proofs.CutLaws as c
-use Rattle.save_step.proofs.CutLaws.{Savable}
-use Rattle.save_step.proofs.StoreLaws.{after-suc}
-use Rattle.save_step.proofs.RowLaws.{step-is, steps-are, step-after, steps-end}
-use Rattle.save.specs.Saving.{sectionsOf, small, smallRaw, large, plan, blockLen, blockBytes, slotAddrs, messageOf, filled, begun}
-use Rattle.image.specs.Reading.{Listed, inSlot, listed as listedFrom, readImage, readListed, countsOf}
-use Rattle.save.specs.Demand3.{Demand3, Demand}
-use Rattle.save.proofs.PlanLaws.{length-slots, length-blocks, slots-read, sorted}
-use Rattle.save.proofs.FitLaws.{Ends, list-ends, plan-fits, slots-fit, small-plan}
-use Rattle.save.proofs.BeginLaws.{Planned, Accepted, accepted, filled-is, begun-same}
-use Rattle.save.proofs.ReadLaws.{reads-nothing, reads-slots, listed-is, into-is, nothing-into}
-use Rattle.save.proofs.HoldingLaws.{foundIn, holding-sorted, holding-nothing, holding-slot, holding-list, in-both, one-of}
+use Rattle.save.specs.Saving.{listTests, begun}
+use Rattle.save.specs.AnySave.{inList, freeIn}
+use Rattle.save.specs.Demand3.{Demand}
+use Rattle.save.proofs.BeginLaws.{listed-lists}
+use Rattle.save.proofs.AnySaveLaws.{in-list, any-save}
 
--- ---- what the twelve slots of a plan read as
+-- two tests of one fact
+same-test : {P : Type 0} (x y : Bool) → P ↔ (x ≡ true) → P ↔ (y ≡ true) → x ≡ y
+same-test true true p q = refl
+same-test true false p q = sym (q .0 (p .1 refl))
+same-test false true p q = p .0 (q .1 refl)
+same-test false false p q = refl
 
-module _ (page : ℕ) (ls : Lists) where
-  abbrev S : List FreeSection
-  S = bySizeThenAddr (small page ls)
-
-  abbrev R : List FreeSection
-  R = bySizeThenAddr (smallRaw page ls)
-
-  abbrev G : List FreeSection
-  G = bySizeThenAddr (large page ls)
-
-  abbrev found : List (List FreeSection)
-  found = map sorted (plan page ls)
-
-  slots-listed : listedFrom 0 found ≡ inSlot 0 S ++ (inSlot 2 R ++ inSlot 6 G)
-  unfolding bySizeThenAddr
-  slots-listed = ap (λ (r : List Listed). inSlot 0 S ++ (inSlot 2 R ++ r)) (append-nil (inSlot 6 G))
-
-  slots-joined : joined found ≡ S ++ (R ++ G)
-  unfolding bySizeThenAddr joined
-  slots-joined = ap (λ (r : List FreeSection). S ++ (R ++ r)) (append-nil G)
-
-  slots-counted : countsOf found ≡ length S ∷ 0 ∷ length R ∷ 0 ∷ 0 ∷ 0 ∷ length G ∷ 0 ∷ 0 ∷ 0 ∷ 0 ∷ 0 ∷ []
-  unfolding bySizeThenAddr
-  slots-counted = refl
-
--- the regions of a list that passes refusal 3's test stand in order
-in-order : (l : LentList) → isList (l .run) (l .list) ≡ true → Within 0 top (regionsOf l)
-in-order l e = ok-prop 0 (regionsOf l) .0 (listed (l .run) (l .list) e .ok)
-
--- ---- the addresses
-
-module _ (runs : Which → List ℕ) (calls : List CallOn) (page start : ℕ) (planned : Planned (run calls (begunEmpty runs)) page start) where
-  abbrev lists : Lists
-  lists = run calls (begunEmpty runs)
-
-  abbrev was : Which → ℕ → Bool
-  was i b = wasFree (lastOver i b calls (begunEmpty runs))
-
-  held-in : (i : Which) (b : ℕ) → holding b (sectionsOf (lists i)) ≡ cond (was i b) 1 0
-  held-in i b = holding-list 0 top b (regionsOf (lists i)) (was i b) (in-order (lists i) (planned .valid i)) (history runs calls .inOne i b)
-
-  free-in : (i : Which) (b : ℕ) → was i b ≡ true → Free (regionsOf (lists i)) b
-  free-in i b e = history runs calls .inOne i b .1 e
-
-  pub held-once : (b : ℕ) → holding b (foundIn (inSlot 0 (S page lists) ++ (inSlot 2 (R page lists) ++ inSlot 6 (G page lists)))) ≡ cond (freeByHistory calls (begunEmpty runs) b) 1 0
-  held-once b =
-      let M : List FreeSection = sectionsOf (lists Metadata) in
-      let W : List FreeSection = sectionsOf (lists Raw) in
-      let U : List FreeSection = sectionsOf (lists Unclassified) in
-      let all : holding b (foundIn (inSlot 0 (S page lists) ++ (inSlot 2 (R page lists) ++ inSlot 6 (G page lists)))) ≡ holding b M + (holding b W + holding b U) =
-      ap (λ (r : List Listed). holding b (foundIn (inSlot 0 (S page lists) ++ (inSlot 2 (R page lists) ++ r)))) (sym (append-nil (inSlot 6 (G page lists))))
-      ∙ omega (
-        arith,
-        holding-slot b 0 (S page lists) (inSlot 2 (R page lists) ++ (inSlot 6 (G page lists) ++ [])),
-        holding-slot b 2 (R page lists) (inSlot 6 (G page lists) ++ []),
-        holding-slot b 6 (G page lists) [],
-        holding-nothing b,
-        holding-sorted b (small page lists),
-        holding-sorted b (smallRaw page lists),
-        holding-sorted b (large page lists),
-        slots-hold page M W U b (planned .some),
-      ) in
-      all
-      ∙ ap₂ (λ (m n : ℕ). m + n) (held-in Metadata b) (ap₂ (λ (m n : ℕ). m + n) (held-in Raw b) (held-in Unclassified b))
-      ∙ one-of (was Metadata b) (was Raw b) (was Unclassified b)
-      (λ p q. in-both (regionsOf (lists Metadata)) (regionsOf (lists Raw)) b (planned .apart01) (free-in Metadata b p) (free-in Raw b q))
-      (λ p q. in-both (regionsOf (lists Metadata)) (regionsOf (lists Unclassified)) b (planned .apart02) (free-in Metadata b p) (free-in Unclassified b q))
-      (λ p q. in-both (regionsOf (lists Raw)) (regionsOf (lists Unclassified)) b (planned .apart12) (free-in Raw b p) (free-in Unclassified b q))
-
--- ---- the save
-
-module _ (runs : Which → List ℕ) (calls : List CallOn) (page start place : ℕ) (image scratch : List ℕ) (save : Save) (lent : List ℕ) (p64 : page < 2 ^ 64) (s64 : start < 2 ^ 64)
-    (a : Accepted (run calls (begunEmpty runs)) page start place image scratch save lent) where
-  abbrev ls : Lists
-  ls = run calls (begunEmpty runs)
-
-  abbrev B : List ℕ
-  B = blockBytes page start ls
-
-  abbrev M : List ℕ
-  M = messageOf page start ls
-
-  abbrev L : ℕ
-  L = length B
-
-  abbrev T : ℕ
-  T = stores L
-
-  abbrev recordAt : ℕ → Save
-  recordAt k = record { start = start; place = place; len = L; done = k }
-
-  -- the image after k stores
-  abbrev img : ℕ → List ℕ
-  img k = after k image (saveStores place start B M)
-
-  len : L ≡ blockLen page ls
-  len = length-blocks 8 (startingSet 8) lookup3 (plan page ls) start
-
-  s : Savable place start B M image
-  unfolding layout leBytes
-  s = record {
-    message-len = length-twelve (made true strategy.Page 1 page start) (slotAddrs page start ls) refl (length-slots 8 (startingSet 8) (plan page ls) start);
-    new-persist = refl;
-    message-in = a .placed .inside;
-    blocks-in = rw len (a .placed .blocks-in);
-    apart = rw len (a .placed .blocks-apart);
-  }
-
-  -- ---- version and strategy stay those of an accepted message
-
-  version-kept : (k : ℕ) → getD (img k) place 0 ≡ 1
-  unfolding layout leBytes
-  version-kept k = ⊎-elim (λ e. e ∙ a .placed .version) (λ e. e) (c.version-byte place start B M image s k)
-
-  strategy-kept : (k : ℕ) → getD (img k) (place + 1) 0 ≤ 3
-  unfolding layout leBytes
-  strategy-kept k = ⊎-elim (λ e. rw e (a .placed .strategy)) (λ e. rw e (lit≤ tt)) (c.strategy-byte place start B M image s k)
-
-  begins-same : (k : ℕ) (ls₂ : Lists) (page₂ start₂ : ℕ) (scratch₂ : List ℕ) → begun ls₂ page₂ start₂ place (img k) scratch₂ ≡ begun ls₂ page₂ start₂ place image scratch₂
-  begins-same k ls₂ page₂ start₂ scratch₂ =
-      begun-same ls₂ page₂ start₂ place image (img k) scratch₂ (a .placed .inside) (c.cut-length place start B M image s k)
-      (a .placed .version) (version-kept k) (a .placed .strategy) (strategy-kept k)
-
-  -- ---- the reading
-
-  none-between : (k : ℕ) → 0 < k → k < T → readImage place (img k) ≡ answer []
-  none-between k h l =
-      reads-nothing place (img k) (rw (c.cut-length place start B M image s k) (a .placed .inside)) (version-kept k) (strategy-kept k)
-      (c.persist-off place start B M image s k h (omega arith))
-
-  ends : (i : Which) → All (Ends top) (sectionsOf (ls i))
-  ends i = list-ends 0 top (regionsOf (ls i)) (in-order (ls i) (a .planned .valid i))
-
-  all-saved : readImage place (img T) ≡ answer (found page ls)
-  all-saved =
-      reads-slots place (img T) (made true strategy.Page 1 page start) (slotAddrs page start ls) refl
-      (lit< tt, (lit< tt, (lit< tt, (lit< tt, (p64, (lit< tt, (s64, slots-fit (plan page ls) start (a .planned .last))))))))
-      (c.message-stands place start B M image s)
-      ∙ slots-read 8 (startingSet 8) 0 lookup3 (img T) (plan page ls) start stand
-      (plan-fits (plan page ls) start (a .planned .last) (small-plan page ls ends (a .planned .sum0) (a .planned .sum2) (a .planned .sum6)))
-    where
-      stand : window (start + 0) (blockLen page ls) (img T) ≡ B
-      stand = rw (add-zero start, ← len) (c.blocks-stand place start B M image s)
-
-  -- ---- the steps
-
-  -- a scratch as the beginning leaves it: blocks, message, and what it had behind them
-  abbrev more : List ℕ → List ℕ
-  more scratch₂ = drop (length (B ++ M)) scratch₂
-
-  abbrev row : List ℕ → List ℕ
-  row scratch₂ = B ++ (M ++ more scratch₂)
-
-  row-is : (scratch₂ : List ℕ) → blockLen page ls + messageLen ≤ length scratch₂ → filled ls page start place scratch₂ ≡ row scratch₂
-  row-is scratch₂ r = filled-is B M scratch₂ (omega (arith, len, s .message-len))
-
-  abbrev cut : ℕ → Saving
-  cut k = steps k (row scratch) (saving (recordAt 0) image)
-
-  cut-is : (k : ℕ) → k ≤ T → cut k ≡ saving (recordAt k) (img k)
-  cut-is k h = steps-are place start B M image s (more scratch) k h
-
-  reads : readListed place (cut T .image) ≡ answer (inSlot 0 (S page ls) ++ (inSlot 2 (R page ls) ++ inSlot 6 (G page ls)))
-  reads = rw (cut-is T (le-refl T)) (listed-is place (img T) (found page ls) all-saved ∙ ap answer (slots-listed page ls))
-
-  -- the same save over what a cut left
-  over-again : (k : ℕ) (scratch₂ : List ℕ) → L + messageLen ≤ length scratch₂
-      → (lent₂ : List ℕ)
-      × (begun ls page start place (img k) scratch₂ ≡ answer (with (recordAt 0) lent₂))
-      × (steps T lent₂ (saving (recordAt 0) (img k)) ≡ saving (recordAt T) (img T))
-  over-again k scratch₂ r = (
-    row scratch₂,
-    begins-same k ls page start scratch₂
-        ∙ a .begins scratch₂ (rw len at r)
-        ∙ ap₂ (λ (n : ℕ) (l : List ℕ). answer (with (record { start = start; place = place; len = n; done = 0 }) l)) (sym len) (row-is scratch₂ (rw len at r)),
-    steps-are place start B M (img k) (c.savable-again place start B M image s k) (more scratch₂) T (le-refl T)
-        ∙ ap (saving (recordAt T)) (c.saved-again place start B M image s k),
-  )
-
-  holds : Demand3 runs calls page start place image (recordAt 0) (row scratch)
-  unfolding steps
-  holds = record {
-    begins = refl;
-    count = c.number-of-stores place start B M image s;
-    made = cut-is;
-    step-made = λ k h.
-        rw (cut-is k (omega arith))
-        (step-is place start B M image s (more scratch) k h
-        ∙ ap (λ (i : List ℕ). answer (with (stored (recordAt (suc k))) i)) (after-suc k image (saveStores place start B M) (omega (arith, c.number-of-stores place start B M image s))));
-    ended = λ k h.
-        rw (steps-end place start B M image s (more scratch) k h, cut-is T (le-refl T)) (step-after place start B M image s (more scratch));
-    unchanged = refl;
-    between = λ k h l. rw (cut-is k (omega arith)) (listed-is place (img k) [] (none-between k h l));
-    finished = reads;
-    addresses = λ found e b. let z : _ ≡ found = answers (sym reads ∙ e) in
-        subst (λ (x : List Listed). holding b (foundIn x) ≡ cond (freeByHistory calls (begunEmpty runs) b) 1 0) z (held-once runs calls page start (a .planned) b);
-    unchanged-into = λ out. refl;
-    between-into = λ k h l out e. rw (cut-is k (omega arith)) (nothing-into place (img k) out (none-between k h l) e);
-    finished-into = λ out e r.
-        rw (cut-is T (le-refl T))
-        (into-is place (img T) out (found page ls) all-saved e (rw (slots-joined page ls) r)
-        ∙ ap₂ (λ (n : List ℕ) (l : List FreeSection). answer (with n (over 0 (flat l) out))) (slots-counted page ls) (slots-joined page ls));
-    long = λ k h. rw (cut-is k h) (c.cut-length place start B M image s k);
-    frame = λ k h j p b. rw (cut-is k h) (c.frame place start B M image s k j b p);
-    anew = λ k h ls₂ page₂ start₂ scratch₂. rw (cut-is k h) (begins-same k ls₂ page₂ start₂ scratch₂);
-    again = λ k h scratch₂ r. rw (cut-is k h, cut-is T (le-refl T)) (over-again k scratch₂ r);
-  }
-    where
-      answers : {A : Type 0} {x y : A} → _≡_ {A = Outcome A} (answer x) (answer y) → x ≡ y
-      answers e = cc
-
-  -- record and scratch are those that the beginning gave
-  held : Demand3 runs calls page start place image save lent
-  held =
-      subst (λ (x : Save). Demand3 runs calls page start place image x lent)
-      (ap (λ (n : ℕ). record { start = start; place = place; len = n; done = 0 }) len ∙ a .save-is)
-      (subst (λ (l : List ℕ). Demand3 runs calls page start place image (recordAt 0) l) (sym (row-is scratch (a .room)) ∙ a .lent-is) holds)
+-- free in one of the lists that calls leave is free by history
+free-by-history : (runs : Which → List ℕ) (calls : List CallOn) (b : ℕ) → freeIn (regionsIn (run calls (begunEmpty runs))) b ≡ freeByHistory calls (begunEmpty runs) b
+free-by-history runs calls b = λ j. each Metadata j || (each Raw j || each Unclassified j)
+  where
+    each : (i : Which) → inList (regionsOf (run calls (begunEmpty runs) i)) b ≡ wasFree (lastOver i b calls (begunEmpty runs))
+    each i = same-test _ _ (in-list (regionsOf (run calls (begunEmpty runs) i)) b) (history runs calls .inOne i b)
 
 pub demand3 : Demand
+unfolding begun
 demand3 runs calls page start place image scratch save lent p64 s64 e =
-    held runs calls page start place image scratch save lent p64 s64 (accepted (run calls (begunEmpty runs)) page start place image scratch save lent e)
+    let ls = run calls (begunEmpty runs) in
+    let l = listed-lists ls page start place image scratch _ e in
+    let s = any-save (regionsIn ls) page start place image scratch save lent p64 s64 (l .some) (l .valid) (sym (l .passes start place image scratch) ∙ e) in
+    record {
+      begins = s .begins;
+      count = s .count;
+      made = s .made;
+      step-made = s .step-made;
+      ended = s .ended;
+      unchanged = s .unchanged;
+      between = s .between;
+      finished = s .finished;
+      addresses = λ found h b. s .addresses found h b ∙ ap (λ (t : Bool). cond t 1 0) (free-by-history runs calls b);
+      unchanged-into = s .unchanged-into;
+      between-into = s .between-into;
+      finished-into = s .finished-into;
+      long = s .long;
+      frame = s .frame;
+      anew = λ k h ls₂ page₂ start₂ scratch₂. ap (firstOf (listTests ls₂ page₂)) (s .anew k h (regionsIn ls₂) page₂ start₂ scratch₂);
+      again = λ k h scratch₂ r.
+          let q = s .again k h scratch₂ r in
+          (q .0, l .passes start place _ scratch₂ ∙ q .1, q .2);
+    }

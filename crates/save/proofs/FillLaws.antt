@@ -20,7 +20,7 @@ use Rattle.fields.specs.Ranges.{top}
 use Rattle.free_space.specs.declared.list.FreeList.{FreeList}
 use Rattle.free_space.specs.Runs.{isList}
 use Rattle.free_lists.specs.declared.FileLists.{FileLists}
-use Rattle.free_lists.specs.Lists.{Lists, listsIn}
+use Rattle.free_lists.specs.Lists.{Lists, Regions, listsIn, regionsIn}
 use Rattle.fsm_sections.specs.declared.FreeSection.{FreeSection}
 use Rattle.fsm_sections.specs.Sections.{space}
 use Rattle.fsm_writer.specs.declared.slots.Slot.{Slot}
@@ -40,8 +40,9 @@ use Rattle.save_step.specs.Stores.{messageLen}
 use Rattle.save.specs.declared.tests.Offsets.{Offsets}
 use Rattle.save.specs.declared.tests.Tested.{Tested}
 use Rattle.save.specs.declared.tests.Tested.the-variants as code
-use Rattle.save.specs.Saving.{small, smallRaw, large, blockLen, blockBytes, messageOf, conditions, begun}
-use Rattle.save.specs.Beginning.{offsetsOf, testedOutcome, slotAt, slotsAt, messageBy, slotIn, SlotFits, ScratchFits}
+use Rattle.save.specs.Saving.{small, smallRaw, large, blockLen, blockBytes, messageOf, begun}
+use Rattle.save.specs.Beginning.{offsetsOf, conditions, testedOutcome, slotAt, slotsAt, messageBy, slotIn, SlotFits, ScratchFits}
+use Rattle.save.proofs.BeginLaws.{begun-is}
 use Rattle.save.proofs.TieLaws.{length-is, len-low, length-bytes, total, blocks-are, slots-are, small-is, raw-is, large-is}
 use Rattle.save.proofs.SumLaws.{sums, each-list}
 
@@ -138,17 +139,17 @@ behind u v d d₁ d₂ n e h g = g ∙ ap₂ (λ (i : ℕ) (q : List ℕ). over 
 
 module _ (xs ys zs : List ℕ) (f : FileLists) (page start : ℕ) (o : Offsets) (d : List ℕ)
     (g : ScratchFits (listsIn xs ys zs f) page start o (length d)) where
-  abbrev ls : Lists
-  ls = listsIn xs ys zs f
+  abbrev rs : Regions
+  rs = regionsIn (listsIn xs ys zs f)
 
   abbrev x : ℕ
-  x = blocksSize 8 (small page ls)
+  x = blocksSize 8 (small page rs)
 
   abbrev y : ℕ
-  y = blocksSize 8 (smallRaw page ls)
+  y = blocksSize 8 (smallRaw page rs)
 
   abbrev z : ℕ
-  z = blocksSize 8 (large page ls)
+  z = blocksSize 8 (large page rs)
 
   raw-at : o .raw ≡ x
   raw-at = ap (λ (q : Offsets). q .raw) (g .offsets)
@@ -160,13 +161,13 @@ module _ (xs ys zs : List ℕ) (f : FileLists) (page start : ℕ) (o : Offsets) 
   len-at = ap (λ (q : Offsets). q .len) (g .offsets)
 
   last : start + (x + y + z) ≤ top
-  last = let q = sums page start ls (g .fits) .last in omega (arith, total page ls)
+  last = let q = sums page start rs (g .fits) .last in omega (arith, total page rs)
 
   pub first-fits : SlotFits Small xs (f .metadata .count) xs (f .metadata .count) xs (f .metadata .count) page start 0 (length d)
   first-fits =
       let v = each-list xs ys zs f (g .lists) .0 in
-      slot-fits Small xs (f .metadata) xs (f .metadata) xs (f .metadata) page start 0 (length d) (g .some) v v v (small page ls) (small-is xs ys zs f page)
-      (sums page start ls (g .fits) .sum0) (omega (arith, last)) (omega (arith, g .room, len-at))
+      slot-fits Small xs (f .metadata) xs (f .metadata) xs (f .metadata) page start 0 (length d) (g .some) v v v (small page rs) (small-is xs ys zs f page)
+      (sums page start rs (g .fits) .sum0) (omega (arith, last)) (omega (arith, g .room, len-at))
 
   module _ (d₁ : List ℕ) (e₁ : d₁ ≡ over 0 (slotBytes (start + 0) 1 (slotIn Small xs (f .metadata .count) xs (f .metadata .count) xs (f .metadata .count) page)) d) where
     long₁ : length d₁ ≡ length d
@@ -175,8 +176,8 @@ module _ (xs ys zs : List ℕ) (f : FileLists) (page start : ℕ) (o : Offsets) 
     pub second-fits : SlotFits Small ys (f .raw .count) ys (f .raw .count) ys (f .raw .count) page start (o .raw) (length d₁)
     second-fits =
         let v = each-list xs ys zs f (g .lists) .1 in
-        slot-fits Small ys (f .raw) ys (f .raw) ys (f .raw) page start (o .raw) (length d₁) (g .some) v v v (smallRaw page ls) (raw-is xs ys zs f page)
-        (sums page start ls (g .fits) .sum2) (omega (arith, last, raw-at)) (omega (arith, g .room, raw-at, len-at, long₁))
+        slot-fits Small ys (f .raw) ys (f .raw) ys (f .raw) page start (o .raw) (length d₁) (g .some) v v v (smallRaw page rs) (raw-is xs ys zs f page)
+        (sums page start rs (g .fits) .sum2) (omega (arith, last, raw-at)) (omega (arith, g .room, raw-at, len-at, long₁))
 
     module _ (d₂ : List ℕ) (e₂ : d₂ ≡ over (o .raw) (slotBytes (start + o .raw) 1 (slotIn Small ys (f .raw .count) ys (f .raw .count) ys (f .raw .count) page)) d₁) where
       long₂ : length d₂ ≡ length d
@@ -185,8 +186,8 @@ module _ (xs ys zs : List ℕ) (f : FileLists) (page start : ℕ) (o : Offsets) 
       pub third-fits : SlotFits Large xs (f .metadata .count) ys (f .raw .count) zs (f .unclassified .count) page start (o .large) (length d₂)
       third-fits =
           let v = each-list xs ys zs f (g .lists) in
-          slot-fits Large xs (f .metadata) ys (f .raw) zs (f .unclassified) page start (o .large) (length d₂) (g .some) (v .0) (v .1) (v .2) (large page ls) (large-is xs ys zs f page)
-          (sums page start ls (g .fits) .sum6) (omega (arith, last, large-at)) (omega (arith, g .room, large-at, len-at, long₂))
+          slot-fits Large xs (f .metadata) ys (f .raw) zs (f .unclassified) page start (o .large) (length d₂) (g .some) (v .0) (v .1) (v .2) (large page rs) (large-is xs ys zs f page)
+          (sums page start rs (g .fits) .sum6) (omega (arith, last, large-at)) (omega (arith, g .room, large-at, len-at, long₂))
 
       module _ (d₃ : List ℕ) (e₃ : d₃ ≡ over (o .large) (slotBytes (start + o .large) 2 (slotIn Large xs (f .metadata .count) ys (f .raw .count) zs (f .unclassified .count) page)) d₂) where
         long₃ : length d₃ ≡ length d
@@ -196,14 +197,14 @@ module _ (xs ys zs : List ℕ) (f : FileLists) (page start : ℕ) (o : Offsets) 
         message-asks =
             ((omega (arith, raw-at, large-at), omega (arith, large-at, len-at)), (omega (arith, last, len-at), omega (arith, g .room, long₃)))
 
-        pub all-put : (d₄ : List ℕ) → d₄ ≡ over (o .len) (messageBy page start o) d₃ → d₄ ≡ over 0 (blockBytes page start ls ++ messageOf page start ls) d
+        pub all-put : (d₄ : List ℕ) → d₄ ≡ over (o .len) (messageBy page start o) d₃ → d₄ ≡ over 0 (blockBytes page start rs ++ messageOf page start rs) d
         all-put d₄ e₄ =
-            let b0 : List ℕ = slotBytes start 1 (small page ls) in
-            let b2 : List ℕ = slotBytes (start + x) 1 (smallRaw page ls) in
-            let b6 : List ℕ = slotBytes (start + (x + y)) 2 (large page ls) in
-            let n0 : length b0 ≡ x = length-bytes 1 (small page ls) start in
-            let n2 : length b2 ≡ y = length-bytes 1 (smallRaw page ls) (start + x) in
-            let n6 : length b6 ≡ z = length-bytes 2 (large page ls) (start + (x + y)) in
+            let b0 : List ℕ = slotBytes start 1 (small page rs) in
+            let b2 : List ℕ = slotBytes (start + x) 1 (smallRaw page rs) in
+            let b6 : List ℕ = slotBytes (start + (x + y)) 2 (large page rs) in
+            let n0 : length b0 ≡ x = length-bytes 1 (small page rs) start in
+            let n2 : length b2 ≡ y = length-bytes 1 (smallRaw page rs) (start + x) in
+            let n6 : length b6 ≡ z = length-bytes 2 (large page rs) (start + (x + y)) in
             let m2 : length (b0 ++ b2) ≡ x + y = length-append b0 b2 ∙ ap₂ (λ (i j : ℕ). i + j) n0 n2 in
             let m6 : length ((b0 ++ b2) ++ b6) ≡ x + y + z = length-append (b0 ++ b2) b6 ∙ ap₂ (λ (i j : ℕ). i + j) m2 n6 in
             let p1 : d₁ ≡ over 0 b0 d = e₁ ∙ ap₂ (λ (a : ℕ) (s : List FreeSection). over 0 (slotBytes a 1 s) d) (add-zero start) (small-is xs ys zs f page) in
@@ -213,30 +214,33 @@ module _ (xs ys zs : List ℕ) (f : FileLists) (page start : ℕ) (o : Offsets) 
             let p3 : d₃ ≡ over 0 ((b0 ++ b2) ++ b6) d =
             behind (b0 ++ b2) b6 d d₂ d₃ (o .large) p2 (large-at ∙ sym m2)
             (e₃ ∙ ap₂ (λ (a : ℕ) (s : List FreeSection). over (o .large) (slotBytes (start + a) 2 s) d₂) large-at (large-is xs ys zs f page)) in
-            let message : messageBy page start o ≡ messageOf page start ls =
-            ap (λ (s : List ℕ). messageBytes 8 8 (made true strategy.Page 1 page start) s) (ap (slotsAt start) (g .offsets) ∙ sym (slots-are page ls start)) in
+            let message : messageBy page start o ≡ messageOf page start rs =
+            ap (λ (s : List ℕ). messageBytes 8 8 (made true strategy.Page 1 page start) s) (ap (slotsAt start) (g .offsets) ∙ sym (slots-are page rs start)) in
             behind ((b0 ++ b2) ++ b6) (messageBy page start o) d d₃ d₄ (o .len) p3 (len-at ∙ sym m6) e₄
-            ∙ ap₂ (λ (u v : List ℕ). over 0 (u ++ v) d) (sym (blocks-are page ls start)) message
+            ∙ ap₂ (λ (u v : List ℕ). over 0 (u ++ v) d) (sym (blocks-are page rs start)) message
 
 -- ---- the beginning
 
 module _ (xs ys zs : List ℕ) (f : FileLists) (page start place : ℕ) (image scratch : List ℕ)
-    (c : Tested) (ce : testedOutcome c ≡ firstOf (conditions (listsIn xs ys zs f) page start place image (length scratch)) (answer (offsetsOf page (listsIn xs ys zs f)))) where
+    (c : Tested) (ce : testedOutcome c ≡ firstOf (conditions (listsIn xs ys zs f) page start place image (length scratch)) (answer (offsetsOf page (regionsIn (listsIn xs ys zs f))))) where
   abbrev all : Lists
   all = listsIn xs ys zs f
 
+  abbrev regions : Regions
+  regions = regionsIn all
+
   pub begun-refused : (r : Refusal) → c ≡ code.Refused r → left (refused r) scratch ≡ leaving scratch (begun all page start place image scratch)
-  unfolding begun
   begun-refused r h =
       ap (leaving scratch)
-      (first-refuses (conditions all page start place image (length scratch)) (offsetsOf page all) r _ (ap testedOutcome (sym h) ∙ ce))
+      (first-refuses (conditions all page start place image (length scratch)) (offsetsOf page regions) r _ (ap testedOutcome (sym h) ∙ ce)
+      ∙ sym (begun-is all page start place image scratch))
 
   module _ (o : Offsets) (h : c ≡ code.Fine o) where
-    passed : NoneHolds (conditions all page start place image (length scratch)) × (offsetsOf page all ≡ o)
-    passed = first-answers (conditions all page start place image (length scratch)) (offsetsOf page all) o (sym ce ∙ ap testedOutcome h)
+    passed : NoneHolds (conditions all page start place image (length scratch)) × (offsetsOf page regions ≡ o)
+    passed = first-answers (conditions all page start place image (length scratch)) (offsetsOf page regions) o (sym ce ∙ ap testedOutcome h)
 
-    len-is : blockLen page all ≡ o .len
-    len-is = total page all ∙ ap (λ (q : Offsets). q .len) (passed .1)
+    len-is : blockLen page regions ≡ o .len
+    len-is = total page regions ∙ ap (λ (q : Offsets). q .len) (passed .1)
 
     pub begun-asks : ScratchFits all page start o (length scratch)
     begun-asks =
@@ -246,12 +250,11 @@ module _ (xs ys zs : List ℕ) (f : FileLists) (page start place : ℕ) (image s
           lists = not-false _ (p .1 .0);
           fits = p .1 .1 .0;
           offsets = sym (passed .1);
-          room = let q = ltb-false (length scratch) (blockLen page all + messageLen) (p .1 .1 .1 .1 .1 .1 .1 .0) in omega (arith, len-is);
+          room = let q = ltb-false (length scratch) (blockLen page regions + messageLen) (p .1 .1 .1 .1 .1 .1 .1 .0) in omega (arith, len-is);
         }
 
-    pub begun-done : (y : List ℕ) → y ≡ over 0 (blockBytes page start all ++ messageOf page start all) scratch
+    pub begun-done : (y : List ℕ) → y ≡ over 0 (blockBytes page start regions ++ messageOf page start regions) scratch
         → left (answer (record { start = start; place = place; len = o .len; done = 0 })) y ≡ leaving scratch (begun all page start place image scratch)
-    unfolding begun
     begun-done y e =
         ap₂ (λ (n : ℕ) (q : List ℕ). left (answer (record { start = start; place = place; len = n; done = 0 })) q) (sym len-is) e
-        ∙ ap (leaving scratch) (sym (first-pass (conditions all page start place image (length scratch)) _ (passed .0)))
+        ∙ ap (leaving scratch) (sym (begun-is all page start place image scratch ∙ first-pass (conditions all page start place image (length scratch)) _ (passed .0)))

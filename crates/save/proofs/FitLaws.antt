@@ -17,7 +17,7 @@ use Rattle.free_regions.specs.Regions.{end as endOf}
 use Rattle.free_regions.proofs.OkLaws.{Within}
 use Rattle.free_lists.specs.declared.calls.Which.{Which}
 use Rattle.free_lists.specs.declared.calls.Which.the-variants.{Metadata, Raw, Unclassified}
-use Rattle.free_lists.specs.Lists.{Lists}
+use Rattle.free_lists.specs.Lists.{Regions}
 use Rattle.fsm_sections.specs.declared.FreeSection.{FreeSection}
 use Rattle.fsm_sections.specs.Sections.{section, space, All}
 use Rattle.fsm_sections.specs.Pages.{end, cutAt, piecesFrom, pieces, split, belowPage, fromPage}
@@ -26,7 +26,7 @@ use Rattle.fsm_blocks.specs.Fshd.{fshdSize}
 use Rattle.fsm_blocks.specs.Managers.{Settings, startingSet, fsseUsed}
 use Rattle.fsm_plan.specs.Managers.{Manager, managerSize, sizeOf, slotsFrom}
 use Rattle.file_space_info.specs.Message.{addressRow}
-use Rattle.save.specs.Saving.{sectionsOf, small, smallRaw, large, plan}
+use Rattle.save.specs.Saving.{asSections, small, smallRaw, large, plan}
 use Rattle.save.proofs.PlanLaws.{ManagerFits, PlanFits}
 
 -- ---- where sections end
@@ -119,23 +119,23 @@ slots-fit (m ∷ ms) a h = (fit (eqb (length (m .sections)) 0), slots-fit ms (a 
 
 -- ---- the plan of three lists
 
-module _ (page : ℕ) (ls : Lists) (ends : (i : Which) → All (Ends top) (sectionsOf (ls i))) where
+module _ (page : ℕ) (rs : Regions) (ends : (i : Which) → All (Ends top) (asSections (rs i))) where
   abbrev M : List FreeSection
-  M = sectionsOf (ls Metadata)
+  M = asSections (rs Metadata)
 
   abbrev R : List FreeSection
-  R = sectionsOf (ls Raw)
+  R = asSections (rs Raw)
 
   abbrev U : List FreeSection
-  U = sectionsOf (ls Unclassified)
+  U = asSections (rs Unclassified)
 
-  pub small-plan : space (small page ls) ≤ top → space (smallRaw page ls) ≤ top → space (large page ls) ≤ top → All Small (plan page ls)
+  pub small-plan : space (small page rs) ≤ top → space (smallRaw page rs) ≤ top → space (large page rs) ≤ top → All Small (plan page rs)
   unfolding space
   small-plan a b c =
       let m : All (Ends top) (split page M) = split-end page top M (ends Metadata) in
       let r : All (Ends top) (split page R) = split-end page top R (ends Raw) in
       let u : All (Ends top) (fromPage page (split page R) ++ U) = all-append (Ends top) (fromPage page (split page R)) U (from-all (Ends top) page (split page R) r) (ends Unclassified) in
-      let g : All (Ends top) (large page ls) = all-append (Ends top) (fromPage page (split page M)) (fromPage page (split page R) ++ U) (from-all (Ends top) page (split page M) m) u in
+      let g : All (Ends top) (large page rs) = all-append (Ends top) (fromPage page (split page M)) (fromPage page (split page R) ++ U) (from-all (Ends top) page (split page M) m) u in
       let s0 = below-all (Ends top) page (split page M) m in
       let s2 = below-all (Ends top) page (split page R) r in
       ((a, s0), (none, ((b, s2), (none, (none, (none, ((c, g), (none, (none, (none, (none, (none, tt))))))))))))

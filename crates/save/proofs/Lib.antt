@@ -3,6 +3,7 @@ pub mod FitLaws
 pub mod BeginLaws
 pub mod ReadLaws
 pub mod HoldingLaws
+pub mod AnySaveLaws
 pub mod Demand3
 pub mod Cases
 pub mod TieLaws

@@ -16,13 +16,13 @@ use Rattle.error.specs.Outcome.{Outcome, answer, refused, Condition, when, firs
 use Rattle.error.proofs.OutcomeLaws.{NoneHolds, first-none, first-holds, first-passes, first-pass, first-answers, first-append, first-refuses}
 use Rattle.fields.specs.Ranges.{top}
 use Rattle.free_lists.specs.declared.FileLists.{FileLists}
-use Rattle.free_lists.specs.Lists.{together, Lists, listsIn, areLists, sharedByte}
+use Rattle.free_lists.specs.Lists.{together, Lists, Regions, listsIn, regionsIn, areLists, sharedByte}
 use Rattle.save_step.specs.Stores.{messageLen}
 use Rattle.save.specs.declared.tests.Offsets.{Offsets}
 use Rattle.save.specs.declared.tests.Tested.{Tested}
 use Rattle.save.specs.declared.tests.Tested.the-variants as code
-use Rattle.save.specs.Saving.{blockLen, tooLarge, messageIn, blocksOut, conditions, anyInTheWay, placeTests, lateTests}
-use Rattle.save.specs.Beginning.{offsetsOf, testedOutcome}
+use Rattle.save.specs.Saving.{blockLen, tooLarge, messageIn, blocksOut, anyInTheWay, placeTests, lateTests}
+use Rattle.save.specs.Beginning.{offsetsOf, conditions, testedOutcome}
 use Rattle.save.proofs.TieLaws.{total}
 use Rattle.save.proofs.SumLaws.{sums}
 
@@ -61,7 +61,7 @@ module _ (v t : ℕ) (room : Condition) (a c d e f : Bool) where
           unfolding firstOf
           is-room o = rw (k, l, m, n, o)
 
-module _ (ls : Lists) (L start place : ℕ) (image : List ℕ) (given : ℕ) where
+module _ (rs : Regions) (L start place : ℕ) (image : List ℕ) (given : ℕ) where
   abbrev ver : ℕ
   ver = getD image place 0
 
@@ -72,7 +72,7 @@ module _ (ls : Lists) (L start place : ℕ) (image : List ℕ) (given : ℕ) whe
   short = when (ltb given (L + messageLen)) (OverCapacity (L + messageLen) given)
 
   abbrev F : Outcome (Unit {0})
-  F = firstOf (placeTests ls L start place image given) (answer tt)
+  F = firstOf (placeTests rs L start place image given) (answer tt)
 
   abbrev bi : Bool
   bi = messageIn place image
@@ -87,7 +87,7 @@ module _ (ls : Lists) (L start place : ℕ) (image : List ℕ) (given : ℕ) whe
   bo = blocksOut L start place image
 
   abbrev bw : Bool
-  bw = anyInTheWay start place ls
+  bw = anyInTheWay start place rs
 
   module _ (x : Bool) (xe : x ≡ bi) where
     pub place-outside : not x ≡ true → refused Place ≡ F
@@ -123,7 +123,7 @@ module _ (ls : Lists) (L start place : ℕ) (image : List ℕ) (given : ℕ) whe
 module _ (xs ys zs : List ℕ) (f : FileLists) (lists : areLists (listsIn xs ys zs f) ≡ true)
     (c : Checked) (e : checkedOutcome c ≡ together (listsIn xs ys zs f)) (cs : List Condition) where
   abbrev share : Condition
-  share = when (sharedByte (listsIn xs ys zs f)) SharedAddress
+  share = when (sharedByte (regionsIn (listsIn xs ys zs f))) SharedAddress
 
   shared-only : checkedOutcome c ≡ firstOf (share ∷ []) (answer tt)
   shared-only = e ∙ first-passes _ NotAList _ _ (ap not lists)
@@ -143,11 +143,14 @@ module _ (xs ys zs : List ℕ) (f : FileLists) (page start place : ℕ) (image :
   abbrev lists3 : Lists
   lists3 = listsIn xs ys zs f
 
+  abbrev rs3 : Regions
+  rs3 = regionsIn lists3
+
   abbrev late : ℕ → List Condition
-  late L = lateTests lists3 L start place image given
+  late L = lateTests rs3 L start place image given
 
   abbrev B : Outcome Offsets
-  B = firstOf (conditions lists3 page start place image given) (answer (offsetsOf page lists3))
+  B = firstOf (conditions lists3 page start place image given) (answer (offsetsOf page rs3))
 
   pub begin-page : page ≡ 0 → refused Page ≡ B
   begin-page z = sym (first-holds _ Page _ _ (eq-eqb page 0 z))
@@ -160,30 +163,30 @@ module _ (xs ys zs : List ℕ) (f : FileLists) (page start place : ℕ) (image :
       pub begin-asks : (0 < page) × (areLists lists3 ≡ true)
       begin-asks = (omega arith, sym ve ∙ not-false v t)
 
-      behind : B ≡ firstOf (when (tooLarge page start lists3) Overflow ∷ []) (firstOf (late (blockLen page lists3)) (answer (offsetsOf page lists3)))
+      behind : B ≡ firstOf (when (tooLarge page start rs3) Overflow ∷ []) (firstOf (late (blockLen page rs3)) (answer (offsetsOf page rs3)))
       behind =
           first-passes _ Page _ _ (ne-eqb page 0 n) ∙ first-passes _ NotAList _ _ (ap not (begin-asks .1))
-          ∙ first-append (when (tooLarge page start lists3) Overflow ∷ []) (late (blockLen page lists3)) (answer (offsetsOf page lists3))
+          ∙ first-append (when (tooLarge page start rs3) Overflow ∷ []) (late (blockLen page rs3)) (answer (offsetsOf page rs3))
 
-      module _ (c : Tested) (ce : testedOutcome c ≡ firstOf (when (tooLarge page start lists3) Overflow ∷ []) (answer (offsetsOf page lists3))) where
+      module _ (c : Tested) (ce : testedOutcome c ≡ firstOf (when (tooLarge page start rs3) Overflow ∷ []) (answer (offsetsOf page rs3))) where
         pub begin-large : (r : Refusal) → c ≡ code.Refused r → refused r ≡ B
         begin-large r h =
-            first-refuses (when (tooLarge page start lists3) Overflow ∷ []) (offsetsOf page lists3) r _ (ap testedOutcome (sym h) ∙ ce) ∙ sym behind
+            first-refuses (when (tooLarge page start rs3) Overflow ∷ []) (offsetsOf page rs3) r _ (ap testedOutcome (sym h) ∙ ce) ∙ sym behind
 
         module _ (o : Offsets) (h : c ≡ code.Fine o) where
-          passed : NoneHolds (when (tooLarge page start lists3) Overflow ∷ []) × (offsetsOf page lists3 ≡ o)
-          passed = first-answers (when (tooLarge page start lists3) Overflow ∷ []) (offsetsOf page lists3) o (sym ce ∙ ap testedOutcome h)
+          passed : NoneHolds (when (tooLarge page start rs3) Overflow ∷ []) × (offsetsOf page rs3 ≡ o)
+          passed = first-answers (when (tooLarge page start rs3) Overflow ∷ []) (offsetsOf page rs3) o (sym ce ∙ ap testedOutcome h)
 
-          len-is : o .len ≡ blockLen page lists3
-          len-is = sym (total page lists3 ∙ ap (λ (q : Offsets). q .len) (passed .1))
+          len-is : o .len ≡ blockLen page rs3
+          len-is = sym (total page rs3 ∙ ap (λ (q : Offsets). q .len) (passed .1))
 
           pub begin-last : start + o .len ≤ top
-          begin-last = let q = sums page start lists3 (passed .0 .0) .last in omega (arith, len-is)
+          begin-last = let q = sums page start rs3 (passed .0 .0) .last in omega (arith, len-is)
 
           rest : B ≡ firstOf (late (o .len)) (answer o)
           rest =
               behind ∙ first-passes _ Overflow _ _ (passed .0 .0) ∙ first-none _
-              ∙ ap (λ (L : ℕ). firstOf (late L) (answer (offsetsOf page lists3))) (sym len-is)
+              ∙ ap (λ (L : ℕ). firstOf (late L) (answer (offsetsOf page rs3))) (sym len-is)
               ∙ ap (λ (q : Offsets). firstOf (late (o .len)) (answer q)) (passed .1)
 
           module _ (d : Checked) (de : checkedOutcome d ≡ firstOf (late (o .len)) (answer tt)) where

@@ -19,7 +19,7 @@ use Rattle.error.proofs.OutcomeLaws.{refuses, passes}
 use Rattle.fields.specs.Ranges.{top}
 use Rattle.free_space.specs.Runs.{isList}
 use Rattle.free_lists.specs.declared.FileLists.{FileLists}
-use Rattle.free_lists.specs.Lists.{Lists, listsIn, areLists}
+use Rattle.free_lists.specs.Lists.{Regions, listsIn, regionsIn, areLists}
 use Rattle.fsm_sections.specs.declared.FreeSection.{FreeSection}
 use Rattle.fsm_sections.specs.Sections.{space}
 use Rattle.fsm_writer.specs.declared.slots.Slot.the-variants.{Small, Large}
@@ -41,62 +41,62 @@ or-right false b e = e
 
 -- ---- refusal 4
 
-module _ (page start : ℕ) (ls : Lists) where
+module _ (page start : ℕ) (rs : Regions) where
   abbrev S : List FreeSection
-  S = small page ls
+  S = small page rs
 
   abbrev R : List FreeSection
-  R = smallRaw page ls
+  R = smallRaw page rs
 
   abbrev G : List FreeSection
-  G = large page ls
+  G = large page rs
 
   abbrev tests : Bool
-  tests = ltb top (space G) || ltb top (start + blockLen page ls)
+  tests = ltb top (space G) || ltb top (start + blockLen page rs)
 
-  last-over : top < start + blockLen page ls → tooLarge page start ls ≡ true
+  last-over : top < start + blockLen page rs → tooLarge page start rs ≡ true
   last-over h =
       or-right (ltb top (space S)) (ltb top (space R) || tests)
-      (or-right (ltb top (space R)) tests (or-right (ltb top (space G)) (ltb top (start + blockLen page ls)) (lt-ltb top (start + blockLen page ls) h)))
+      (or-right (ltb top (space R)) tests (or-right (ltb top (space G)) (ltb top (start + blockLen page rs)) (lt-ltb top (start + blockLen page rs) h)))
 
-  first-over : (top < space S) ⊎ (top < blocksSize 8 S) → tooLarge page start ls ≡ true
+  first-over : (top < space S) ⊎ (top < blocksSize 8 S) → tooLarge page start rs ≡ true
   first-over h =
       ⊎-elim (λ (k : top < space S). or-left (ltb top (space S)) (ltb top (space R) || tests) (lt-ltb top (space S) k))
-      (λ (k : top < blocksSize 8 S). last-over (omega (arith, total page ls))) h
+      (λ (k : top < blocksSize 8 S). last-over (omega (arith, total page rs))) h
 
-  second-over : (top < space R) ⊎ (top < blocksSize 8 R) → tooLarge page start ls ≡ true
+  second-over : (top < space R) ⊎ (top < blocksSize 8 R) → tooLarge page start rs ≡ true
   second-over h =
       ⊎-elim
       (λ (k : top < space R). or-right (ltb top (space S)) (ltb top (space R) || tests) (or-left (ltb top (space R)) tests (lt-ltb top (space R) k)))
-      (λ (k : top < blocksSize 8 R). last-over (omega (arith, total page ls))) h
+      (λ (k : top < blocksSize 8 R). last-over (omega (arith, total page rs))) h
 
-  third-over : (top < space G) ⊎ (top < blocksSize 8 G) → tooLarge page start ls ≡ true
+  third-over : (top < space G) ⊎ (top < blocksSize 8 G) → tooLarge page start rs ≡ true
   third-over h =
       ⊎-elim
       (λ (k : top < space G). or-right (ltb top (space S)) (ltb top (space R) || tests)
-      (or-right (ltb top (space R)) tests (or-left (ltb top (space G)) (ltb top (start + blockLen page ls)) (lt-ltb top (space G) k))))
-      (λ (k : top < blocksSize 8 G). last-over (omega (arith, total page ls))) h
+      (or-right (ltb top (space R)) tests (or-left (ltb top (space G)) (ltb top (start + blockLen page rs)) (lt-ltb top (space G) k))))
+      (λ (k : top < blocksSize 8 G). last-over (omega (arith, total page rs))) h
 
-  none-over : space S ≤ top → space R ≤ top → space G ≤ top → start + blockLen page ls ≤ top → tooLarge page start ls ≡ false
-  none-over a b c d = rw (le-ltb top (space S) a, le-ltb top (space R) b, le-ltb top (space G) c, le-ltb top (start + blockLen page ls) d)
+  none-over : space S ≤ top → space R ≤ top → space G ≤ top → start + blockLen page rs ≤ top → tooLarge page start rs ≡ false
+  none-over a b c d = rw (le-ltb top (space S) a, le-ltb top (space R) b, le-ltb top (space G) c, le-ltb top (start + blockLen page rs) d)
 
   -- what the test leaves
   pub record Sums : Type 0 where
     pub sum0 : space S ≤ top
     pub sum2 : space R ≤ top
     pub sum6 : space G ≤ top
-    pub last : start + blockLen page ls ≤ top
+    pub last : start + blockLen page rs ≤ top
 
-  pub sums : tooLarge page start ls ≡ false → Sums
+  pub sums : tooLarge page start rs ≡ false → Sums
   sums e =
       let p = or-false (ltb top (space S)) (ltb top (space R) || tests) e in
       let q = or-false (ltb top (space R)) tests (p .1) in
-      let r = or-false (ltb top (space G)) (ltb top (start + blockLen page ls)) (q .1) in
+      let r = or-false (ltb top (space G)) (ltb top (start + blockLen page rs)) (q .1) in
       record {
         sum0 = ltb-false top (space S) (p .0);
         sum2 = ltb-false top (space R) (q .0);
         sum6 = ltb-false top (space G) (r .0);
-        last = ltb-false top (start + blockLen page ls) (r .1);
+        last = ltb-false top (start + blockLen page rs) (r .1);
       }
 
 -- three lists that pass refusal 3's test, each by itself
@@ -109,51 +109,51 @@ each-list xs ys zs f e =
 
 module _ (xs ys zs : List ℕ) (f : FileLists) (page start : ℕ) (some : 0 < page)
     (lists : areLists (listsIn xs ys zs f) ≡ true) where
-  abbrev ls : Lists
-  ls = listsIn xs ys zs f
+  abbrev rs : Regions
+  rs = regionsIn (listsIn xs ys zs f)
 
   abbrev W : Outcome Offsets
-  W = firstOf (when (tooLarge page start ls) Overflow ∷ []) (answer (offsetsOf page ls))
+  W = firstOf (when (tooLarge page start rs) Overflow ∷ []) (answer (offsetsOf page rs))
 
-  first-len : slotLen Small xs (f .metadata .count) xs (f .metadata .count) xs (f .metadata .count) page 8 ≡ lenOf 8 (small page ls)
+  first-len : slotLen Small xs (f .metadata .count) xs (f .metadata .count) xs (f .metadata .count) page 8 ≡ lenOf 8 (small page rs)
   first-len = let v = each-list xs ys zs f lists .0 in length-is Small xs (f .metadata) xs (f .metadata) xs (f .metadata) page some v v v ∙ ap (lenOf 8) (small-is xs ys zs f page)
 
-  second-len : slotLen Small ys (f .raw .count) ys (f .raw .count) ys (f .raw .count) page 8 ≡ lenOf 8 (smallRaw page ls)
+  second-len : slotLen Small ys (f .raw .count) ys (f .raw .count) ys (f .raw .count) page 8 ≡ lenOf 8 (smallRaw page rs)
   second-len = let v = each-list xs ys zs f lists .1 in length-is Small ys (f .raw) ys (f .raw) ys (f .raw) page some v v v ∙ ap (lenOf 8) (raw-is xs ys zs f page)
 
-  third-len : slotLen Large xs (f .metadata .count) ys (f .raw .count) zs (f .unclassified .count) page 8 ≡ lenOf 8 (large page ls)
+  third-len : slotLen Large xs (f .metadata .count) ys (f .raw .count) zs (f .unclassified .count) page 8 ≡ lenOf 8 (large page rs)
   third-len =
       let v = each-list xs ys zs f lists in
       length-is Large xs (f .metadata) ys (f .raw) zs (f .unclassified) page some (v .0) (v .1) (v .2) ∙ ap (lenOf 8) (large-is xs ys zs f page)
 
   module _ (c : Number) (ce : numberOutcome c ≡ slotLen Small xs (f .metadata .count) xs (f .metadata .count) xs (f .metadata .count) page 8) where
     pub first-refused : (r : Refusal) → c ≡ number.Refused r → refused Overflow ≡ W
-    first-refused r h = refuses _ Overflow _ (first-over page start ls (len-over c (small page ls) (ce ∙ first-len) r h))
+    first-refused r h = refuses _ Overflow _ (first-over page start rs (len-over c (small page rs) (ce ∙ first-len) r h))
 
     module _ (x : ℕ) (cx : c ≡ number.Is x) (d : Number) (de : numberOutcome d ≡ slotLen Small ys (f .raw .count) ys (f .raw .count) ys (f .raw .count) page 8) where
       pub second-refused : (r : Refusal) → d ≡ number.Refused r → refused Overflow ≡ W
-      second-refused r h = refuses _ Overflow _ (second-over page start ls (len-over d (smallRaw page ls) (de ∙ second-len) r h))
+      second-refused r h = refuses _ Overflow _ (second-over page start rs (len-over d (smallRaw page rs) (de ∙ second-len) r h))
 
       module _ (y : ℕ) (dy : d ≡ number.Is y) (e : Number) (ee : numberOutcome e ≡ slotLen Large xs (f .metadata .count) ys (f .raw .count) zs (f .unclassified .count) page 8) where
         pub third-refused : (r : Refusal) → e ≡ number.Refused r → refused Overflow ≡ W
-        third-refused r h = refuses _ Overflow _ (third-over page start ls (len-over e (large page ls) (ee ∙ third-len) r h))
+        third-refused r h = refuses _ Overflow _ (third-over page start rs (len-over e (large page rs) (ee ∙ third-len) r h))
 
         module _ (z : ℕ) (ez : e ≡ number.Is z) (b : Bool) (be : b ≡ ltb top (start + (x + y + z))) where
-          first-is : (x ≡ blocksSize 8 (small page ls)) × (space (small page ls) ≤ top)
-          first-is = len-known c (small page ls) (ce ∙ first-len) x cx
+          first-is : (x ≡ blocksSize 8 (small page rs)) × (space (small page rs) ≤ top)
+          first-is = len-known c (small page rs) (ce ∙ first-len) x cx
 
-          second-is : (y ≡ blocksSize 8 (smallRaw page ls)) × (space (smallRaw page ls) ≤ top)
-          second-is = len-known d (smallRaw page ls) (de ∙ second-len) y dy
+          second-is : (y ≡ blocksSize 8 (smallRaw page rs)) × (space (smallRaw page rs) ≤ top)
+          second-is = len-known d (smallRaw page rs) (de ∙ second-len) y dy
 
-          third-is : (z ≡ blocksSize 8 (large page ls)) × (space (large page ls) ≤ top)
-          third-is = len-known e (large page ls) (ee ∙ third-len) z ez
+          third-is : (z ≡ blocksSize 8 (large page rs)) × (space (large page rs) ≤ top)
+          third-is = len-known e (large page rs) (ee ∙ third-len) z ez
 
-          sum-is : blockLen page ls ≡ x + y + z
-          sum-is = omega (arith, total page ls, first-is .0, second-is .0, third-is .0)
+          sum-is : blockLen page rs ≡ x + y + z
+          sum-is = omega (arith, total page rs, first-is .0, second-is .0, third-is .0)
 
           pub above-refused : b ≡ true → refused Overflow ≡ W
           above-refused t =
-              refuses _ Overflow _ (last-over page start ls (let q = ltb-true top (start + (x + y + z)) (sym be ∙ t) in omega (arith, sum-is)))
+              refuses _ Overflow _ (last-over page start rs (let q = ltb-true top (start + (x + y + z)) (sym be ∙ t) in omega (arith, sum-is)))
 
           module _ (t : b ≡ false) where
             pub sum-low : start + (x + y + z) ≤ top
@@ -161,7 +161,7 @@ module _ (xs ys zs : List ℕ) (f : FileLists) (page start : ℕ) (some : 0 < pa
 
             pub offsets-are : answer (record { raw = x; large = x + y; len = x + y + z }) ≡ W
             offsets-are =
-                let p : record { raw = x; large = x + y; len = x + y + z } ≡ offsetsOf page ls =
+                let p : record { raw = x; large = x + y; len = x + y + z } ≡ offsetsOf page rs =
                 λ i. record { raw = first-is .0 i; large = first-is .0 i + second-is .0 i; len = first-is .0 i + second-is .0 i + third-is .0 i } in
                 ap (λ (o : Offsets). answer o) p
-                ∙ passes _ Overflow _ (none-over page start ls (first-is .1) (second-is .1) (third-is .1) (omega (arith, sum-is, sum-low)))
+                ∙ passes _ Overflow _ (none-over page start rs (first-is .1) (second-is .1) (third-is .1) (omega (arith, sum-is, sum-low)))

@@ -21,10 +21,10 @@ use Rattle.fields.specs.Ranges.{top}
 use Rattle.checksum.specs.Lookup3.{lookup3}
 use Rattle.free_regions.proofs.OkLaws.{ok-prop}
 use Rattle.free_space.specs.declared.list.FreeList.{FreeList}
-use Rattle.free_space.specs.Runs.{isList, decode as regionsIn}
+use Rattle.free_space.specs.Runs.{isList, decode as decodeRegions}
 use Rattle.free_space.proofs.ListLaws.{listed}
 use Rattle.free_lists.specs.declared.FileLists.{FileLists}
-use Rattle.free_lists.specs.Lists.{Lists, listsIn}
+use Rattle.free_lists.specs.Lists.{Regions, listsIn, regionsIn}
 use Rattle.fsm_sections.specs.declared.FreeSection.{FreeSection}
 use Rattle.fsm_sections.specs.Sections.{section, decode, space, All}
 use Rattle.fsm_sections.specs.Pages.{end, slot0, slot6}
@@ -44,7 +44,7 @@ use Rattle.save.proofs.FitLaws.{Ends, list-ends}
 
 -- ---- a run that is a list passes the writer's tests
 
-decode-sections : (n : ℕ) (xs : List ℕ) → decode n xs ≡ map (λ r. section (r .addr) (r .len)) (regionsIn n xs)
+decode-sections : (n : ℕ) (xs : List ℕ) → decode n xs ≡ map (λ r. section (r .addr) (r .len)) (decodeRegions n xs)
 decode-sections zero xs = refl
 decode-sections (suc n) [] = refl
 decode-sections (suc n) (a ∷ []) = refl
@@ -64,7 +64,7 @@ fine xs l e =
     let n = l .count in
     record {
       run = rw (eq-eqb (length xs % 2) 0 (p .even), le-leb n (length xs / 2) (omega (arith, p .room)));
-      ends = rw (decode-sections n xs) (none-late (map (λ r. section (r .addr) (r .len)) (regionsIn n xs)) (list-ends 0 top (regionsIn n xs) (ok-prop 0 (regionsIn n xs) .0 (p .ok))));
+      ends = rw (decode-sections n xs) (none-late (map (λ r. section (r .addr) (r .len)) (decodeRegions n xs)) (list-ends 0 top (decodeRegions n xs) (ok-prop 0 (decodeRegions n xs) .0 (p .ok))));
     }
 
 module _ (slot : Slot) (xs : List ℕ) (k : FreeList) (ys : List ℕ) (l : FreeList) (zs : List ℕ) (m : FreeList) (page : ℕ) (some : 0 < page)
@@ -128,17 +128,17 @@ slot-at start from l =
 
 -- ---- the plan
 
-module _ (page : ℕ) (ls : Lists) where
+module _ (page : ℕ) (rs : Regions) where
   abbrev S : List FreeSection
-  S = small page ls
+  S = small page rs
 
   abbrev R : List FreeSection
-  R = smallRaw page ls
+  R = smallRaw page rs
 
   abbrev G : List FreeSection
-  G = large page ls
+  G = large page rs
 
-  pub total : blockLen page ls ≡ blocksSize 8 S + blocksSize 8 R + blocksSize 8 G
+  pub total : blockLen page rs ≡ blocksSize 8 S + blocksSize 8 R + blocksSize 8 G
   unfolding sizeOf
   total = omega (arith, size-is 1 S, size-is 1 R, size-is 2 G)
 
@@ -149,7 +149,7 @@ module _ (page : ℕ) (ls : Lists) where
     abbrev third : ℕ
     third = start + (blocksSize 8 S + blocksSize 8 R)
 
-    pub blocks-are : blockBytes page start ls ≡ (slotBytes start 1 S ++ slotBytes second 1 R) ++ slotBytes third 2 G
+    pub blocks-are : blockBytes page start rs ≡ (slotBytes start 1 S ++ slotBytes second 1 R) ++ slotBytes third 2 G
     unfolding blocksFrom
     blocks-are =
         let x = managerSize 8 (startingSet 8) (manager 1 S) in
@@ -161,7 +161,7 @@ module _ (page : ℕ) (ls : Lists) where
         (append-nil _ ∙ bytes-are 2 G (start + x + 0 + y + 0 + 0 + 0) ∙ ap (λ (a : ℕ). slotBytes a 2 G) q))
         ∙ sym (append-assoc (slotBytes start 1 S) (slotBytes second 1 R) (slotBytes third 2 G))
 
-    pub slots-are : slotAddrs page start ls ≡ slotsAt start (offsetsOf page ls)
+    pub slots-are : slotAddrs page start rs ≡ slotsAt start (offsetsOf page rs)
     unfolding slotsFrom
     slots-are =
         let x = managerSize 8 (startingSet 8) (manager 1 S) in
@@ -177,14 +177,14 @@ module _ (page : ℕ) (ls : Lists) where
 -- ---- the plan's sections by the runs
 
 module _ (xs ys zs : List ℕ) (f : FileLists) (page : ℕ) where
-  abbrev ls : Lists
-  ls = listsIn xs ys zs f
+  abbrev rs : Regions
+  rs = regionsIn (listsIn xs ys zs f)
 
-  pub small-is : slotIn Small xs (f .metadata .count) xs (f .metadata .count) xs (f .metadata .count) page ≡ small page ls
+  pub small-is : slotIn Small xs (f .metadata .count) xs (f .metadata .count) xs (f .metadata .count) page ≡ small page rs
   small-is = ap (slot0 page) (decode-sections (f .metadata .count) xs)
 
-  pub raw-is : slotIn Small ys (f .raw .count) ys (f .raw .count) ys (f .raw .count) page ≡ smallRaw page ls
+  pub raw-is : slotIn Small ys (f .raw .count) ys (f .raw .count) ys (f .raw .count) page ≡ smallRaw page rs
   raw-is = ap (slot0 page) (decode-sections (f .raw .count) ys)
 
-  pub large-is : slotIn Large xs (f .metadata .count) ys (f .raw .count) zs (f .unclassified .count) page ≡ large page ls
+  pub large-is : slotIn Large xs (f .metadata .count) ys (f .raw .count) zs (f .unclassified .count) page ≡ large page rs
   large-is = λ i. slot6 page (decode-sections (f .metadata .count) xs i) (decode-sections (f .raw .count) ys i) (decode-sections (f .unclassified .count) zs i)

@@ -1,5 +1,6 @@
 -- What the contracts of the private functions of a beginning say. No public contract cites this file. Assumes nothing.
 --   offsetsOf     where the blocks of slots 2 and 6 begin and where all end, counted from `start`
+--   conditions    all refusals of a beginning, in their order
 --   testedOutcome   the outcome that an answer of the code stands for
 --   slotAt        a slot's address: undefined where its blocks, between two offsets, are none
 --   slotsAt       the twelve slots of the message by the offsets
@@ -10,11 +11,11 @@
 use mathlib.Core.Path.{_≡_}
 use Prim.Native.Nat.{ℕ, _+_, _≤_, _<_}
 use mathlib.Core.Bool.{true, false, cond}
-use mathlib.Core.List.{List, [], _∷_}
+use mathlib.Core.List.{List, [], _∷_, _++_}
 use lib.Dec.{eqb}
-use Rattle.error.specs.Outcome.{Outcome, answer, refused}
+use Rattle.error.specs.Outcome.{Outcome, answer, refused, Condition}
 use Rattle.fields.specs.Ranges.{top}
-use Rattle.free_lists.specs.Lists.{Lists, areLists}
+use Rattle.free_lists.specs.Lists.{Lists, Regions, regionsIn, areLists}
 use Rattle.fsm_sections.specs.declared.FreeSection.{FreeSection}
 use Rattle.fsm_sections.specs.Sections.{decode}
 use Rattle.fsm_writer.specs.declared.slots.Slot.{Slot}
@@ -27,15 +28,19 @@ use Rattle.save_step.specs.Stores.{messageLen}
 use Rattle.save.specs.declared.tests.Offsets.{Offsets}
 use Rattle.save.specs.declared.tests.Tested.{Tested}
 use Rattle.save.specs.declared.tests.Tested.the-variants as code
-use Rattle.save.specs.Saving.{small, smallRaw, large, tooLarge}
+use Rattle.save.specs.Saving.{small, smallRaw, large, tooLarge, regionTests, listTests}
 
-abbrev pub offsetsOf : ℕ → Lists → Offsets
-offsetsOf page ls =
-    let first = blocksSize 8 (small page ls) in
-    let second = first + blocksSize 8 (smallRaw page ls) in
-    record { raw = first; large = second; len = second + blocksSize 8 (large page ls) }
+abbrev pub offsetsOf : ℕ → Regions → Offsets
+offsetsOf page rs =
+    let first = blocksSize 8 (small page rs) in
+    let second = first + blocksSize 8 (smallRaw page rs) in
+    record { raw = first; large = second; len = second + blocksSize 8 (large page rs) }
 
 -- ---- the tests
+
+-- `given` is the length of the scratch
+abbrev pub conditions : Lists → ℕ → ℕ → ℕ → List ℕ → ℕ → List Condition
+conditions ls page start place image given = listTests ls page ++ regionTests (regionsIn ls) page start place image given
 
 abbrev pub testedOutcome : Tested → Outcome Offsets
 testedOutcome (code.Fine o) = answer o
@@ -66,6 +71,6 @@ module _ (slot : Slot) (xs : List ℕ) (n : ℕ) (ys : List ℕ) (m : ℕ) (zs :
 pub record ScratchFits (ls : Lists) (page start : ℕ) (o : Offsets) (given : ℕ) : Type 0 where
   pub some : 0 < page
   pub lists : areLists ls ≡ true
-  pub fits : tooLarge page start ls ≡ false
-  pub offsets : o ≡ offsetsOf page ls
+  pub fits : tooLarge page start (regionsIn ls) ≡ false
+  pub offsets : o ≡ offsetsOf page (regionsIn ls)
   pub room : o .len + messageLen ≤ given

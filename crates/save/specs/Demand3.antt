@@ -11,7 +11,7 @@
 --   long, frame    nothing outside blocks and message changes
 --   anew           any save with its message there, also one of other lists, begins over what a cut left as over the image before the save
 --   again          so the same save begins again with any scratch that has room, and ends in the same record and image
---   lists          the three lists after the calls
+--   lists, regions   the three lists after the calls; their regions
 --   blocks, all, T   the bytes of the plan's blocks; the stores of the save, in order; how many they are
 --   cut            record and image after k steps
 --   recordAt       the record of the save after k stores
@@ -26,7 +26,7 @@ use lib.ListN.{length, getD, replicate}
 use Rattle.error.specs.Outcome.{answer}
 use Rattle.error.specs.Lent.{with, over}
 use Rattle.free_lists.specs.declared.calls.Which.{Which}
-use Rattle.free_lists.specs.Lists.{Lists}
+use Rattle.free_lists.specs.Lists.{Lists, Regions, regionsIn}
 use Rattle.free_lists.specs.History.{CallOn, run, begun as begunEmpty, freeByHistory}
 use Rattle.fsm_sections.specs.declared.FreeSection.{FreeSection}
 use Rattle.fsm_sections.specs.Sections.{bySizeThenAddr, flat}
@@ -42,11 +42,14 @@ module _ (runs : Which → List ℕ) (calls : List CallOn) (page start place : �
   abbrev pub lists : Lists
   lists = run calls (begunEmpty runs)
 
+  abbrev pub regions : Regions
+  regions = regionsIn lists
+
   abbrev pub blocks : List ℕ
-  blocks = blockBytes page start lists
+  blocks = blockBytes page start regions
 
   abbrev pub all : List Store
-  all = saveStores place start blocks (messageOf page start lists)
+  all = saveStores place start blocks (messageOf page start regions)
 
   abbrev pub T : ℕ
   T = stores (length blocks)
@@ -61,13 +64,13 @@ module _ (runs : Which → List ℕ) (calls : List CallOn) (page start place : �
 
   -- the sections that are to stand in slots 0, 2 and 6
   abbrev pub S : List FreeSection
-  S = bySizeThenAddr (small page lists)
+  S = bySizeThenAddr (small page regions)
 
   abbrev pub R : List FreeSection
-  R = bySizeThenAddr (smallRaw page lists)
+  R = bySizeThenAddr (smallRaw page regions)
 
   abbrev pub G : List FreeSection
-  G = bySizeThenAddr (large page lists)
+  G = bySizeThenAddr (large page regions)
 
   pub record Demand3 : Type 0 where
     pub begins : save ≡ recordAt 0

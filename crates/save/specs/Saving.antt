@@ -1,6 +1,6 @@
--- The beginning of a save: the plan of three lists, the conditions under which it is refused, and what it puts into the scratch.
+-- The beginning of a save: the plan of the regions of three lists, the conditions under which it is refused, and what it puts into the scratch.
 -- Offset size 8 and the starting set of the writer's settings. Assumes nothing.
---   sectionsOf     a list's regions as sections
+--   asSections     regions as sections
 --   small, smallRaw, large   the sections of slots 0, 2 and 6
 --   plan           the twelve managers of three lists
 --   blockLen       document 01's L, how many bytes all blocks of the plan are
@@ -14,10 +14,12 @@
 --   inTheWay, anyInTheWay   a free region of a list, of three, ends past `start` or meets the message
 --   misplaced      refusal 13: message or blocks leave the image, they overlap each other, or a free region is in the way
 --   placeTests     refusals 8, 9, 13 and 14, by the length of the blocks; lateTests 5 before them
---   conditions     all refusals of a beginning, in their order
+--   regionTests    refusal 4 and then those: what is tested of regions
 --   fresh          the record of a save of which no store is made
 --   filled         the scratch with all blocks and then the message, the rest as it was
---   begun          a beginning: the record and the scratch, where no condition holds
+--   begunOf        a beginning of three lists of regions: the record and the scratch, where no condition holds
+--   listTests      refusals 2 and 3, which come before all others
+--   begun          a beginning of three lists: these tests, and then the beginning of their regions
 --   beginOutcome   the outcome that an answer of the code stands for
 use Prim.Native.Nat.{ℕ, _+_}
 use mathlib.Core.Bool.{Bool, false, _&&_, _||_, not}
@@ -32,7 +34,7 @@ use Rattle.checksum.specs.Lookup3.{lookup3}
 use Rattle.free_regions.specs.declared.FreeRegion.{FreeRegion}
 use Rattle.free_regions.specs.Regions.{region, end, meets, shares}
 use Rattle.free_lists.specs.declared.calls.Which.the-variants.{Metadata, Raw, Unclassified}
-use Rattle.free_lists.specs.Lists.{LentList, regionsOf, Lists, areLists, sharedByte}
+use Rattle.free_lists.specs.Lists.{Lists, Regions, regionsIn, areLists, sharedByte}
 use Rattle.fsm_sections.specs.declared.FreeSection.{FreeSection}
 use Rattle.fsm_sections.specs.Sections.{section, space}
 use Rattle.fsm_sections.specs.Pages.{slot0, slot2, slot6}
@@ -46,41 +48,41 @@ use Rattle.save_step.specs.Stores.{messageLen}
 use Rattle.save.specs.declared.Begin.{Begin}
 use Rattle.save.specs.declared.Begin.the-variants as begin
 
-abbrev pub sectionsOf : LentList → List FreeSection
-sectionsOf l = map (λ r. section (r .addr) (r .len)) (regionsOf l)
+abbrev pub asSections : List FreeRegion → List FreeSection
+asSections rs = map (λ r. section (r .addr) (r .len)) rs
 
 -- ---- the plan
 
-module _ (page : ℕ) (ls : Lists) where
+module _ (page : ℕ) (rs : Regions) where
   abbrev pub small : List FreeSection
-  small = slot0 page (sectionsOf (ls Metadata))
+  small = slot0 page (asSections (rs Metadata))
 
   abbrev pub smallRaw : List FreeSection
-  smallRaw = slot2 page (sectionsOf (ls Raw))
+  smallRaw = slot2 page (asSections (rs Raw))
 
   abbrev pub large : List FreeSection
-  large = slot6 page (sectionsOf (ls Metadata)) (sectionsOf (ls Raw)) (sectionsOf (ls Unclassified))
+  large = slot6 page (asSections (rs Metadata)) (asSections (rs Raw)) (asSections (rs Unclassified))
 
   abbrev pub plan : List Manager
-  plan = managersOf page (sectionsOf (ls Metadata)) (sectionsOf (ls Raw)) (sectionsOf (ls Unclassified))
+  plan = managersOf page (asSections (rs Metadata)) (asSections (rs Raw)) (asSections (rs Unclassified))
 
   abbrev pub blockLen : ℕ
   blockLen = sizeOf 8 (startingSet 8) plan
 
-module _ (page start : ℕ) (ls : Lists) where
+module _ (page start : ℕ) (rs : Regions) where
   abbrev pub blockBytes : List ℕ
-  blockBytes = blocksFrom 8 (startingSet 8) lookup3 start (plan page ls)
+  blockBytes = blocksFrom 8 (startingSet 8) lookup3 start (plan page rs)
 
   abbrev pub slotAddrs : List ℕ
-  slotAddrs = slotsFrom 8 (startingSet 8) start (plan page ls)
+  slotAddrs = slotsFrom 8 (startingSet 8) start (plan page rs)
 
   abbrev pub messageOf : List ℕ
   messageOf = let m = persistentManagers strategy.Page 1 page slotAddrs start in messageBytes 8 8 (m .info) (m .slots)
 
   abbrev pub tooLarge : Bool
   tooLarge =
-      ltb top (space (small page ls))
-      || (ltb top (space (smallRaw page ls)) || (ltb top (space (large page ls)) || ltb top (start + blockLen page ls)))
+      ltb top (space (small page rs))
+      || (ltb top (space (smallRaw page rs)) || (ltb top (space (large page rs)) || ltb top (start + blockLen page rs)))
 
 -- ---- the conditions
 
@@ -88,8 +90,8 @@ abbrev pub endsPast : ℕ → List FreeRegion → Bool
 endsPast a [] = false
 endsPast a (r ∷ rs) = ltb a (end r) || endsPast a rs
 
-abbrev pub inTheWay : ℕ → ℕ → LentList → Bool
-inTheWay start place l = endsPast start (regionsOf l) || shares (region place messageLen) (regionsOf l)
+abbrev pub inTheWay : ℕ → ℕ → List FreeRegion → Bool
+inTheWay start place rs = endsPast start rs || shares (region place messageLen) rs
 
 abbrev pub messageIn : ℕ → List ℕ → Bool
 messageIn place image = leb (place + messageLen) (length image)
@@ -98,13 +100,13 @@ messageIn place image = leb (place + messageLen) (length image)
 abbrev pub blocksOut : ℕ → ℕ → ℕ → List ℕ → Bool
 blocksOut L start place image = ltb 0 L && (ltb (length image) (start + L) || meets (region start L) (region place messageLen))
 
-abbrev pub anyInTheWay : ℕ → ℕ → Lists → Bool
-anyInTheWay start place ls = inTheWay start place (ls Metadata) || (inTheWay start place (ls Raw) || inTheWay start place (ls Unclassified))
+abbrev pub anyInTheWay : ℕ → ℕ → Regions → Bool
+anyInTheWay start place rs = inTheWay start place (rs Metadata) || (inTheWay start place (rs Raw) || inTheWay start place (rs Unclassified))
 
 -- of L block bytes; `given` is the length of the scratch
-module _ (ls : Lists) (L start place : ℕ) (image : List ℕ) (given : ℕ) where
+module _ (rs : Regions) (L start place : ℕ) (image : List ℕ) (given : ℕ) where
   abbrev pub misplaced : Bool
-  misplaced = not (messageIn place image) || (blocksOut L start place image || anyInTheWay start place ls)
+  misplaced = not (messageIn place image) || (blocksOut L start place image || anyInTheWay start place rs)
 
   abbrev pub placeTests : List Condition
   placeTests =
@@ -117,25 +119,30 @@ module _ (ls : Lists) (L start place : ℕ) (image : List ℕ) (given : ℕ) whe
       ∷ []
 
   abbrev pub lateTests : List Condition
-  lateTests = when (sharedByte ls) refusal.SharedAddress ∷ placeTests
+  lateTests = when (sharedByte rs) refusal.SharedAddress ∷ placeTests
 
-module _ (ls : Lists) (page start place : ℕ) where
+-- ---- the beginning
+
+-- of three lists of regions
+module _ (rs : Regions) (page start place : ℕ) where
   -- `given` is the length of the scratch
-  abbrev pub conditions : List ℕ → ℕ → List Condition
-  conditions image given =
-      when (eqb page 0) refusal.Page
-      ∷ when (not (areLists ls)) refusal.NotAList
-      ∷ when (tooLarge page start ls) refusal.Overflow
-      ∷ lateTests ls (blockLen page ls) start place image given
+  abbrev pub regionTests : List ℕ → ℕ → List Condition
+  regionTests image given = when (tooLarge page start rs) refusal.Overflow ∷ lateTests rs (blockLen page rs) start place image given
 
   abbrev pub fresh : Save
-  fresh = record { start = start; place = place; len = blockLen page ls; done = 0 }
+  fresh = record { start = start; place = place; len = blockLen page rs; done = 0 }
 
   abbrev pub filled : List ℕ → List ℕ
-  filled scratch = over 0 (blockBytes page start ls ++ messageOf page start ls) scratch
+  filled scratch = over 0 (blockBytes page start rs ++ messageOf page start rs) scratch
 
-  unfoldable pub begun : List ℕ → List ℕ → Outcome (With Save (List ℕ))
-  begun image scratch = firstOf (conditions image (length scratch)) (answer (with fresh (filled scratch)))
+  unfoldable pub begunOf : List ℕ → List ℕ → Outcome (With Save (List ℕ))
+  begunOf image scratch = firstOf (regionTests image (length scratch)) (answer (with fresh (filled scratch)))
+
+abbrev pub listTests : Lists → ℕ → List Condition
+listTests ls page = when (eqb page 0) refusal.Page ∷ when (not (areLists ls)) refusal.NotAList ∷ []
+
+unfoldable pub begun : Lists → ℕ → ℕ → ℕ → List ℕ → List ℕ → Outcome (With Save (List ℕ))
+begun ls page start place image scratch = firstOf (listTests ls page) (begunOf (regionsIn ls) page start place image scratch)
 
 abbrev pub beginOutcome : Begin → Outcome Save
 beginOutcome (begin.Begun s) = answer s

@@ -6,7 +6,7 @@ ghost use lib.ListN.{length};
 ghost use Rattle.error.specs.Lent.{over};
 ghost use Rattle.fields.specs.Ranges.{top};
 ghost use Rattle.fsm_writer.specs.Slots.{slotBytes};
-ghost use Rattle.free_lists.specs.Lists.{listsIn};
+ghost use Rattle.free_lists.specs.Lists.{listsIn, regionsIn};
 ghost use Rattle.save.specs.Saving.{blockBytes, messageOf};
 ghost use Rattle.save.specs.Beginning.{slotAt, messageBy, slotIn, SlotFits, ScratchFits};
 use crate::Target;
@@ -116,7 +116,7 @@ pub(crate) fn fill_scratch(
     scratch: &mut [u8],
 )
     requires { ⌜ ScratchFits (listsIn (now meta) (now raw) (now unclassified) lists) (to .page) (to .start) o (length (now scratch)) ⌝ }
-    ensures { λ _. ⌜ now (scratch .exit) ≡ over 0 (blockBytes (to .page) (to .start) (listsIn (now (meta .entry)) (now (raw .entry)) (now (unclassified .entry)) lists) ++ messageOf (to .page) (to .start) (listsIn (now (meta .entry)) (now (raw .entry)) (now (unclassified .entry)) lists)) (now (scratch .entry)) ⌝ }
+    ensures { λ _. ⌜ now (scratch .exit) ≡ over 0 (blockBytes (to .page) (to .start) (regionsIn (listsIn (now (meta .entry)) (now (raw .entry)) (now (unclassified .entry)) lists)) ++ messageOf (to .page) (to .start) (regionsIn (listsIn (now (meta .entry)) (now (raw .entry)) (now (unclassified .entry)) lists))) (now (scratch .entry)) ⌝ }
 {
     let m = lists.metadata.count;
     let r = lists.raw.count;

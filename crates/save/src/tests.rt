@@ -10,10 +10,10 @@ ghost use Rattle.error.specs.Answers.{checkedOutcome};
 ghost use Rattle.error.specs.Outcome.{answer, when, firstOf};
 ghost use Rattle.fields.specs.Ranges.{top};
 ghost use Rattle.free_regions.specs.Regions.{region, meets};
-ghost use Rattle.free_space.specs.Runs.{isList};
-ghost use Rattle.free_lists.specs.Lists.{listIn, listsIn, areLists};
-ghost use Rattle.save.specs.Saving.{tooLarge, inTheWay, messageIn, blocksOut, conditions, anyInTheWay, placeTests, lateTests};
-ghost use Rattle.save.specs.Beginning.{offsetsOf, testedOutcome};
+ghost use Rattle.free_space.specs.Runs.{regions, isList};
+ghost use Rattle.free_lists.specs.Lists.{listsIn, regionsIn, areLists};
+ghost use Rattle.save.specs.Saving.{tooLarge, inTheWay, messageIn, blocksOut, anyInTheWay, placeTests, lateTests};
+ghost use Rattle.save.specs.Beginning.{offsetsOf, conditions, testedOutcome};
 use crate::Target;
 use error::Checked;
 use error::Number;
@@ -65,7 +65,7 @@ fn plan_offsets(
 ) -> Tested
     requires page { ⌜ 0 < to .page ⌝ }
     requires lists { ⌜ areLists (listsIn (now meta) (now raw) (now unclassified) lists) ≡ true ⌝ }
-    ensures { λ r. ⌜ testedOutcome r ≡ firstOf (when (tooLarge (to .page) (to .start) (listsIn (now (meta .entry)) (now (raw .entry)) (now (unclassified .entry)) lists)) Overflow ∷ []) (answer (offsetsOf (to .page) (listsIn (now (meta .entry)) (now (raw .entry)) (now (unclassified .entry)) lists))) ⌝ }
+    ensures { λ r. ⌜ testedOutcome r ≡ firstOf (when (tooLarge (to .page) (to .start) (regionsIn (listsIn (now (meta .entry)) (now (raw .entry)) (now (unclassified .entry)) lists))) Overflow ∷ []) (answer (offsetsOf (to .page) (regionsIn (listsIn (now (meta .entry)) (now (raw .entry)) (now (unclassified .entry)) lists)))) ⌝ }
 {
     let m = lists.metadata.count;
     let r = lists.raw.count;
@@ -143,7 +143,7 @@ fn is_in_the_way(addr: u64, len: u64, start: u64, place: u64) -> bool
 // Whether some region of a list does.
 fn in_the_way(run: &[u64], list: FreeList, start: u64, place: u64) -> bool
     requires { ⌜ (isList (now run) list ≡ true) × (place + 125 ≤ top) ⌝ }
-    ensures { λ r. ⌜ r ≡ inTheWay start place (listIn (now (run .entry)) list) ⌝ }
+    ensures { λ r. ⌜ r ≡ inTheWay start place (regions (now (run .entry)) list) ⌝ }
 {
     let count = list.count;
     let mut i = 0;
@@ -166,7 +166,7 @@ fn any_in_the_way(
 ) -> bool
     requires lists { ⌜ areLists (listsIn (now meta) (now raw) (now unclassified) lists) ≡ true ⌝ }
     requires message { ⌜ to .place + 125 ≤ top ⌝ }
-    ensures { λ r. ⌜ r ≡ anyInTheWay (to .start) (to .place) (listsIn (now (meta .entry)) (now (raw .entry)) (now (unclassified .entry)) lists) ⌝ }
+    ensures { λ r. ⌜ r ≡ anyInTheWay (to .start) (to .place) (regionsIn (listsIn (now (meta .entry)) (now (raw .entry)) (now (unclassified .entry)) lists)) ⌝ }
 {
     if in_the_way(meta, lists.metadata, to.start, to.place) {
         return true;
@@ -206,7 +206,7 @@ fn test_place(
 ) -> Checked
     requires lists { ⌜ areLists (listsIn (now meta) (now raw) (now unclassified) lists) ≡ true ⌝ }
     requires last { ⌜ to .start + len ≤ top ⌝ }
-    ensures { λ r. ⌜ checkedOutcome r ≡ firstOf (placeTests (listsIn (now (meta .entry)) (now (raw .entry)) (now (unclassified .entry)) lists) len (to .start) (to .place) (now (image .entry)) given) (answer tt) ⌝ }
+    ensures { λ r. ⌜ checkedOutcome r ≡ firstOf (placeTests (regionsIn (listsIn (now (meta .entry)) (now (raw .entry)) (now (unclassified .entry)) lists)) len (to .start) (to .place) (now (image .entry)) given) (answer tt) ⌝ }
 {
     if !message_in(to.place, image) {
         return Checked::Refused(Refusal::Place);
@@ -242,7 +242,7 @@ fn test_late(
 ) -> Checked
     requires lists { ⌜ areLists (listsIn (now meta) (now raw) (now unclassified) lists) ≡ true ⌝ }
     requires last { ⌜ to .start + len ≤ top ⌝ }
-    ensures { λ r. ⌜ checkedOutcome r ≡ firstOf (lateTests (listsIn (now (meta .entry)) (now (raw .entry)) (now (unclassified .entry)) lists) len (to .start) (to .place) (now (image .entry)) given) (answer tt) ⌝ }
+    ensures { λ r. ⌜ checkedOutcome r ≡ firstOf (lateTests (regionsIn (listsIn (now (meta .entry)) (now (raw .entry)) (now (unclassified .entry)) lists)) len (to .start) (to .place) (now (image .entry)) given) (answer tt) ⌝ }
 {
     let shared = check_lists(meta, raw, unclassified, lists);
     match shared {
@@ -261,7 +261,7 @@ pub(crate) fn test_begin(
     image: &[u8],
     given: usize,
 ) -> Tested
-    ensures { λ r. ⌜ testedOutcome r ≡ firstOf (conditions (listsIn (now (meta .entry)) (now (raw .entry)) (now (unclassified .entry)) lists) (to .page) (to .start) (to .place) (now (image .entry)) given) (answer (offsetsOf (to .page) (listsIn (now (meta .entry)) (now (raw .entry)) (now (unclassified .entry)) lists))) ⌝ }
+    ensures { λ r. ⌜ testedOutcome r ≡ firstOf (conditions (listsIn (now (meta .entry)) (now (raw .entry)) (now (unclassified .entry)) lists) (to .page) (to .start) (to .place) (now (image .entry)) given) (answer (offsetsOf (to .page) (regionsIn (listsIn (now (meta .entry)) (now (raw .entry)) (now (unclassified .entry)) lists)))) ⌝ }
 {
     if to.page == 0 {
         return Tested::Refused(Refusal::Page);

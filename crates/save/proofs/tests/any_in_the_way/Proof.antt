@@ -1,7 +1,7 @@
 use denote.Ref.{now}
 use mathlib.Core.Path.{_∙_}
 use mathlib.Core.Bool.{_||_}
-use Rattle.free_lists.specs.Lists.{listIn}
+use Rattle.free_space.specs.Runs.{regions}
 use Rattle.error.proofs.TestLaws.{or-decides, or-leaves}
 use Rattle.save.specs.Saving.{inTheWay}
 use Rattle.save.proofs.SumLaws.{each-list}
@@ -17,8 +17,8 @@ in-the-way-requires c κs =
 returns : tie.Need-returns
 returns c =
     let a = c .before .before .before .before .before .args in
-    or-decides _ (inTheWay (a .to .start) (a .to .place) (listIn (now (a .meta)) (a .lists .metadata)))
-    ((inTheWay (a .to .start) (a .to .place) (listIn (now (a .raw)) (a .lists .raw))) || (inTheWay (a .to .start) (a .to .place) (listIn (now (a .unclassified)) (a .lists .unclassified))))
+    or-decides _ (inTheWay (a .to .start) (a .to .place) (regions (now (a .meta)) (a .lists .metadata)))
+    ((inTheWay (a .to .start) (a .to .place) (regions (now (a .raw)) (a .lists .raw))) || (inTheWay (a .to .start) (a .to .place) (regions (now (a .unclassified)) (a .lists .unclassified))))
     (c .before .in-the-way .ensures) (c .if1 .taken)
 
 in-the-way-requires-2 : tie.Need-in-the-way-requires-2
@@ -32,10 +32,10 @@ returns-2 c =
     let a = c .before .before .before .before .before .before .before .args in
     let in-the-way = c .before .before .before .in-the-way in
     let if1 = c .before .before .if1 in
-    or-decides _ (inTheWay (a .to .start) (a .to .place) (listIn (now (a .raw)) (a .lists .raw))) (inTheWay (a .to .start) (a .to .place) (listIn (now (a .unclassified)) (a .lists .unclassified)))
+    or-decides _ (inTheWay (a .to .start) (a .to .place) (regions (now (a .raw)) (a .lists .raw))) (inTheWay (a .to .start) (a .to .place) (regions (now (a .unclassified)) (a .lists .unclassified)))
     (c .before .in-the-way2 .ensures) (c .if2 .taken)
-    ∙ or-leaves _ (inTheWay (a .to .start) (a .to .place) (listIn (now (a .meta)) (a .lists .metadata)))
-    ((inTheWay (a .to .start) (a .to .place) (listIn (now (a .raw)) (a .lists .raw))) || (inTheWay (a .to .start) (a .to .place) (listIn (now (a .unclassified)) (a .lists .unclassified))))
+    ∙ or-leaves _ (inTheWay (a .to .start) (a .to .place) (regions (now (a .meta)) (a .lists .metadata)))
+    ((inTheWay (a .to .start) (a .to .place) (regions (now (a .raw)) (a .lists .raw))) || (inTheWay (a .to .start) (a .to .place) (regions (now (a .unclassified)) (a .lists .unclassified))))
     (in-the-way .ensures) (if1 .left)
 
 in-the-way-requires-3 : tie.Need-in-the-way-requires-3
@@ -51,10 +51,10 @@ returns-3 c =
     let in-the-way = c .before .before .before .before .in-the-way in
     let if1 = c .before .before .before .if1 in
     c .in-the-way3 .ensures
-    ∙ or-leaves _ (inTheWay (a .to .start) (a .to .place) (listIn (now (a .raw)) (a .lists .raw)))
-    (inTheWay (a .to .start) (a .to .place) (listIn (now (a .unclassified)) (a .lists .unclassified))) (in-the-way2 .ensures) (c .before .if2 .left)
-    ∙ or-leaves _ (inTheWay (a .to .start) (a .to .place) (listIn (now (a .meta)) (a .lists .metadata)))
-    ((inTheWay (a .to .start) (a .to .place) (listIn (now (a .raw)) (a .lists .raw))) || (inTheWay (a .to .start) (a .to .place) (listIn (now (a .unclassified)) (a .lists .unclassified))))
+    ∙ or-leaves _ (inTheWay (a .to .start) (a .to .place) (regions (now (a .raw)) (a .lists .raw)))
+    (inTheWay (a .to .start) (a .to .place) (regions (now (a .unclassified)) (a .lists .unclassified))) (in-the-way2 .ensures) (c .before .if2 .left)
+    ∙ or-leaves _ (inTheWay (a .to .start) (a .to .place) (regions (now (a .meta)) (a .lists .metadata)))
+    ((inTheWay (a .to .start) (a .to .place) (regions (now (a .raw)) (a .lists .raw))) || (inTheWay (a .to .start) (a .to .place) (regions (now (a .unclassified)) (a .lists .unclassified))))
     (in-the-way .ensures) (if1 .left)
 
 pub any-in-the-way-spec : {M : Type 1} → statement M

@@ -1,6 +1,6 @@
 use borrow.Author.Needs.{needs}
 use denote.Ref.{now}
-use Rattle.free_lists.specs.Lists.{listsIn}
+use Rattle.free_lists.specs.Lists.{listsIn, regionsIn}
 use Rattle.save.specs.Saving.{placeTests}
 use Rattle.save.proofs.OrderLaws.{shared-refused, shared-not}
 use Rattle.save.proofs.tests.test_late.Statement.{statement}
@@ -25,18 +25,18 @@ returns c =
     let a = c .before .before .before .before .before .before .before .before .args in
     let pre = c .before .before .before .before .before .before .before .before .pre in
     let check-lists = c .before .before .before .check-lists in
-    let ls = listsIn (now (a .meta)) (now (a .raw)) (now (a .unclassified)) (a .lists) in
+    let rs = regionsIn (listsIn (now (a .meta)) (now (a .raw)) (now (a .unclassified)) (a .lists)) in
     shared-refused (now (a .meta)) (now (a .raw)) (now (a .unclassified)) (a .lists) (pre .0) _ (check-lists .ensures)
-    (placeTests ls (a .len) (a .to .start) (a .to .place) (now (a .image)) (a .given)) _ (c .before .shared .given .1)
+    (placeTests rs (a .len) (a .to .start) (a .to .place) (now (a .image)) (a .given)) _ (c .before .shared .given .1)
 
 returns-2 : tie.Need-returns-2
 returns-2 c =
     let a = c .before .before .before .before .before .before .before .before .args in
     let pre = c .before .before .before .before .before .before .before .before .pre in
     let check-lists = c .before .before .before .check-lists in
-    let ls = listsIn (now (a .meta)) (now (a .raw)) (now (a .unclassified)) (a .lists) in
+    let rs = regionsIn (listsIn (now (a .meta)) (now (a .raw)) (now (a .unclassified)) (a .lists)) in
     shared-not (now (a .meta)) (now (a .raw)) (now (a .unclassified)) (a .lists) (pre .0) _ (check-lists .ensures)
-    (placeTests ls (a .len) (a .to .start) (a .to .place) (now (a .image)) (a .given)) (c .before .enum-told .given .1) _ (c .test-place .ensures)
+    (placeTests rs (a .len) (a .to .start) (a .to .place) (now (a .image)) (a .given)) (c .before .enum-told .given .1) _ (c .test-place .ensures)
 
 pub test-late-spec : {M : Type 1} → statement M
 test-late-spec =

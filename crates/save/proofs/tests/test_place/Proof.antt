@@ -3,7 +3,7 @@ use Prim.Native.Nat.{_+_, _≤_}
 use native.Mathlib.Omega.{arith}
 use lib.ListN.{length}
 use denote.Ref.{now}
-use Rattle.free_lists.specs.Lists.{listsIn}
+use Rattle.free_lists.specs.Lists.{listsIn, regionsIn}
 use Rattle.save.proofs.PlaceLaws.{not-longer}
 use Rattle.save.proofs.OrderLaws.{place-outside, message-there, place-version, place-strategy, place-blocks, place-way, place-room}
 use Rattle.save.proofs.tests.test_place.Statement.{statement}
@@ -15,15 +15,15 @@ message-in-requires c κs = search needs
 returns : tie.Need-returns
 returns c =
     let a = c .before .before .before .before .before .before .args in
-    let ls = listsIn (now (a .meta)) (now (a .raw)) (now (a .unclassified)) (a .lists) in
-    place-outside ls (a .len) (a .to .start) (a .to .place) (now (a .image)) (a .given) _ (c .before .message-in .ensures) (c .if1 .taken)
+    let rs = regionsIn (listsIn (now (a .meta)) (now (a .raw)) (now (a .unclassified)) (a .lists)) in
+    place-outside rs (a .len) (a .to .start) (a .to .place) (now (a .image)) (a .given) _ (c .before .message-in .ensures) (c .if1 .taken)
 
 shared-slice-read-version : tie.Need-shared-slice-read-version
 shared-slice-read-version c =
     let a = c .before .before .before .before .before .before .before .args in
     let message-in = c .before .before .message-in in
-    let ls = listsIn (now (a .meta)) (now (a .raw)) (now (a .unclassified)) (a .lists) in
-    let i : a .to .place + 125 ≤ length (now (a .image)) = message-there ls (a .len) (a .to .start) (a .to .place) (now (a .image)) (a .given) _ (message-in .ensures)
+    let rs = regionsIn (listsIn (now (a .meta)) (now (a .raw)) (now (a .unclassified)) (a .lists)) in
+    let i : a .to .place + 125 ≤ length (now (a .image)) = message-there rs (a .len) (a .to .start) (a .to .place) (now (a .image)) (a .given) _ (message-in .ensures)
     (c .before .if1 .left) in
     search needs
 
@@ -32,16 +32,16 @@ returns-2 c =
     let a = c .before .before .before .before .before .before .before .before .args in
     let message-in = c .before .before .before .message-in in
     let if1 = c .before .before .if1 in
-    let ls = listsIn (now (a .meta)) (now (a .raw)) (now (a .unclassified)) (a .lists) in
-    place-version ls (a .len) (a .to .start) (a .to .place) (now (a .image)) (a .given) _ (message-in .ensures) (if1 .left) (c .if2 .taken)
+    let rs = regionsIn (listsIn (now (a .meta)) (now (a .raw)) (now (a .unclassified)) (a .lists)) in
+    place-version rs (a .len) (a .to .start) (a .to .place) (now (a .image)) (a .given) _ (message-in .ensures) (if1 .left) (c .if2 .taken)
 
 add-code : tie.Need-add-code
 add-code c =
     let a = c .before .before .before .before .before .before .before .before .args in
     let message-in = c .before .before .before .message-in in
     let if1 = c .before .before .if1 in
-    let ls = listsIn (now (a .meta)) (now (a .raw)) (now (a .unclassified)) (a .lists) in
-    let i : a .to .place + 125 ≤ length (now (a .image)) = message-there ls (a .len) (a .to .start) (a .to .place) (now (a .image)) (a .given) _ (message-in .ensures) (if1 .left) in
+    let rs = regionsIn (listsIn (now (a .meta)) (now (a .raw)) (now (a .unclassified)) (a .lists)) in
+    let i : a .to .place + 125 ≤ length (now (a .image)) = message-there rs (a .len) (a .to .start) (a .to .place) (now (a .image)) (a .given) _ (message-in .ensures) (if1 .left) in
     search needs
 
 shared-slice-read-code : tie.Need-shared-slice-read-code
@@ -49,8 +49,8 @@ shared-slice-read-code c =
     let a = c .before .before .before .before .before .before .before .before .before .args in
     let message-in = c .before .before .before .before .message-in in
     let if1 = c .before .before .before .if1 in
-    let ls = listsIn (now (a .meta)) (now (a .raw)) (now (a .unclassified)) (a .lists) in
-    let i : a .to .place + 125 ≤ length (now (a .image)) = message-there ls (a .len) (a .to .start) (a .to .place) (now (a .image)) (a .given) _ (message-in .ensures) (if1 .left) in
+    let rs = regionsIn (listsIn (now (a .meta)) (now (a .raw)) (now (a .unclassified)) (a .lists)) in
+    let i : a .to .place + 125 ≤ length (now (a .image)) = message-there rs (a .len) (a .to .start) (a .to .place) (now (a .image)) (a .given) _ (message-in .ensures) (if1 .left) in
     search needs
 
 returns-3 : tie.Need-returns-3
@@ -59,8 +59,8 @@ returns-3 c =
     let message-in = c .before .before .before .before .before .message-in in
     let if1 = c .before .before .before .before .if1 in
     let if2 = c .before .before .if2 in
-    let ls = listsIn (now (a .meta)) (now (a .raw)) (now (a .unclassified)) (a .lists) in
-    place-strategy ls (a .len) (a .to .start) (a .to .place) (now (a .image)) (a .given) _ (message-in .ensures) (if1 .left) (if2 .left) (c .if3 .taken)
+    let rs = regionsIn (listsIn (now (a .meta)) (now (a .raw)) (now (a .unclassified)) (a .lists)) in
+    place-strategy rs (a .len) (a .to .start) (a .to .place) (now (a .image)) (a .given) _ (message-in .ensures) (if1 .left) (if2 .left) (c .if3 .taken)
 
 blocks-out-requires : tie.Need-blocks-out-requires
 blocks-out-requires c κs =
@@ -68,8 +68,8 @@ blocks-out-requires c κs =
     let message-in = c .before .before .before .before .before .message-in in
     let if1 = c .before .before .before .before .if1 in
     let pre = c .before .before .before .before .before .before .before .before .before .before .pre in
-    let ls = listsIn (now (a .meta)) (now (a .raw)) (now (a .unclassified)) (a .lists) in
-    let i : a .to .place + 125 ≤ length (now (a .image)) = message-there ls (a .len) (a .to .start) (a .to .place) (now (a .image)) (a .given) _ (message-in .ensures) (if1 .left) in
+    let rs = regionsIn (listsIn (now (a .meta)) (now (a .raw)) (now (a .unclassified)) (a .lists)) in
+    let i : a .to .place + 125 ≤ length (now (a .image)) = message-there rs (a .len) (a .to .start) (a .to .place) (now (a .image)) (a .given) _ (message-in .ensures) (if1 .left) in
     (pre .1, omega arith)
 
 returns-4 : tie.Need-returns-4
@@ -79,8 +79,8 @@ returns-4 c =
     let if1 = c .before .before .before .before .before .before .if1 in
     let if2 = c .before .before .before .before .if2 in
     let if3 = c .before .before .if3 in
-    let ls = listsIn (now (a .meta)) (now (a .raw)) (now (a .unclassified)) (a .lists) in
-    place-blocks ls (a .len) (a .to .start) (a .to .place) (now (a .image)) (a .given) _ (message-in .ensures) (if1 .left) (if2 .left) (if3 .left) _
+    let rs = regionsIn (listsIn (now (a .meta)) (now (a .raw)) (now (a .unclassified)) (a .lists)) in
+    place-blocks rs (a .len) (a .to .start) (a .to .place) (now (a .image)) (a .given) _ (message-in .ensures) (if1 .left) (if2 .left) (if3 .left) _
     (c .before .blocks-out .ensures) (c .if4 .taken)
 
 any-in-the-way-requires : tie.Need-any-in-the-way-requires
@@ -89,8 +89,8 @@ any-in-the-way-requires c κs =
     let message-in = c .before .before .before .before .before .before .before .message-in in
     let if1 = c .before .before .before .before .before .before .if1 in
     let pre = c .before .before .before .before .before .before .before .before .before .before .before .before .pre in
-    let ls = listsIn (now (a .meta)) (now (a .raw)) (now (a .unclassified)) (a .lists) in
-    let i : a .to .place + 125 ≤ length (now (a .image)) = message-there ls (a .len) (a .to .start) (a .to .place) (now (a .image)) (a .given) _ (message-in .ensures) (if1 .left) in
+    let rs = regionsIn (listsIn (now (a .meta)) (now (a .raw)) (now (a .unclassified)) (a .lists)) in
+    let i : a .to .place + 125 ≤ length (now (a .image)) = message-there rs (a .len) (a .to .start) (a .to .place) (now (a .image)) (a .given) _ (message-in .ensures) (if1 .left) in
     (pre .0, omega arith)
 
 returns-5 : tie.Need-returns-5
@@ -102,8 +102,8 @@ returns-5 c =
     let if3 = c .before .before .before .before .if3 in
     let blocks-out = c .before .before .before .blocks-out in
     let if4 = c .before .before .if4 in
-    let ls = listsIn (now (a .meta)) (now (a .raw)) (now (a .unclassified)) (a .lists) in
-    place-way ls (a .len) (a .to .start) (a .to .place) (now (a .image)) (a .given) _ (message-in .ensures) (if1 .left) (if2 .left) (if3 .left) _ (blocks-out .ensures)
+    let rs = regionsIn (listsIn (now (a .meta)) (now (a .raw)) (now (a .unclassified)) (a .lists)) in
+    place-way rs (a .len) (a .to .start) (a .to .place) (now (a .image)) (a .given) _ (message-in .ensures) (if1 .left) (if2 .left) (if3 .left) _ (blocks-out .ensures)
     (if4 .left) _ (c .before .any-in-the-way .ensures) (c .if5 .taken)
 
 test-room-requires : tie.Need-test-room-requires
@@ -123,8 +123,8 @@ returns-6 c =
     let blocks-out = c .before .before .before .before .blocks-out in
     let if4 = c .before .before .before .if4 in
     let any-in-the-way = c .before .before .any-in-the-way in
-    let ls = listsIn (now (a .meta)) (now (a .raw)) (now (a .unclassified)) (a .lists) in
-    place-room ls (a .len) (a .to .start) (a .to .place) (now (a .image)) (a .given) _ (message-in .ensures) (if1 .left) (if2 .left) (if3 .left) _ (blocks-out .ensures)
+    let rs = regionsIn (listsIn (now (a .meta)) (now (a .raw)) (now (a .unclassified)) (a .lists)) in
+    place-room rs (a .len) (a .to .start) (a .to .place) (now (a .image)) (a .given) _ (message-in .ensures) (if1 .left) (if2 .left) (if3 .left) _ (blocks-out .ensures)
     (if4 .left) _ (any-in-the-way .ensures) (c .before .if5 .left) _ (c .test-room .ensures)
 
 pub test-place-spec : {M : Type 1} → statement M

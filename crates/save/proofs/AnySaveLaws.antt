@@ -1,0 +1,263 @@
+-- The save of any three lists of regions, proved. Assumes nothing.
+use mathlib.Core.Path.{_≡_, refl, sym, ap, ap₂, _∙_, subst}
+use mathlib.Core.Logic.{⊎-elim, _↔_}
+use Prim.Native.Nat.{ℕ, suc, _+_, _^_, _≤_, _<_}
+use native.Mathlib.Nat.{add-zero, le-refl}
+use native.Mathlib.Omega.{arith}
+use mathlib.Core.Bool.{true, cond}
+use mathlib.Core.List.{List, [], _∷_, _++_, map, append-nil}
+use lib.Dec.{lit<, lit≤}
+use lib.ListN.{length, drop, getD}
+use Rattle.error.specs.Outcome.{Outcome, answer}
+use Rattle.error.specs.Lent.{with, over}
+use Rattle.fields.specs.Le.{leBytes}
+use Rattle.fields.specs.Layout.{layout, window}
+use Rattle.fields.specs.Ranges.{top}
+use Rattle.checksum.specs.Lookup3.{lookup3}
+use Rattle.free_regions.specs.declared.FreeRegion.{FreeRegion}
+use Rattle.free_regions.specs.Regions.{region, Free}
+use Rattle.free_regions.proofs.OkLaws.{ok-prop}
+use Rattle.free_regions.proofs.ShareLaws.{shares-byte}
+use Rattle.free_lists.specs.declared.calls.Which.{Which}
+use Rattle.free_lists.specs.declared.calls.Which.the-variants.{Metadata, Raw, Unclassified}
+use Rattle.free_lists.specs.Lists.{Regions}
+use Rattle.fsm_sections.specs.declared.FreeSection.{FreeSection}
+use Rattle.fsm_sections.specs.Sections.{bySizeThenAddr, flat, All}
+use Rattle.fsm_sections.specs.Pages.{holding}
+use Rattle.fsm_sections.proofs.PagesLaws.{slots-hold}
+use Rattle.fsm_blocks.specs.Managers.{startingSet}
+use Rattle.fsm_blocks.specs.Reading.{joined}
+use Rattle.file_space_info.specs.declared.FileSpaceStrategy.the-variants as strategy
+use Rattle.file_space_info.specs.Infos.{made}
+use Rattle.file_space_info.proofs.MessageLaws.{length-twelve}
+use Rattle.save_step.specs.declared.Save.{Save}
+use Rattle.save_step.specs.Stores.{after, messageLen, saveStores}
+use Rattle.save_step.specs.Steps.{stored, stores, Saving, saving, steps}
+use Rattle.save_step.proofs.CutLaws as c
+use Rattle.save_step.proofs.CutLaws.{Savable}
+use Rattle.save_step.proofs.StoreLaws.{after-suc}
+use Rattle.save_step.proofs.RowLaws.{step-is, steps-are, step-after, steps-end}
+use Rattle.save.specs.Saving.{asSections, small, smallRaw, large, plan, blockLen, blockBytes, slotAddrs, messageOf, filled, begunOf}
+use Rattle.image.specs.Reading.{Listed, inSlot, listed as listedFrom, readImage, readListed, countsOf}
+use Rattle.save.specs.AnySave.{inList, freeIn, AnySave, EverySave}
+use Rattle.save.proofs.PlanLaws.{length-slots, length-blocks, slots-read, sorted}
+use Rattle.save.proofs.FitLaws.{Ends, list-ends, plan-fits, slots-fit, small-plan}
+use Rattle.save.proofs.BeginLaws.{Planned, Accepted, accepted, filled-is, begun-same}
+use Rattle.save.proofs.ReadLaws.{reads-nothing, reads-slots, listed-is, into-is, nothing-into}
+use Rattle.save.proofs.HoldingLaws.{foundIn, holding-sorted, holding-nothing, holding-slot, holding-list, in-both, one-of}
+
+-- ---- what the twelve slots of a plan read as
+
+module _ (page : ℕ) (rs : Regions) where
+  abbrev S : List FreeSection
+  S = bySizeThenAddr (small page rs)
+
+  abbrev R : List FreeSection
+  R = bySizeThenAddr (smallRaw page rs)
+
+  abbrev G : List FreeSection
+  G = bySizeThenAddr (large page rs)
+
+  abbrev found : List (List FreeSection)
+  found = map sorted (plan page rs)
+
+  slots-listed : listedFrom 0 found ≡ inSlot 0 S ++ (inSlot 2 R ++ inSlot 6 G)
+  unfolding bySizeThenAddr
+  slots-listed = ap (λ (r : List Listed). inSlot 0 S ++ (inSlot 2 R ++ r)) (append-nil (inSlot 6 G))
+
+  slots-joined : joined found ≡ S ++ (R ++ G)
+  unfolding bySizeThenAddr joined
+  slots-joined = ap (λ (r : List FreeSection). S ++ (R ++ r)) (append-nil G)
+
+  slots-counted : countsOf found ≡ length S ∷ 0 ∷ length R ∷ 0 ∷ 0 ∷ 0 ∷ length G ∷ 0 ∷ 0 ∷ 0 ∷ 0 ∷ 0 ∷ []
+  unfolding bySizeThenAddr
+  slots-counted = refl
+
+-- ---- the addresses
+
+-- the test says what it is to be free in a list
+pub in-list : (rs : List FreeRegion) (b : ℕ) → Free rs b ↔ (inList rs b ≡ true)
+in-list rs b =
+    let q = shares-byte (region b 1) rs in (
+      λ f. q .1 (b, (omega arith, omega arith), f),
+      λ e. let x = q .0 e in let same : x .0 ≡ b = omega (arith, x .1) in subst (Free rs) same (x .2),
+    )
+
+module _ (rs : Regions) (page start : ℕ) (planned : Planned rs page start) where
+  held-in : (i : Which) (b : ℕ) → holding b (asSections (rs i)) ≡ cond (inList (rs i) b) 1 0
+  held-in i b = holding-list 0 top b (rs i) (inList (rs i) b) (ok-prop 0 (rs i) .0 (planned .valid i)) (in-list (rs i) b)
+
+  held-once : (b : ℕ) → holding b (foundIn (inSlot 0 (S page rs) ++ (inSlot 2 (R page rs) ++ inSlot 6 (G page rs)))) ≡ cond (freeIn rs b) 1 0
+  held-once b =
+      let M : List FreeSection = asSections (rs Metadata) in
+      let W : List FreeSection = asSections (rs Raw) in
+      let U : List FreeSection = asSections (rs Unclassified) in
+      let all : holding b (foundIn (inSlot 0 (S page rs) ++ (inSlot 2 (R page rs) ++ inSlot 6 (G page rs)))) ≡ holding b M + (holding b W + holding b U) =
+      ap (λ (r : List Listed). holding b (foundIn (inSlot 0 (S page rs) ++ (inSlot 2 (R page rs) ++ r)))) (sym (append-nil (inSlot 6 (G page rs))))
+      ∙ omega (
+        arith,
+        holding-slot b 0 (S page rs) (inSlot 2 (R page rs) ++ (inSlot 6 (G page rs) ++ [])),
+        holding-slot b 2 (R page rs) (inSlot 6 (G page rs) ++ []),
+        holding-slot b 6 (G page rs) [],
+        holding-nothing b,
+        holding-sorted b (small page rs),
+        holding-sorted b (smallRaw page rs),
+        holding-sorted b (large page rs),
+        slots-hold page M W U b (planned .some),
+      ) in
+      all
+      ∙ ap₂ (λ (m n : ℕ). m + n) (held-in Metadata b) (ap₂ (λ (m n : ℕ). m + n) (held-in Raw b) (held-in Unclassified b))
+      ∙ one-of (inList (rs Metadata) b) (inList (rs Raw) b) (inList (rs Unclassified) b)
+      (λ p q. in-both (rs Metadata) (rs Raw) b (planned .apart01) (in-list (rs Metadata) b .1 p) (in-list (rs Raw) b .1 q))
+      (λ p q. in-both (rs Metadata) (rs Unclassified) b (planned .apart02) (in-list (rs Metadata) b .1 p) (in-list (rs Unclassified) b .1 q))
+      (λ p q. in-both (rs Raw) (rs Unclassified) b (planned .apart12) (in-list (rs Raw) b .1 p) (in-list (rs Unclassified) b .1 q))
+
+-- ---- the save
+
+module _ (rs : Regions) (page start place : ℕ) (image scratch : List ℕ) (save : Save) (lent : List ℕ) (p64 : page < 2 ^ 64) (s64 : start < 2 ^ 64)
+    (a : Accepted rs page start place image scratch save lent) where
+  abbrev B : List ℕ
+  B = blockBytes page start rs
+
+  abbrev M : List ℕ
+  M = messageOf page start rs
+
+  abbrev L : ℕ
+  L = length B
+
+  abbrev T : ℕ
+  T = stores L
+
+  abbrev recordAt : ℕ → Save
+  recordAt k = record { start = start; place = place; len = L; done = k }
+
+  -- the image after k stores
+  abbrev img : ℕ → List ℕ
+  img k = after k image (saveStores place start B M)
+
+  len : L ≡ blockLen page rs
+  len = length-blocks 8 (startingSet 8) lookup3 (plan page rs) start
+
+  s : Savable place start B M image
+  unfolding layout leBytes
+  s = record {
+    message-len = length-twelve (made true strategy.Page 1 page start) (slotAddrs page start rs) refl (length-slots 8 (startingSet 8) (plan page rs) start);
+    new-persist = refl;
+    message-in = a .placed .inside;
+    blocks-in = rw len (a .placed .blocks-in);
+    apart = rw len (a .placed .blocks-apart);
+  }
+
+  -- ---- version and strategy stay those of an accepted message
+
+  version-kept : (k : ℕ) → getD (img k) place 0 ≡ 1
+  unfolding layout leBytes
+  version-kept k = ⊎-elim (λ e. e ∙ a .placed .version) (λ e. e) (c.version-byte place start B M image s k)
+
+  strategy-kept : (k : ℕ) → getD (img k) (place + 1) 0 ≤ 3
+  unfolding layout leBytes
+  strategy-kept k = ⊎-elim (λ e. rw e (a .placed .strategy)) (λ e. rw e (lit≤ tt)) (c.strategy-byte place start B M image s k)
+
+  begins-same : (k : ℕ) (rs₂ : Regions) (page₂ start₂ : ℕ) (scratch₂ : List ℕ) → begunOf rs₂ page₂ start₂ place (img k) scratch₂ ≡ begunOf rs₂ page₂ start₂ place image scratch₂
+  begins-same k rs₂ page₂ start₂ scratch₂ =
+      begun-same rs₂ page₂ start₂ place image (img k) scratch₂ (a .placed .inside) (c.cut-length place start B M image s k)
+      (a .placed .version) (version-kept k) (a .placed .strategy) (strategy-kept k)
+
+  -- ---- the reading
+
+  none-between : (k : ℕ) → 0 < k → k < T → readImage place (img k) ≡ answer []
+  none-between k h l =
+      reads-nothing place (img k) (rw (c.cut-length place start B M image s k) (a .placed .inside)) (version-kept k) (strategy-kept k)
+      (c.persist-off place start B M image s k h (omega arith))
+
+  ends : (i : Which) → All (Ends top) (asSections (rs i))
+  ends i = list-ends 0 top (rs i) (ok-prop 0 (rs i) .0 (a .planned .valid i))
+
+  all-saved : readImage place (img T) ≡ answer (found page rs)
+  all-saved =
+      reads-slots place (img T) (made true strategy.Page 1 page start) (slotAddrs page start rs) refl
+      (lit< tt, (lit< tt, (lit< tt, (lit< tt, (p64, (lit< tt, (s64, slots-fit (plan page rs) start (a .planned .last))))))))
+      (c.message-stands place start B M image s)
+      ∙ slots-read 8 (startingSet 8) 0 lookup3 (img T) (plan page rs) start stand
+      (plan-fits (plan page rs) start (a .planned .last) (small-plan page rs ends (a .planned .sum0) (a .planned .sum2) (a .planned .sum6)))
+    where
+      stand : window (start + 0) (blockLen page rs) (img T) ≡ B
+      stand = rw (add-zero start, ← len) (c.blocks-stand place start B M image s)
+
+  -- ---- the steps
+
+  -- a scratch as the beginning leaves it: blocks, message, and what it had behind them
+  abbrev more : List ℕ → List ℕ
+  more scratch₂ = drop (length (B ++ M)) scratch₂
+
+  abbrev row : List ℕ → List ℕ
+  row scratch₂ = B ++ (M ++ more scratch₂)
+
+  row-is : (scratch₂ : List ℕ) → blockLen page rs + messageLen ≤ length scratch₂ → filled rs page start place scratch₂ ≡ row scratch₂
+  row-is scratch₂ r = filled-is B M scratch₂ (omega (arith, len, s .message-len))
+
+  abbrev cut : ℕ → Saving
+  cut k = steps k (row scratch) (saving (recordAt 0) image)
+
+  cut-is : (k : ℕ) → k ≤ T → cut k ≡ saving (recordAt k) (img k)
+  cut-is k h = steps-are place start B M image s (more scratch) k h
+
+  reads : readListed place (cut T .image) ≡ answer (inSlot 0 (S page rs) ++ (inSlot 2 (R page rs) ++ inSlot 6 (G page rs)))
+  reads = rw (cut-is T (le-refl T)) (listed-is place (img T) (found page rs) all-saved ∙ ap answer (slots-listed page rs))
+
+  -- the same save over what a cut left
+  over-again : (k : ℕ) (scratch₂ : List ℕ) → L + messageLen ≤ length scratch₂
+      → (lent₂ : List ℕ)
+      × (begunOf rs page start place (img k) scratch₂ ≡ answer (with (recordAt 0) lent₂))
+      × (steps T lent₂ (saving (recordAt 0) (img k)) ≡ saving (recordAt T) (img T))
+  over-again k scratch₂ r = (
+    row scratch₂,
+    begins-same k rs page start scratch₂
+        ∙ a .begins scratch₂ (rw len at r)
+        ∙ ap₂ (λ (n : ℕ) (l : List ℕ). answer (with (record { start = start; place = place; len = n; done = 0 }) l)) (sym len) (row-is scratch₂ (rw len at r)),
+    steps-are place start B M (img k) (c.savable-again place start B M image s k) (more scratch₂) T (le-refl T)
+        ∙ ap (saving (recordAt T)) (c.saved-again place start B M image s k),
+  )
+
+  holds : AnySave rs page start place image (recordAt 0) (row scratch)
+  unfolding steps
+  holds = record {
+    begins = refl;
+    count = c.number-of-stores place start B M image s;
+    made = cut-is;
+    step-made = λ k h.
+        rw (cut-is k (omega arith))
+        (step-is place start B M image s (more scratch) k h
+        ∙ ap (λ (i : List ℕ). answer (with (stored (recordAt (suc k))) i)) (after-suc k image (saveStores place start B M) (omega (arith, c.number-of-stores place start B M image s))));
+    ended = λ k h.
+        rw (steps-end place start B M image s (more scratch) k h, cut-is T (le-refl T)) (step-after place start B M image s (more scratch));
+    unchanged = refl;
+    between = λ k h l. rw (cut-is k (omega arith)) (listed-is place (img k) [] (none-between k h l));
+    finished = reads;
+    addresses = λ found e b. let z : _ ≡ found = answers (sym reads ∙ e) in
+        subst (λ (x : List Listed). holding b (foundIn x) ≡ cond (freeIn rs b) 1 0) z (held-once rs page start (a .planned) b);
+    unchanged-into = λ out. refl;
+    between-into = λ k h l out e. rw (cut-is k (omega arith)) (nothing-into place (img k) out (none-between k h l) e);
+    finished-into = λ out e r.
+        rw (cut-is T (le-refl T))
+        (into-is place (img T) out (found page rs) all-saved e (rw (slots-joined page rs) r)
+        ∙ ap₂ (λ (n : List ℕ) (l : List FreeSection). answer (with n (over 0 (flat l) out))) (slots-counted page rs) (slots-joined page rs));
+    long = λ k h. rw (cut-is k h) (c.cut-length place start B M image s k);
+    frame = λ k h j p b. rw (cut-is k h) (c.frame place start B M image s k j b p);
+    anew = λ k h rs₂ page₂ start₂ scratch₂. rw (cut-is k h) (begins-same k rs₂ page₂ start₂ scratch₂);
+    again = λ k h scratch₂ r. rw (cut-is k h, cut-is T (le-refl T)) (over-again k scratch₂ r);
+  }
+    where
+      answers : {A : Type 0} {x y : A} → _≡_ {A = Outcome A} (answer x) (answer y) → x ≡ y
+      answers e = cc
+
+  -- record and scratch are those that the beginning gave
+  held : AnySave rs page start place image save lent
+  held =
+      subst (λ (x : Save). AnySave rs page start place image x lent)
+      (ap (λ (n : ℕ). record { start = start; place = place; len = n; done = 0 }) len ∙ a .save-is)
+      (subst (λ (l : List ℕ). AnySave rs page start place image (recordAt 0) l) (sym (row-is scratch (a .room)) ∙ a .lent-is) holds)
+
+pub any-save : EverySave
+any-save rs page start place image scratch save lent p64 s64 some valid e =
+    held rs page start place image scratch save lent p64 s64 (accepted rs page start place image scratch save lent some valid e)
