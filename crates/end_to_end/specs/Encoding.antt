@@ -6,8 +6,8 @@
 --   onOf           the call that four numbers are, with its list
 --   onsOf          the calls of a run, in order; fewer than four numbers at its end are none
 --   runsOf         three lent runs by list
---   afterCalls     `make_calls`: three lists that begin empty, after the calls of a run, each of which "gets its list as the last call on it left
---                  it"
+--   afterCalls     `make_calls`: "three lists, each begun empty", after the calls of a run, each of which "gets its list as the last call on it
+--                  left it"
 --   numbersOf      the numbers of a call and its arguments, in front of others
 --   encoded        the numbers of calls in a row
 --   InWord         all numbers are below 2^64, as those of a lent run are

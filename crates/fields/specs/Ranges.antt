@@ -1,6 +1,6 @@
 -- Sums, ranges and multiples of 64-bit numbers, with their refusals. Assumes nothing.
 -- In quotes: document 01's words, from the refusal of that number or from the heading named.
---   top               2^64 - 1, the greatest stored number; as an address of 8 bytes, the undefined one
+--   top               2^64 - 1, the greatest stored number (refusal 4: "exceeds 2^64−1"); as an address of 8 bytes, the undefined one
 --   enough            `ensure_len`: refusal 7, with the end that is asked for and the length that is there ("Eight files": "`ensure_len` gives 7
 --                     alone; on overflow, expected saturates")
 --   sum               `absolute`: the sum of two numbers (refusal 4: "address plus length or base")

@@ -4,7 +4,8 @@
 -- beginning is accepted with a record and a scratch, then with L block bytes and T = L + 126:
 --   begins, count, made, step-made, ended   the record begins at no store; each step makes exactly one store, the next of the save's T stores
 --                  in their order, and says and counts so; after the last, and no earlier, each step says finished and changes nothing ("after k
---                  steps the image is the one before the save with those k stores made")
+--                  steps the image is the one before the save with those k stores made"; a save that "counts stores it didn't make" or "says
+--                  finished early" breaks this)
 --   unchanged      nothing stored: the image reads as before, refusals too
 --   between        from the first store to the last but one: no sections
 --   finished       after the last store: exactly the plan's sections, slot by slot, by size and then address

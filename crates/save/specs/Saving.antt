@@ -5,7 +5,7 @@
 --   small, smallRaw, large   the sections of slots 0, 2 and 6 ("Pages and slots")
 --   plan           the twelve managers of "Three lists (metadata, raw, unclassified)"
 --   blockLen       "L block bytes": how many bytes all blocks of the plan are
---   blockBytes     these bytes, from `start` on
+--   blockBytes     these bytes ("Pages and slots": "from `start` on, in order 0, 2, 6")
 --   slotAddrs      the twelve slots of the message: "unused ones all one bits"
 --   messageOf      "Message values: Page, persist, threshold 1, the page size, 0, `start`, slots"
 --   tooLarge       refusal 4: "a sum of section sizes" of a slot, or where the blocks end ("a planned address")
@@ -15,7 +15,7 @@
 --   inTheWay, anyInTheWay   a free region of a list, of three, "ends past `start` or meets the message"
 --   misplaced      refusal 13: "message or blocks leave the image, they overlap each other", or a free region is in the way
 --   placeTests     refusals 8, 9, 13 and 14, by the length of the blocks; lateTests 5 before them
---   conditions     all refusals of a beginning, in their order: 2, 3, 4, 5, 8, 9, 13, 14
+--   conditions     all refusals of a beginning: 2, 3, 4, 5, 8, 9, 13, 14 ("Fourteen ways to say no": "the lowest number is given")
 --   fresh          the record of a save of which no store is made
 --   filled         "Scratch receives all blocks of their plan and then the message"; the rest is as it was
 --   begun          `save_begin`: the record and the scratch, where no condition holds
