@@ -13,11 +13,11 @@ mod text;
 mod words;
 
 use lists::Lists;
-use std::io::{BufRead, BufWriter, Result, Write};
+use std::io::{BufRead, BufWriter, Write};
 use std::panic::{AssertUnwindSafe, catch_unwind};
 use words::{Stop, Words};
 
-fn main() -> Result<()> {
+fn main() -> std::io::Result<()> {
     std::panic::set_hook(Box::new(|_| ()));
     let mut lists = Lists::new();
     let mut out = BufWriter::new(std::io::stdout().lock());
@@ -40,7 +40,7 @@ fn answer(lists: &mut Lists, line: &str) -> String {
 }
 
 /// Each module answers its calls and gives none for others.
-fn call(lists: &mut Lists, line: &str) -> std::result::Result<String, Stop> {
+fn call(lists: &mut Lists, line: &str) -> Result<String, Stop> {
     let (name, rest) = line.split_once(' ').ok_or(Stop::Bad)?;
     let words = Words::of(rest);
     for answer in [blocks::call, message::call, fields::call] {

@@ -101,6 +101,11 @@ def within(n, top=TOP):
     return min(max(n, 0), top)
 
 
+def aligned(addr, unit):
+    """Whether the next multiple of the unit is at most 2^64−1."""
+    return unit == 0 or -(-addr // unit) * unit <= TOP
+
+
 def run(pairs):
     """A run of sections as the protocol has it."""
     return [len(pairs)] + [n for pair in pairs for n in pair]

@@ -1,7 +1,7 @@
-"""Calls of lengths, of single fields and of the checksum."""
+"""Calls of lengths, of single fields and of the checksum. domain.py leaves those of four private functions out again."""
 
 from document import TOP, lookup3, num
-from generator.draws import run, text, within
+from generator.draws import aligned, run, text, within
 
 TOP_32 = 2**32 - 1
 
@@ -15,7 +15,7 @@ def sizes(draws):
     yield "fsse_len", offset_size, len(of), *of
     yield "blocks_len", offset_size, *run(draws.sections(draws.count(), offset_size))
     value, page = draws.number(), draws.pick([draws.page(), max(1, draws.number())])
-    if draws.edge or -(-value // page) * page <= TOP:
+    if draws.edge or aligned(value, page):
         yield "align_up", value, page
     offset_size = draws.between(1, 8)
     undefined = 256**offset_size - 1

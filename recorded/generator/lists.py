@@ -1,7 +1,7 @@
 """Calls in a row on three lists that share no byte."""
 
 from document import TOP
-from generator.draws import within
+from generator.draws import aligned, within
 from generator.model import Model, interior_of
 
 
@@ -95,10 +95,7 @@ class Lists:
 
     def rounds(self, k, unit):
         """Whether each region's first unit begins at most at 2^64−1: the Rust panics at others."""
-        return self.draws.edge or all(self.aligned(addr, unit) for addr, _ in self.model.lists[k])
-
-    def aligned(self, addr, unit):
-        return unit == 0 or -(-addr // unit) * unit <= TOP
+        return self.draws.edge or all(aligned(addr, unit) for addr, _ in self.model.lists[k])
 
     def take(self, k):
         addr, size = self.addr(), self.size()
@@ -109,7 +106,7 @@ class Lists:
     def trail(self, k):
         regions = self.model.lists[k]
         eof = sum(regions[-1]) if regions and self.draws.chance(0.6) else self.addr()
-        # The choice among one stays: it draws too.
+        # A choice among one draws too, so it stays: without it the recorded calls would be others.
         return self.change("trail", k, self.draws.pick([eof]))
 
     def largest(self, k):
@@ -136,7 +133,7 @@ class Lists:
         size = min(self.size(), TOP - addr)
         unit = self.draws.pick([self.unit, self.draws.page()])
         self.ask("region_end", addr, size)
-        if self.draws.edge or self.aligned(addr, unit):
+        if self.draws.edge or aligned(addr, unit):
             self.ask("interior", addr, size, unit)
 
     def ends(self):

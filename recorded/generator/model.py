@@ -4,7 +4,7 @@ from document import TOP
 
 
 def interior_of(addr, size, unit):
-    """Where the whole units in a region begin, and how many bytes they have; no unit is (addr, 0)."""
+    """Where the whole units in a region begin, and how many bytes they have: 0 where there is none."""
     if unit == 0:
         return addr, 0
     start = -(-addr // unit) * unit

@@ -11,7 +11,7 @@ rust_files() {
     while read -r _ file; do
         cp "$1/$file" "$out/src"
     done < "$out/sums"
-    (cd "$out/src" && sha256sum -c --quiet ../sums) || { echo "$1: not the files whose sums NOTICE has" >&2; exit 1; }
+    (cd "$out/src" && sha256sum -c --quiet ../sums >&2) || { echo "$1: not the files whose sums NOTICE has" >&2; exit 1; }
     chmod u+w "$out/src"/*.rs
     cp "$root"/recorded/rust/*.rs "$out/src"
 }
