@@ -47,15 +47,15 @@ fn begin(args: &[u64], lists: &[u64], image: &[u8], scratch: &mut [u8]) -> Begin
     let unclassified = FreeList {
         count: lists[COUNTS + 2] as usize,
     };
-    let m = room_of(lists, 0);
-    let r = RUN + room_of(lists, 1);
-    let u = 2 * RUN + room_of(lists, 2);
+    let meta_end = room_of(lists, 0);
+    let raw_end = RUN + room_of(lists, 1);
+    let unclassified_end = 2 * RUN + room_of(lists, 2);
     save_begin(
-        &lists[0..m],
+        &lists[0..meta_end],
         meta,
-        &lists[RUN..r],
+        &lists[RUN..raw_end],
         raw,
-        &lists[2 * RUN..u],
+        &lists[2 * RUN..unclassified_end],
         unclassified,
         args[0],
         args[1],
