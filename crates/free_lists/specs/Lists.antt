@@ -1,15 +1,16 @@
 -- The three lists of a file, and the refusals of lists that are given together. Assumes nothing.
+-- In quotes: document 01's words, from the refusal of that number or from the heading named.
 --   LentList     a list: its lent run and its record
 --   regionsOf    its regions
 --   listIn       the list of a run and a record
---   Lists        the three lists of a file, by which of them is asked for
+--   Lists        "The save": "Three lists (metadata, raw, unclassified)", and how each of them stands
 --   index, same  the number of a list, 0 to 2; two lists are the same one
 --   listsOf      three lists from each of them
 --   listsIn      the same by their runs and the three records
 --   Regions, regionsIn   the regions of three lists; those of lists as they stand
---   areLists     what refusal 3 tests, of all three
---   sharedByte   refusal 5: two of the lists share a byte
---   apart        these refusals, in their order
+--   areLists     `are_lists`: what refusal 3 tests, of all three
+--   sharedByte   refusal 5: "two lists (not runs of sections) given together share a byte"
+--   apart        refusals 3 and 5, in this order
 --   together     `check_lists`: the outcome of testing for these refusals alone
 use Prim.Native.Nat.{ℕ}
 use mathlib.Core.Bool.{Bool, _&&_, _||_, not}

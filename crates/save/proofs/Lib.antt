@@ -5,7 +5,7 @@ pub mod ReadLaws
 pub mod HoldingLaws
 pub mod AnySaveLaws
 pub mod Demand3
-pub mod Cases
+pub mod Instance
 pub mod TieLaws
 pub mod SumLaws
 pub mod PlaceLaws
