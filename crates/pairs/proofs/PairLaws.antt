@@ -1,7 +1,7 @@
 -- Laws of `decode` and `flat`: a run's pairs as records, and records as a run. Assumes nothing.
 --   Form    how a record is a pair of numbers: its constructor, its two fields, and that these are what the constructor took
 use mathlib.Core.Path.{_≡_, refl, sym, ap, ap₂, _∙_}
-use mathlib.Core.List.{List, [], _∷_, _++_, append-nil, append-assoc}
+use mathlib.Core.List.{List, [], _∷_, _++_, append-nil}
 use Prim.Native.Nat.{ℕ, zero, suc, _+_, _-_, _*_, _≤_, _<_}
 use native.Mathlib.Nat.{le-of-suc-le-suc, not-suc-le-zero}
 use native.Mathlib.Numerals.{add-one}
