@@ -1,6 +1,8 @@
 // Lent runs of pairs: an address and a length, an address and a length, and so on.
 ghost use mathlib.Core.Path.{_≡_};
+ghost use mathlib.Core.List.{[], _∷_};
 ghost use lib.ListN.{getD};
+ghost use Rattle.error.specs.Lent.{over};
 ghost use Rattle.pairs.specs.Pairs.{isRun, pairAt, pair};
 
 pub mod copy;
@@ -48,4 +50,19 @@ pub fn pair_at(run: &[u64], i: usize) -> Pair
         addr: run[2 * i],
         len: run[2 * i + 1],
     }
+}
+
+// Writes a pair at a place of the run. What would pass the end is dropped.
+pub fn put_pair(run: &mut [u64], at: usize, addr: u64, len: u64)
+    ensures { λ _. ⌜ now (run .exit) ≡ over at (addr ∷ len ∷ []) (now (run .entry)) ⌝ }
+{
+    let n = run.len();
+    if n <= at {
+        return;
+    }
+    run[at] = addr;
+    if n - 1 <= at {
+        return;
+    }
+    run[at + 1] = len;
 }
