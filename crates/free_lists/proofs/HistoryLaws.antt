@@ -15,8 +15,9 @@ use Rattle.fields.specs.Ranges.{Range}
 use Rattle.free_regions.specs.Regions.{Free}
 use Rattle.free_regions.proofs.SetLaws.{Between, Adds, Removes}
 use Rattle.free_space.specs.declared.list.FreeList.{FreeList}
-use Rattle.free_space.specs.Runs.{capacity, isList}
+use Rattle.free_space.specs.Runs.{isList}
 use Rattle.free_space.specs.Calls.{keeping}
+use Rattle.pairs.specs.Pairs.{capacity}
 use Rattle.free_lists.specs.Lists.{Lst, lst, regionsOf, Which, metadata, raw, unclassified, same, Lists}
 use Rattle.free_lists.specs.History.{Call, free, alloc, units, takeRange, takeTrailing, Did, did, bytes, perform, On, next, run, begun, Last, never, was, holds, goesOver, later, lastOver, wasFree, ByHistory}
 use Rattle.free_lists.proofs.CallLaws.{Ends, Leaves, free-law, take-law, alloc-law, units-law, trailing-law}

@@ -1,10 +1,9 @@
 // What is asked of the three lists of a file together.
 ghost use mathlib.Core.Path.{_≡_};
-ghost use Prim.Native.Nat.{_+_, _*_, _<_, max};
-ghost use lib.ListN.{length};
+ghost use Prim.Native.Nat.{max};
 ghost use Rattle.error.specs.Answers.{checkedOutcome, numberOutcome};
 ghost use Rattle.free_regions.specs.Regions.{shareBytes};
-ghost use Rattle.free_space.specs.Runs.{regionAt, decode};
+ghost use Rattle.free_space.specs.Runs.{decode};
 ghost use Rattle.free_lists.specs.Lists.{three, areLists, sharedByte, together};
 ghost use Rattle.free_lists.specs.Trailing.{falling, walk, runStart};
 ghost use Rattle.free_lists.specs.Walks.{InOrder, AllInOrder, counted, remaining, height, Onward};
@@ -14,6 +13,7 @@ use error::Refusal;
 use free_regions::FreeRegion;
 use free_space::check::is_list;
 use free_space::list::FreeList;
+use free_space::run::region_at;
 
 // Whether all three are lists: refusal 3 alone.
 pub fn are_lists(
@@ -33,17 +33,6 @@ pub fn are_lists(
         return false;
     }
     is_list(unclassified, unclassified_list)
-}
-
-// The i-th region.
-fn region_at(run: &[u64], i: usize) -> FreeRegion
-    requires { ⌜ 2 * i + 1 < length (now run) ⌝ }
-    ensures { λ r. ⌜ r ≡ regionAt (now (run .entry)) i ⌝ }
-{
-    FreeRegion {
-        addr: run[2 * i],
-        len: run[2 * i + 1],
-    }
 }
 
 // Whether two lists share a byte: of the two regions at hand, the one that ends first is passed.

@@ -1,7 +1,7 @@
 -- Laws of `decode` and `flat`: a run's pairs as records, and records as a run. Assumes nothing.
 --   Form    how a record is a pair of numbers: its constructor, its two fields, and that these are what the constructor took
 use mathlib.Core.Path.{_≡_, refl, sym, ap, ap₂, _∙_}
-use mathlib.Core.List.{List, [], _∷_, _++_, append-nil}
+use mathlib.Core.List.{List, [], _∷_, _++_, map, append-nil}
 use Prim.Native.Nat.{ℕ, zero, suc, _+_, _-_, _*_, _≤_, _<_}
 use native.Mathlib.Nat.{le-of-suc-le-suc, not-suc-le-zero}
 use native.Mathlib.Numerals.{add-one}
@@ -44,6 +44,22 @@ module _ {A : Type 0} (make : ℕ → ℕ → A) where
 
   pub decode-end : (n i : ℕ) (xs : List ℕ) → n ≤ i → 2 * n ≤ length xs → drop i (decode make n xs) ≡ []
   decode-end n i xs l h = drop-of-length-le (decode make n xs) {i = i} (omega (arith, length-decode n xs h))
+
+  -- one pair more
+  pub decode-last : (n : ℕ) (xs : List ℕ) → 2 * suc n ≤ length xs → decode make (suc n) xs ≡ decode make n xs ++ (pairAt make xs n ∷ [])
+  decode-last n [] h = absurd (omega arith)
+  decode-last n (a ∷ []) h = absurd (omega arith)
+  decode-last zero (a ∷ b ∷ xs) h = refl
+  decode-last (suc n) (a ∷ b ∷ xs) h =
+      let e : 2 * suc n + 1 ≡ suc (suc (2 * n + 1)) = omega arith in
+      rw (e, double) (ap (λ (l : List A). make a b ∷ l) (decode-last n xs (omega arith)))
+
+  -- what is made of each record is made of each pair
+  pub decode-map : {B : Type 0} (f : A → B) (n : ℕ) (xs : List ℕ) → map f (decode make n xs) ≡ decode (λ a b. f (make a b)) n xs
+  decode-map f zero xs = refl
+  decode-map f (suc n) [] = refl
+  decode-map f (suc n) (a ∷ []) = refl
+  decode-map {B} f (suc n) (a ∷ b ∷ xs) = ap (λ (l : List B). f (make a b) ∷ l) (decode-map f n xs)
 
 -- ---- records as a run, and the run as records
 
