@@ -3,7 +3,7 @@ ghost use mathlib.Core.Path.{_≡_};
 ghost use Prim.Native.Nat.{max};
 ghost use Rattle.error.specs.Answers.{checkedOutcome, numberOutcome};
 ghost use Rattle.free_regions.specs.Regions.{shareBytes};
-ghost use Rattle.free_space.specs.Runs.{decode};
+ghost use Rattle.free_space.specs.Runs.{regionAt, decode};
 ghost use Rattle.free_lists.specs.Lists.{three, areLists, sharedByte, together};
 ghost use Rattle.free_lists.specs.Trailing.{falling, walk, runStart};
 ghost use Rattle.free_lists.specs.Walks.{InOrder, AllInOrder, counted, remaining, height, Onward};
@@ -13,7 +13,7 @@ use error::Refusal;
 use free_regions::FreeRegion;
 use free_space::check::is_list;
 use free_space::list::FreeList;
-use free_space::run::region_at;
+use pairs::pair_at;
 
 // Whether all three are lists: refusal 3 alone.
 pub fn are_lists(
@@ -33,6 +33,17 @@ pub fn are_lists(
         return false;
     }
     is_list(unclassified, unclassified_list)
+}
+
+// The i-th region. A number that the run does not have is 0.
+fn region_at(run: &[u64], i: usize) -> FreeRegion
+    ensures { λ r. ⌜ r ≡ regionAt (now (run .entry)) i ⌝ }
+{
+    let p = pair_at(run, i);
+    FreeRegion {
+        addr: p.addr,
+        len: p.len,
+    }
 }
 
 // Whether two lists share a byte: of the two regions at hand, the one that ends first is passed.

@@ -6,5 +6,5 @@ mod join;
 pub mod list;
 mod meet;
 pub mod questions;
-pub mod run;
+mod run;
 mod units;

@@ -29,7 +29,11 @@ returns-2 c =
     (sym (list-room xs (a .list) (sym (h .ensures) ∙ not-false (h .result) (c .before .if1 .left))) ∙ ap (λ (n : ℕ). okFrom 0 (decode n xs)) z, z)
 
 region-at-requires : tie.Need-region-at-requires
-region-at-requires c κs = search needs
+region-at-requires c κs =
+    let a = c .before .before .before .before .args in
+    let h = c .before .before .is-run in
+    let room = run-room (now (a .run)) (a .list .count) (sym (h .ensures) ∙ not-false (h .result) (c .before .if1 .left)) in
+    omega arith
 
 stands-requires : tie.Need-stands-requires
 stands-requires c κs = search needs

@@ -7,9 +7,13 @@ use Rattle.free_space.proofs.CheckLaws.{read-fits}
 use Rattle.free_space.proofs.InsertLaws.{absorb-apart, absorb-touch}
 use Rattle.free_space.proofs.join.join_above.Statement.{statement}
 use Rattle.free_space.proofs.join.join_above.Tie as tie
+use Rattle.free_space.proofs.ListLaws.{listed}
 
 region-at-requires : tie.Need-region-at-requires
-region-at-requires c κs = search needs
+region-at-requires c κs =
+    let a = c .before .before .before .args in
+    let pre = c .before .before .before .pre in
+    omega (arith, listed (now (a .run)) (a .list) (pre .0) .room)
 
 add-if2 : tie.Need-add-if2
 add-if2 c = search needs

@@ -8,6 +8,7 @@ use Rattle.free_space.specs.Runs.{regionAt}
 use Rattle.free_space.proofs.MeetLaws.{region-before}
 use Rattle.free_space.proofs.meet.first_from.Statement.{statement}
 use Rattle.free_space.proofs.meet.first_from.Tie as tie
+use Rattle.free_space.proofs.ListLaws.{listed}
 
 abbrev Inv-loop : tie.InvT-loop
 Inv-loop run list lo e i₀ i = (lo ≤ i) × (i ≤ list .count) × (lo < i → (regionAt run (i - 1)) .addr < e)
@@ -19,7 +20,9 @@ loop-holds : tie.Need-loop-holds Inv-loop μ-loop
 loop-holds c = (omega arith, search needs, λ h. absurd (omega arith))
 
 region-at-requires : tie.Need-region-at-requires Inv-loop μ-loop
-region-at-requires c κs = search needs
+region-at-requires c κs =
+    let a = c .before .before .before .before .args in
+    omega (arith, listed (now (a .run)) (a .list) (c .before .before .before .before .pre .0) .room)
 
 returns : tie.Need-returns Inv-loop μ-loop
 returns c =

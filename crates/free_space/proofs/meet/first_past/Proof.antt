@@ -9,6 +9,7 @@ use Rattle.free_space.proofs.CheckLaws.{read-fits}
 use Rattle.free_space.proofs.MeetLaws.{region-before}
 use Rattle.free_space.proofs.meet.first_past.Statement.{statement}
 use Rattle.free_space.proofs.meet.first_past.Tie as tie
+use Rattle.free_space.proofs.ListLaws.{listed}
 
 abbrev Inv-loop : tie.InvT-loop
 Inv-loop run a low₀ high₀ low high =
@@ -27,7 +28,10 @@ add-mid : tie.Need-add-mid Inv-loop μ-loop
 add-mid c = search needs
 
 region-at-requires : tie.Need-region-at-requires Inv-loop μ-loop
-region-at-requires c κs = search needs
+region-at-requires c κs =
+    let a = c .before .before .before .args in
+    let l = c .before .loop in
+    omega (arith, l .inv .1, listed (now (a .run)) (a .list) (c .before .before .before .pre) .room)
 
 add-if1 : tie.Need-add-if1 Inv-loop μ-loop
 add-if1 c =

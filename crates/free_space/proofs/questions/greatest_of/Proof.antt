@@ -29,7 +29,7 @@ returns-2 : tie.Need-returns-2 Inv-loop μ-loop
 returns-2 c = pass-empty (c .before .before .before .before .args .what) _ _ (has (c .before)) (c .if2 .taken)
 
 region-at-requires : tie.Need-region-at-requires Inv-loop μ-loop
-region-at-requires c κs = search needs
+region-at-requires c κs = omega (arith, has (c .before) .fits)
 
 stands-requires : tie.Need-stands-requires Inv-loop μ-loop
 stands-requires c κs = search needs
@@ -56,7 +56,7 @@ loop-holds c =
     (held (r .stands .ensures) (c .before .before .if3 .left)) (c .before .measured .ensures)
 
 region-at-requires-2 : tie.Need-region-at-requires-2 Inv-loop μ-loop
-region-at-requires-2 c κs = search needs
+region-at-requires-2 c κs = omega (arith, c .before .loop .inv .room .fits)
 
 follows-requires : tie.Need-follows-requires Inv-loop μ-loop
 follows-requires c κs = search needs

@@ -2,8 +2,8 @@ use mathlib.Core.Path.{ap}
 use borrow.Author.Needs.{needs}
 use Rattle.pairs.specs.declared.Pair.{Pair}
 use Rattle.free_regions.specs.Regions.{region}
-use Rattle.free_space.proofs.run.region_at.Statement.{statement}
-use Rattle.free_space.proofs.run.region_at.Tie as tie
+use Rattle.free_lists.proofs.region_at.Statement.{statement}
+use Rattle.free_lists.proofs.region_at.Tie as tie
 
 pair-at-requires : tie.Need-pair-at-requires
 pair-at-requires c κs = search needs
