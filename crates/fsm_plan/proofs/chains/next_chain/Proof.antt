@@ -27,20 +27,20 @@ returns : tie.Need-returns
 returns c =
     let s = c .before .before .before .before .before .before in
     let a = s .args in
-    uncut-next (a .s) (now (a .a)) (now (a .b)) (now (a .c)) (a .i) (a .j) (a .k) (s .pre .1 .1) _ _ (picked (c .before .before)) (c .if1 .taken)
+    uncut-next (a .s) (now (a .a)) (now (a .b)) (now (a .c)) (s .pre .0) (a .i) (a .j) (a .k) (s .pre .1 .1) _ _ (picked (c .before .before)) (c .if1 .taken)
     (whole-chain Whole (a .s .page) _ _ refl, refl, (refl, refl, refl))
 
 pages-of-requires : tie.Need-pages-of-requires
 pages-of-requires c κs =
     let s = c .before .before .before .before .before .before in
     let a = s .args in
-    (s .pre .0 .some, cut-fits (a .s) (now (a .a)) (now (a .b)) (now (a .c)) (a .i) (a .j) (a .k) _ (picked (c .before .before)) (c .if1 .left))
+    (s .pre .0 .some, cut-fits (a .s) (now (a .a)) (now (a .b)) (now (a .c)) (s .pre .0) (a .i) (a .j) (a .k) _ (picked (c .before .before)) (c .if1 .left))
 
 returns-2 : tie.Need-returns-2
 returns-2 c =
     let s = c .before .before .before .before .before .before .before in
     let a = s .args in
-    cut-next (a .s) (now (a .a)) (now (a .b)) (now (a .c)) (a .i) (a .j) (a .k) (s .pre .1 .1) _ _ (picked (c .before .before .before)) (c .before .if1 .left)
+    cut-next (a .s) (now (a .a)) (now (a .b)) (now (a .c)) (s .pre .0) (a .i) (a .j) (a .k) (s .pre .1 .1) _ _ (picked (c .before .before .before)) (c .before .if1 .left)
     (c .pages-of .ensures, (refl, refl, refl))
 
 pub next-chain-spec : {M : Type 1} → statement M

@@ -30,14 +30,14 @@ part-chain-requires : tie.Need-part-chain-requires
 part-chain-requires c κs =
     let s = c .before .before .before .before .before in
     let a = s .args in
-    (s .pre .0 .some, rw (c .part-in .ensures) (picked-fits (a .s) (now (a .a)) (now (a .b)) (now (a .c)) (a .i) (a .j) (a .k) _ (picked (c .before))))
+    (s .pre .0 .some, rw (c .part-in .ensures) (picked-fits (a .s) (now (a .a)) (now (a .b)) (now (a .c)) (s .pre .0) (a .i) (a .j) (a .k) _ (picked (c .before))))
 
 returns : tie.Need-returns
 returns c =
     let s = c .before .before .before .before .before .before in
     let a = s .args in
     let r = c .before .before .next-region .result in
-    picked-taking (a .s) (now (a .a)) (now (a .b)) (now (a .c)) (a .i) (a .j) (a .k) (s .pre .1 .1) _ r (picked (c .before .before))
+    picked-taking (a .s) (now (a .a)) (now (a .b)) (now (a .c)) (s .pre .0) (a .i) (a .j) (a .k) (s .pre .1 .1) _ r (picked (c .before .before))
     (record {
       part-of = c .part-chain .ensures ∙ ap (λ (p : Part). partOf p (a .s .page) (section (r .addr) (r .size))) (c .before .part-in .ensures);
       counts = (refl, refl, refl);
