@@ -40,15 +40,16 @@ pub fn pair_at(run: &[u64], i: usize) -> Pair
     if whole < i {
         return Pair { addr: 0, len: 0 };
     }
+    let at = 2 * i;
     if i == whole {
         return Pair {
-            addr: number_at(run, 2 * i),
+            addr: number_at(run, at),
             len: 0,
         };
     }
     Pair {
-        addr: run[2 * i],
-        len: run[2 * i + 1],
+        addr: run[at],
+        len: run[at + 1],
     }
 }
 

@@ -17,8 +17,8 @@ returns c =
     let a = c .before .before .args in
     half (now (a .run)) (a .i) 0 (sym (List·getD-eq-default (now (a .run)) 0 (omega (arith, c .if1 .taken)))) (omega (arith, c .if1 .taken))
 
-mul-number-at : tie.Need-mul-number-at
-mul-number-at c = search needs
+mul-at : tie.Need-mul-at
+mul-at c = search needs
 
 number-at-requires : tie.Need-number-at-requires
 number-at-requires c κs = search needs
@@ -28,26 +28,20 @@ returns-2 c =
     let a = c .before .before .before .before .args in
     half (now (a .run)) (a .i) _ (c .number-at .ensures) (omega (arith, c .before .if2 .taken))
 
-mul-t4 : tie.Need-mul-t4
-mul-t4 c = search needs
+mul-t5 : tie.Need-mul-t5
+mul-t5 c = search needs
 
-mul-t8 : tie.Need-mul-t8
-mul-t8 c = search needs
+shared-slice-read-t9 : tie.Need-shared-slice-read-t9
+shared-slice-read-t9 c = search needs
 
-shared-slice-read-t10 : tie.Need-shared-slice-read-t10
-shared-slice-read-t10 c = search needs
+add-t10 : tie.Need-add-t10
+add-t10 c = search needs
 
 mul-t11 : tie.Need-mul-t11
 mul-t11 c = search needs
 
-add-t12 : tie.Need-add-t12
-add-t12 c = search needs
-
-mul-t13 : tie.Need-mul-t13
-mul-t13 c = search needs
-
-shared-slice-read-t15 : tie.Need-shared-slice-read-t15
-shared-slice-read-t15 c = search needs
+shared-slice-read-t13 : tie.Need-shared-slice-read-t13
+shared-slice-read-t13 c = search needs
 
 returns-3 : tie.Need-returns-3
 returns-3 c = search needs
@@ -57,14 +51,12 @@ pair-at-spec =
     tie.close
     (tie.spec
     returns
-    mul-number-at
+    mul-at
     number-at-requires
     returns-2
-    mul-t4
-    mul-t8
-    shared-slice-read-t10
+    mul-t5
+    shared-slice-read-t9
+    add-t10
     mul-t11
-    add-t12
-    mul-t13
-    shared-slice-read-t15
+    shared-slice-read-t13
     returns-3)
