@@ -1,6 +1,6 @@
 -- What a cut of the code's save shows is what demand 3 says. Assumes nothing.
 use mathlib.Core.Path.{_≡_, refl, sym, ap, subst, _∙_}
-use Prim.Native.Nat.{ℕ, zero, suc, _+_, _-_, _*_, _^_, _≤_, _<_, min}
+use Prim.Native.Nat.{ℕ, zero, suc, _+_, _-_, _^_, _≤_, _<_, min}
 use native.Mathlib.Nat.{le-refl}
 use native.Mathlib.Omega.{arith}
 use mathlib.Core.Logic.{⊎-elim}
@@ -10,11 +10,13 @@ use lib.ListN.{length, replicate}
 use Rattle.error.specs.Outcome.{Outcome, answer, nothing, refuse}
 use Rattle.error.specs.Lent.{With, with, Left, left, leaving, over}
 use Rattle.error.proofs.TestLaws.{le-or-lt}
+use Rattle.pairs.proofs.PairLaws.{decode-put}
 use Rattle.free_lists.specs.declared.calls.Which.{Which}
 use Rattle.free_lists.specs.History.{CallOn, run, begun as begunEmpty, freeByHistory}
 use Rattle.fsm_sections.specs.declared.FreeSection.{FreeSection}
 use Rattle.fsm_sections.specs.Sections.{decode, flat}
 use Rattle.fsm_sections.specs.Pages.{holding}
+use Rattle.fsm_sections.proofs.SectionsLaws.{section-form}
 use Rattle.save_step.specs.declared.Save.{Save}
 use Rattle.save_step.specs.Steps.{Saving, saving, steps, goOn}
 use Rattle.save.specs.Saving.{begun}
@@ -23,13 +25,6 @@ use Rattle.save.proofs.Demand3.{demand3}
 use Rattle.image.specs.Reading.{Listed, inSlot, imageInto}
 use Rattle.end_to_end.specs.Cuts.{Cut, cutAfter}
 use Rattle.end_to_end.specs.Demanded.{T, cut, S, R, G, found, counts, Room, Shown, Demanded}
-
--- sections written over the front of a run with room are read from it again
-decode-over : (l : List FreeSection) (xs : List ℕ) → 2 * length l ≤ length xs → decode (length l) (over 0 (flat l) xs) ≡ l
-decode-over [] xs h = refl
-decode-over (s ∷ l) [] h = absurd (omega arith)
-decode-over (s ∷ l) (x ∷ []) h = absurd (omega arith)
-decode-over (s ∷ l) (x ∷ y ∷ xs) h = ap (λ (r : List FreeSection). s ∷ r) (decode-over l xs (omega arith))
 
 found-slot : (i : ℕ) (l : List FreeSection) (r : List Listed) → map (λ x. x .found) (inSlot i l ++ r) ≡ l ++ map (λ x. x .found) r
 found-slot i [] r = refl
@@ -117,7 +112,7 @@ module _ (runs : Which → List ℕ) (calls : List CallOn) (page start place : �
       finished = last-read;
       once = λ h room b.
           ap (λ (o : List ℕ). holding b (decode (length all) o)) (last-read h room .1)
-          ∙ ap (holding b) (decode-over all out (omega arith))
+          ∙ ap (holding b) (decode-put section-form all out (omega arith))
           ∙ held b;
     }
 

@@ -30,10 +30,12 @@ use Rattle.free_regions.proofs.BestLaws.{nth, NoneSuffices, Best, best-none, be
 use Rattle.free_regions.proofs.InteriorLaws.{FirstMultiple, first-multiple, interior-inside}
 use Rattle.free_regions.proofs.ShareLaws.{Common, shares-byte}
 use Rattle.free_space.specs.declared.list.FreeList.{FreeList}
-use Rattle.free_space.specs.Runs.{capacity, flat, recordOf, regions, isList, stored}
+use Rattle.free_space.specs.Runs.{flat, recordOf, regions, isList, stored}
 use Rattle.free_space.specs.Calls.{Gave, notList, overflows, noRoom, placed, keeping, giving, freed, rangeTaken, serve, allocated, allocatedUnits, trailingTaken}
-use Rattle.free_space.proofs.DecodeLaws.{length-flat, decode-stored, length-decode}
+use Rattle.free_space.proofs.DecodeLaws.{decode-stored, region-form}
 use Rattle.free_space.proofs.ListLaws.{listed, is-list-else}
+use Rattle.pairs.proofs.PairLaws.{length-decode, length-flat}
+use Rattle.pairs.specs.Pairs.{capacity}
 
 -- ---- an outcome, along the conditions of its definition
 
@@ -98,14 +100,14 @@ module _ (xs : List ℕ) (n : ℕ) (rs : List FreeRegion) where
   stored-cleared : (k : ℕ) → 2 * length rs ≤ k → k < 2 * n → getD (stored xs n rs) k 0 ≡ 0
   unfolding stored zeros
   stored-cleared k h l =
-      let f = length-flat rs in
+      let f = length-flat region-form rs in
       ap (λ (ys : List ℕ). getD ys k 0) (sym (over-right 0 (flat rs) zeros xs))
       ∙ zeros-at (0 + length (flat rs)) (2 * n - length (flat rs)) k (over 0 (flat rs) xs) (omega arith) (omega arith)
 
   stored-rest : (k : ℕ) → 2 * length rs ≤ k → 2 * n ≤ k → getD (stored xs n rs) k 0 ≡ getD xs k 0
   unfolding stored zeros
   stored-rest k h l =
-      getD-above 0 k (flat rs ++ zeros) xs (omega (arith, length-flat rs, length-append (flat rs) zeros, length-replicate {A = ℕ} (2 * n - length (flat rs)) 0))
+      getD-above 0 k (flat rs ++ zeros) xs (omega (arith, length-flat region-form rs, length-append (flat rs) zeros, length-replicate {A = ℕ} (2 * n - length (flat rs)) 0))
 
 leaves : (Change : List FreeRegion → List FreeRegion → Type 0) (xs : List ℕ) (l : FreeList) (rs : List FreeRegion) → isList xs l ≡ true
     → Within 0 top rs → length rs ≤ capacity xs → Change (regions xs l) rs → Leaves Change xs l (stored xs (l .count) rs) (recordOf rs)
@@ -168,7 +170,7 @@ module _ (xs : List ℕ) (l : FreeList) where
   within ok = ok-prop 0 (regions xs l) .0 (listed xs l ok .ok)
 
   long : isList xs l ≡ true → length (regions xs l) ≡ l .count
-  long ok = length-decode (l .count) xs (listed xs l ok .room)
+  long ok = length-decode region (l .count) xs (listed xs l ok .room)
 
   -- where a change that may grow has grown
   grew : (rs : List FreeRegion) (full : Type 0) → isList xs l ≡ true → Grows (regions xs l) rs full → l .count < length rs → (length rs ≡ suc (l .count)) × full

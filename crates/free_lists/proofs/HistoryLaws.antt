@@ -15,8 +15,9 @@ use Rattle.fields.specs.Ranges.{Range}
 use Rattle.free_regions.specs.Regions.{Free}
 use Rattle.free_regions.proofs.SetLaws.{Between, Adds, Removes}
 use Rattle.free_space.specs.declared.list.FreeList.{FreeList}
-use Rattle.free_space.specs.Runs.{capacity, isList}
+use Rattle.free_space.specs.Runs.{isList}
 use Rattle.free_space.specs.Calls.{keeping}
+use Rattle.pairs.specs.Pairs.{capacity}
 use Rattle.free_lists.specs.declared.calls.Which.{Which}
 use Rattle.free_lists.specs.declared.calls.Which.the-variants.{Metadata, Raw, Unclassified}
 use Rattle.free_lists.specs.declared.calls.ListCall.{ListCall}

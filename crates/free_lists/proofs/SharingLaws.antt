@@ -23,9 +23,9 @@ use Rattle.free_regions.proofs.OrderLaws.{drop-within}
 use Rattle.free_regions.proofs.ShareLaws.{meets-both, shares-above, share-past, share-nil}
 use Rattle.free_space.specs.declared.list.FreeList.{FreeList}
 use Rattle.free_space.specs.Runs.{regionAt, decode, isList}
-use Rattle.free_space.proofs.DecodeLaws.{length-decode, decode-at, decode-end}
 use Rattle.free_space.proofs.QuestionLaws.{denied, held, here}
 use Rattle.free_space.proofs.ListLaws.{listed}
+use Rattle.pairs.proofs.PairLaws.{length-decode, decode-at, decode-end}
 use Rattle.free_lists.specs.declared.Cursors.{Cursors}
 use Rattle.free_lists.specs.declared.FileLists.{FileLists}
 use Rattle.free_lists.specs.Trailing.{falling, walk, runStart}
@@ -54,10 +54,10 @@ in-order-less {xs} {n} m l p = record { room = omega (arith, p .room); ok = ok-l
 -- each of them, as the code reads it
 module _ {xs : List ℕ} {n : ℕ} (p : InOrder xs n) (i : ℕ) (r : FreeRegion) (is : r ≡ regionAt xs i) (l : i < n) where
   at-i : getD (decode n xs) i (region 0 0) ≡ r
-  at-i = decode-at n i xs (region 0 0) l (p .room) ∙ sym is
+  at-i = decode-at region n i xs (region 0 0) l (p .room) ∙ sym is
 
   long : i < length (decode n xs)
-  long = omega (arith, length-decode n xs (p .room))
+  long = omega (arith, length-decode region n xs (p .room))
 
   pub order-fits : Fit 0 r
   order-fits = subst (Fit 0) at-i (ok-at 0 i (decode n xs) (region 0 0) (p .ok) long)
@@ -75,12 +75,12 @@ pub record Compared (xs : List ℕ) (n : ℕ) (ys : List ℕ) (m i j : ℕ) : Ty
 
 module _ {xs : List ℕ} {n : ℕ} {ys : List ℕ} {m i j : ℕ} (c : Compared xs n ys m i j) where
   pub no-more : InOrder xs n → n ≤ i → false ≡ shareBytes (decode n xs) (decode m ys)
-  no-more p h = sym (ap (λ (l : List FreeRegion). shareBytes l (drop j (decode m ys))) (decode-end n i xs h (p .room))) ∙ c .same
+  no-more p h = sym (ap (λ (l : List FreeRegion). shareBytes l (drop j (decode m ys))) (decode-end region n i xs h (p .room))) ∙ c .same
 
   pub no-others : InOrder ys m → m ≤ j → false ≡ shareBytes (decode n xs) (decode m ys)
   no-others q h =
       sym (share-nil (drop i (decode n xs)))
-      ∙ sym (ap (λ (l : List FreeRegion). shareBytes (drop i (decode n xs)) l) (decode-end m j ys h (q .room)))
+      ∙ sym (ap (λ (l : List FreeRegion). shareBytes (drop i (decode n xs)) l) (decode-end region m j ys h (q .room)))
       ∙ c .same
 
   module _ (p : InOrder xs n) (q : InOrder ys m) (r s : FreeRegion) (is-r : r ≡ regionAt xs i) (is-s : s ≡ regionAt ys j) (l : i < n) (k : j < m) where

@@ -6,18 +6,17 @@
 use mathlib.Core.Path.{_≡_, refl, sym, ap, _∙_, subst}
 use mathlib.Core.List.{List, [], _∷_, _++_, append-assoc, append-nil}
 use mathlib.Core.Bool.{Bool, true, false, cond}
-use Prim.Native.Nat.{ℕ, zero, suc, _+_, _-_, _*_, _≤_, _<_, min, max}
+use Prim.Native.Nat.{ℕ, zero, suc, _-_, _≤_, _<_, min, max}
 use native.Mathlib.Omega.{arith}
 use borrow.Author.Tests.{le-leb, lt-leb, lt-ltb, le-ltb}
 use lib.Dec.{leb, ltb}
-use lib.ListN.{length}
 use Rattle.error.proofs.TestLaws.{and-true}
 use Rattle.fields.specs.Ranges.{top}
 use Rattle.free_regions.specs.declared.FreeRegion.{FreeRegion}
 use Rattle.free_regions.specs.Regions.{region, end, fitsFrom, okFrom}
 use Rattle.free_regions.proofs.OkLaws.{fit}
 use Rattle.free_space.specs.Runs.{regionAt, decode}
-use Rattle.free_space.proofs.DecodeLaws.{double}
+use Rattle.pairs.proofs.PairLaws.{decode-last}
 use Rattle.free_lists.specs.declared.Cursors.{Cursors}
 use Rattle.free_lists.specs.Trailing.{put, falling, walk}
 use Rattle.free_lists.specs.Walks.{InOrder, AllInOrder, remaining, height, Next}
@@ -60,14 +59,6 @@ falling-pick r (s ∷ ps) qs p q = ap (put s) (falling-pick r ps qs (p .1) q) �
 
 -- ---- the last region of a list
 
-decode-last : (n : ℕ) (xs : List ℕ) → 2 * suc n ≤ length xs → decode (suc n) xs ≡ decode n xs ++ (regionAt xs n ∷ [])
-decode-last n [] h = absurd (omega arith)
-decode-last n (a ∷ []) h = absurd (omega arith)
-decode-last zero (a ∷ b ∷ xs) h = refl
-decode-last (suc n) (a ∷ b ∷ xs) h =
-    let e : 2 * suc n + 1 ≡ suc (suc (2 * n + 1)) = omega arith in
-    rw (e, double) (ap (λ (l : List FreeRegion). region a b ∷ l) (decode-last n xs (omega arith)))
-
 below-last : (low : ℕ) (ps : List FreeRegion) (r : FreeRegion) → okFrom low (ps ++ (r ∷ [])) ≡ true → Below (r .addr) ps × (low ≤ r .addr)
 below-last low [] r e = (tt, fit low r (and-true (fitsFrom low r) true e .0) .above)
 below-last low (q ∷ ps) r e =
@@ -88,7 +79,7 @@ pub last-of : {xs : List ℕ} {n : ℕ} (p : ℕ) (r : FreeRegion) → InOrder x
 last-of {xs} {n} p r o e is =
     let o′ : InOrder xs (suc p) = subst (InOrder xs) (sym e) o in
     let w : decode (suc p) xs ≡ decode p xs ++ (r ∷ []) =
-    decode-last p xs (o′ .room) ∙ ap (λ (q : FreeRegion). decode p xs ++ (q ∷ [])) (sym is) in
+    decode-last region p xs (o′ .room) ∙ ap (λ (q : FreeRegion). decode p xs ++ (q ∷ [])) (sym is) in
     record {
       less = in-order-less p (omega arith) o;
       some = order-fits o p r is (omega arith) .some;

@@ -2,8 +2,7 @@
 pub mod calls;
 
 ghost use mathlib.Core.Path.{_≡_};
-ghost use Prim.Native.Nat.{_+_, _*_, _<_, max};
-ghost use lib.ListN.{length};
+ghost use Prim.Native.Nat.{max};
 ghost use Rattle.error.specs.Answers.{checkedOutcome, numberOutcome};
 ghost use Rattle.free_regions.specs.Regions.{shareBytes};
 ghost use Rattle.free_space.specs.Runs.{regionAt, decode};
@@ -16,6 +15,7 @@ use error::Refusal;
 use free_regions::FreeRegion;
 use free_space::check::is_list;
 use free_space::list::FreeList;
+use pairs::pair_at;
 
 // The records of the three lists of a file. Their runs are lent beside them, in the same order.
 pub struct FileLists {
@@ -37,14 +37,14 @@ pub fn are_lists(meta: &[u64], raw: &[u64], unclassified: &[u64], lists: FileLis
     is_list(unclassified, lists.unclassified)
 }
 
-// The i-th region.
+// The i-th region. A number that the run does not have is 0.
 fn region_at(run: &[u64], i: usize) -> FreeRegion
-    requires { ⌜ 2 * i + 1 < length (now run) ⌝ }
     ensures { λ r. ⌜ r ≡ regionAt (now (run .entry)) i ⌝ }
 {
+    let p = pair_at(run, i);
     FreeRegion {
-        addr: run[2 * i],
-        len: run[2 * i + 1],
+        addr: p.addr,
+        len: p.len,
     }
 }
 

@@ -1,7 +1,7 @@
 -- The loops that put sections into the lent run, as facts about numbers and lists. Assumes nothing.
 use mathlib.Core.Path.{_≡_, refl, sym, ap, ap₂, _∙_, subst}
 use mathlib.Core.List.{List, [], _∷_, _++_}
-use mathlib.Core.Logic.{_⊎_, inl, inr, ⊎-elim}
+use mathlib.Core.Logic.{inl, inr, ⊎-elim}
 use Prim.Native.Nat.{ℕ, suc, _+_, _*_, _-_, _≤_, _<_}
 use native.Mathlib.Nat.{add-zero}
 use native.Mathlib.Numerals.{add-one}
@@ -13,32 +13,16 @@ use Rattle.error.specs.Lent.{over}
 use Rattle.error.proofs.TestLaws.{le-or-lt}
 use Rattle.error.proofs.OverLaws.{length-over, over-nil, over-right}
 use Rattle.fields.specs.Layout.{leAt}
+use Rattle.pairs.proofs.PairLaws.{over-flat}
 use Rattle.fsm_sections.specs.declared.FreeSection.{FreeSection}
 use Rattle.fsm_sections.specs.Sections.{flat, withSize}
-use Rattle.fsm_sections.proofs.SectionsLaws.{length-withSize}
+use Rattle.fsm_sections.proofs.SectionsLaws.{length-withSize, section-form}
 use Rattle.fsm_blocks.specs.Groups.{Widths, headSize, readMore, parseGroups}
 use Rattle.fsm_blocks.specs.Parts.{got, Accepted, addresses}
 use Rattle.fsm_blocks.proofs.BytesLaws.{leAt-drop}
 use Rattle.fsm_blocks.proofs.ThenLaws.{not-refused, first-accepted}
 use Rattle.fsm_blocks.proofs.ScanLaws.{readGroups-zero}
 use Rattle.fsm_blocks.proofs.CountLaws.{length-addresses, short-at, refused-at, group-at}
-
--- ---- sections as a run
-
-pub flat-append : (a b : List FreeSection) → flat (a ++ b) ≡ flat a ++ flat b
-flat-append [] b = refl
-flat-append (x ∷ a) b = ap (λ (l : List ℕ). x .addr ∷ x .size ∷ l) (flat-append a b)
-
-pub length-flat : (l : List FreeSection) → length (flat l) ≡ 2 * length l
-length-flat [] = refl
-length-flat (x ∷ l) = let e : length (flat l) ≡ 2 * length l = length-flat l in omega arith
-
--- sections put behind others are put with them
-pub over-flat : (k : ℕ) (a b : List FreeSection) (out : List ℕ) → over (k + 2 * length a) (flat b) (over k (flat a) out) ≡ over k (flat (a ++ b)) out
-over-flat k a b out =
-    ap (λ (n : ℕ). over (k + n) (flat b) (over k (flat a) out)) (sym (length-flat a))
-    ∙ over-right k (flat a) (flat b) out
-    ∙ ap (λ (l : List ℕ). over k l out) (sym (flat-append a b))
 
 -- ---- `put_entries`
 
@@ -159,6 +143,6 @@ module _ (s : List ℕ) (w : Widths) (total from : ℕ) (out₀ : List ℕ) wher
                   now .same
                   ∙ ap (λ (x : Outcome (List FreeSection)). over k (flat (got x)) out) g
                   ∙ ap (λ (l : List FreeSection). over k (flat l) out) (more-got w size found (parseGroups w (left - count) far) a)
-                  ∙ sym (over-flat k (withSize size found) (got (parseGroups w (left - count) far)) out)
+                  ∙ sym (over-flat section-form k (withSize size found) (got (parseGroups w (left - count) far)) out)
                   ∙ ap₂ (λ (i : ℕ) (l : List ℕ). over (k + 2 * i) (flat (got (parseGroups w (left - count) far))) l) n (sym o);
             }

@@ -18,6 +18,7 @@ use Rattle.error.specs.Lent.{over}
 use Rattle.error.proofs.OverLaws.{length-over, over-nil}
 use Rattle.fields.specs.Layout.{window}
 use Rattle.fields.specs.Width.{validWidth}
+use Rattle.pairs.proofs.PairLaws.{over-flat}
 use Rattle.fsm_sections.specs.declared.FreeSection.{FreeSection}
 use Rattle.fsm_sections.specs.Sections.{flat}
 use Rattle.fsm_blocks.specs.declared.header.FsmHeader.{FsmHeader}
@@ -28,7 +29,7 @@ use Rattle.fsm_blocks.specs.Parts.{got, Accepted, counted, sectionsBy}
 use Rattle.fsm_blocks.specs.Named.{namedOutcome, Inside, managerCount, slotsCount}
 use Rattle.fsm_blocks.proofs.ThenLaws.{then-then, then-same, then-refused, sized-is, not-refused, both-accepted}
 use Rattle.fsm_blocks.proofs.FsseLaws.{read-total}
-use Rattle.fsm_blocks.proofs.PutLaws.{over-flat}
+use Rattle.fsm_sections.proofs.SectionsLaws.{section-form}
 
 -- ---- one manager
 
@@ -233,6 +234,6 @@ module _ (O base : ℕ) (bytes : List ℕ) where
               same =
                   now .same
                   ∙ ap (λ (ls : List (List FreeSection)). over k (flat (joined ls)) out) (parts .1)
-                  ∙ sym (over-flat k (got one) (joined (got others)) out)
+                  ∙ sym (over-flat section-form k (got one) (joined (got others)) out)
                   ∙ ap₂ (λ (n : ℕ) (x : List ℕ). over n (flat (joined (got others))) x) (sym e) (sym o);
             }

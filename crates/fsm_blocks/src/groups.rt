@@ -1,6 +1,5 @@
 // The groups of a section list: for each size a count, the size, and the entries.
 ghost use mathlib.Core.Path.{_≡_};
-ghost use mathlib.Core.List.{[], _∷_};
 ghost use Prim.Native.Nat.{_+_, _*_, _≤_, _<_};
 ghost use lib.Dec.{ltb};
 ghost use lib.ListN.{length, drop};
@@ -15,6 +14,7 @@ use error::Number;
 use error::Refusal;
 use fields::bytes::read_uint_le;
 use fields::width::enc_size;
+use pairs::put_pair;
 
 fn wide(x: u8) -> u64
     ensures { λ r. ⌜ (r ≡ x) × (r < 256) ⌝ }
@@ -113,15 +113,6 @@ pub(crate) fn groups_count(groups: &[u8], w: GroupWidths, total: u64) -> Number
     Number::Is(total)
 }
 
-// Puts one section into the run: its address, then its size.
-fn put_section(out: &mut [u64], at: usize, addr: u64, size: u64)
-    requires { ⌜ at + 2 ≤ length (now out) ⌝ }
-    ensures { λ _. ⌜ now (out .exit) ≡ over at (addr ∷ size ∷ []) (now (out .entry)) ⌝ }
-{
-    out[at] = addr;
-    out[at + 1] = size;
-}
-
 // Puts `count` entries of one size into the run.
 fn put_entries(
     groups: &[u8],
@@ -140,7 +131,7 @@ fn put_entries(
     let mut k = from;
     while 0 < left {
         let addr = field_at(groups, p, width);
-        put_section(out, k, addr, size);
+        put_pair(out, k, addr, size);
         p += width + 1;
         k += 2;
         left -= 1;

@@ -5,7 +5,7 @@ use native.Mathlib.Omega.{arith}
 use mathlib.Core.Bool.{Bool, true, false, cond, not}
 use mathlib.Core.List.{List, [], _∷_, _++_}
 use lib.ListN.{length, length-append, drop}
-use borrow.Author.Tests.{lt-ltb, le-ltb, eq-eqb, ne-eqb}
+use borrow.Author.Tests.{lt-ltb, le-ltb, eq-eqb, ne-eqb, not-false}
 use Rattle.error.specs.declared.Refusal.{Refusal}
 use Rattle.error.specs.declared.Refusal.the-variants.{Page, NotAList, Overflow, OverCapacity}
 use Rattle.error.specs.Outcome.{answer, refused, when, firstOf, sat}
@@ -13,16 +13,18 @@ use Rattle.error.specs.Lent.{left, leaving, over}
 use Rattle.error.proofs.OutcomeLaws.{NoneHolds, first-answers, first-refuses, first-pass, refuses, passes}
 use Rattle.error.proofs.OverLaws.{length-over, over-nil}
 use Rattle.fields.specs.Ranges.{top}
-use Rattle.fsm_sections.proofs.SourceLaws.{pairAt}
+use Rattle.pairs.specs.Pairs.{isRun}
+use Rattle.pairs.proofs.PairLaws.{over-flat, decode-drop, decode-end}
+use Rattle.pairs.proofs.RunLaws.{run-room}
 use Rattle.fsm_sections.specs.declared.FreeSection.{FreeSection}
-use Rattle.fsm_sections.specs.Sections.{decode, flat}
+use Rattle.fsm_sections.specs.Sections.{decode, flat, sectionAt, section}
 use Rattle.fsm_sections.specs.Pages.{pieces, split}
 use Rattle.fsm_blocks.specs.Reading.{intoRun}
-use Rattle.fsm_blocks.proofs.PutLaws.{over-flat}
-use Rattle.fsm_sections.specs.Runs.{isRun, endsAbove}
+use Rattle.fsm_sections.specs.Runs.{endsAbove}
 use Rattle.fsm_pages.specs.Split.{splitTests, splitCount, splitInto}
-use Rattle.fsm_pages.proofs.RunLaws.{opens, ended, run-room, above-found, above-turn, above-none, fits-at}
+use Rattle.fsm_pages.proofs.RunLaws.{above-found, above-turn, above-none, fits-at}
 use Rattle.fsm_pages.proofs.PieceLaws.{behind, pieces-number, behind-none, behind-some}
+use Rattle.fsm_sections.proofs.SectionsLaws.{section-form}
 
 module _ (page n : ℕ) (xs : List ℕ) where
   -- the pieces that are left when the first i sections are cut
@@ -49,13 +51,13 @@ module _ (page n : ℕ) (xs : List ℕ) (room : 2 * n ≤ length xs) where
   abbrev more : ℕ → List FreeSection
   more = from page n xs
 
-  from-more : (i : ℕ) → i < n → more i ≡ pieces page (pairAt xs i) ++ more (i + 1)
+  from-more : (i : ℕ) → i < n → more i ≡ pieces page (sectionAt xs i) ++ more (i + 1)
   unfolding split
-  from-more i h = ap (split page) (opens n xs room i h)
+  from-more i h = ap (split page) (decode-drop section n i xs h room)
 
   from-none : (i : ℕ) → n ≤ i → more i ≡ []
   unfolding split
-  from-none i h = ap (split page) (ended n xs room i h)
+  from-none i h = ap (split page) (decode-end section n i xs h room)
 
   -- ---- the pass that counts
 
@@ -75,10 +77,10 @@ module _ (page n : ℕ) (xs : List ℕ) (room : 2 * n ≤ length xs) where
   module _ (some more i : ℕ) (now : Counting page n xs some more i) where
     module _ (p : 0 < page) (h : i < n) where
       abbrev addr : ℕ
-      addr = pairAt xs i .addr
+      addr = sectionAt xs i .addr
 
       abbrev size : ℕ
-      size = pairAt xs i .size
+      size = sectionAt xs i .size
 
       abbrev Added : ℕ → Type 0
       Added m = m ≡ sat (more + behind page addr size)
@@ -97,7 +99,7 @@ module _ (page n : ℕ) (xs : List ℕ) (room : 2 * n ≤ length xs) where
       count-step s m e f o b =
           let more′ = from page n xs (i + 1) in
           let q : length (from page n xs i) ≡ min size 1 + behind page addr size + length more′ =
-          ap length (from-more i h) ∙ length-append (pieces page (pairAt xs i)) more′ ∙ ap (λ (x : ℕ). x + length more′) (pieces-number page addr size p) in
+          ap length (from-more i h) ∙ length-append (pieces page (sectionAt xs i)) more′ ∙ ap (λ (x : ℕ). x + length more′) (pieces-number page addr size p) in
           record {
             within = omega arith;
             above = above-turn n xs room i h o b (now .above);
@@ -113,7 +115,7 @@ module _ (page n : ℕ) (xs : List ℕ) (room : 2 * n ≤ length xs) where
         ap answer (e ∙ ap sat (sym z) ∙ now .number)
         ∙ passes (endsAbove (decode n xs)) Overflow (answer (sat (length (split page (decode n xs))))) (sym (above-none n xs room i h (now .above)))
 
-    pub count-above : i < n → top - pairAt xs i .size < pairAt xs i .addr
+    pub count-above : i < n → top - sectionAt xs i .size < sectionAt xs i .addr
         → refused Overflow ≡ firstOf (when (endsAbove (decode n xs)) Overflow ∷ []) (answer (sat (length (split page (decode n xs)))))
     count-above h o = refuses (endsAbove (decode n xs)) Overflow (answer (sat (length (split page (decode n xs))))) (sym (above-found n xs room i h o (now .above)))
 
@@ -125,15 +127,15 @@ module _ (page n : ℕ) (xs : List ℕ) (room : 2 * n ≤ length xs) where
 
     module _ (out : List ℕ) (k i : ℕ) (now : Putting page n xs out₀ out k i) where
       module _ (h : i < n) where
-        parts : length (more i) ≡ length (pieces page (pairAt xs i)) + length (more (i + 1))
-        parts = ap length (from-more i h) ∙ length-append (pieces page (pairAt xs i)) (more (i + 1))
+        parts : length (more i) ≡ length (pieces page (sectionAt xs i)) + length (more (i + 1))
+        parts = ap length (from-more i h) ∙ length-append (pieces page (sectionAt xs i)) (more (i + 1))
 
-        pub put-room : k + 2 * length (pieces page (pairAt xs i)) ≤ length out
+        pub put-room : k + 2 * length (pieces page (sectionAt xs i)) ≤ length out
         put-room = omega (arith, parts, now .space)
 
-        pub put-step : (out′ : List ℕ) (j : ℕ) → out′ ≡ over k (flat (pieces page (pairAt xs i))) out → j ≡ k + 2 * length (pieces page (pairAt xs i)) → Putting page n xs out₀ out′ j (i + 1)
+        pub put-step : (out′ : List ℕ) (j : ℕ) → out′ ≡ over k (flat (pieces page (sectionAt xs i))) out → j ≡ k + 2 * length (pieces page (sectionAt xs i)) → Putting page n xs out₀ out′ j (i + 1)
         put-step out′ j o e =
-            let s = pieces page (pairAt xs i) in
+            let s = pieces page (sectionAt xs i) in
             let l : length out′ ≡ length out = ap length o ∙ length-over k (flat s) out in
             record {
               within = omega arith;
@@ -141,7 +143,7 @@ module _ (page n : ℕ) (xs : List ℕ) (room : 2 * n ≤ length xs) where
               space = omega (arith, parts, now .space);
               same-length = l ∙ now .same-length;
               same =
-                  rw (e, o) (over-flat k s (more (i + 1)) out)
+                  rw (e, o) (over-flat section-form k s (more (i + 1)) out)
                   ∙ sym (ap (λ (m : List FreeSection). over k (flat m) out) (from-more i h))
                   ∙ now .same;
             }
@@ -176,7 +178,7 @@ module _ (xs : List ℕ) (n page : ℕ) where
   unfolding splitCount
   split-told m e =
       let q = first-answers (splitTests xs n page) (sat (length (split page (decode n xs)))) m (sym e) in
-      record { fits = q .0 .1 .1 .0; run = run-room xs n (q .0 .1 .0); number = sym (q .1); passed = q .0 }
+      record { fits = q .0 .1 .1 .0; run = run-room xs n (not-false (isRun xs n) (q .0 .1 .0)); number = sym (q .1); passed = q .0 }
 
 module _ (xs : List ℕ) (n page : ℕ) (out : List ℕ) where
   pub split-page : page ≡ 0 → left (refused Page) out ≡ leaving out (splitInto xs n page out)

@@ -12,9 +12,10 @@ use lib.ListN.{length}
 use Rattle.error.specs.declared.Refusal.the-variants.{Page, NotAList, Overflow}
 use Rattle.error.specs.Outcome.{Outcome, answer, refused, Condition, when, firstOf, sat}
 use Rattle.error.specs.Lent.{With}
+use Rattle.pairs.specs.Pairs.{isEven, isRun}
 use Rattle.fsm_sections.specs.Sections.{decode}
 use Rattle.fsm_sections.specs.Pages.{split}
-use Rattle.fsm_sections.specs.Runs.{isEven, isRun, endsAbove}
+use Rattle.fsm_sections.specs.Runs.{endsAbove}
 use Rattle.fsm_blocks.specs.Reading.{intoRun}
 use Rattle.fsm_pages.specs.declared.pages.Split.{Split}
 use Rattle.fsm_pages.specs.declared.pages.Split.the-variants as code

@@ -10,7 +10,7 @@ ghost use Rattle.error.specs.Lent.{left, leaving, over};
 ghost use Rattle.error.specs.Outcome.{answer, when, firstOf, sat};
 ghost use Rattle.fsm_sections.specs.Sections.{section, decode, flat};
 ghost use Rattle.fsm_sections.specs.Pages.{pieces, split};
-ghost use Rattle.fsm_sections.specs.Runs.{isRun, endsAbove};
+ghost use Rattle.fsm_sections.specs.Runs.{endsAbove};
 ghost use Rattle.fsm_pages.specs.Divisors.{Exact};
 ghost use Rattle.fsm_pages.specs.Split.{splitCount, splitInto, splitOutcome};
 use error::Number;
@@ -18,21 +18,12 @@ use error::Refusal;
 use fields::number::quotient;
 use fields::number::remainder;
 use fields::number::sum_of;
+use pairs::is_run;
 
 // How many pieces a run of sections was cut into.
 pub enum Split {
     Pieces(usize),
     Refused(Refusal),
-}
-
-// Whether a run of pairs has even length and holds `count` of them.
-fn is_run(run: &[u64], count: usize) -> bool
-    ensures { λ r. ⌜ r ≡ isRun (now (run .entry)) count ⌝ }
-{
-    if run.len() % 2 != 0 {
-        return false;
-    }
-    count <= run.len() / 2
 }
 
 // By what an address below 2^31 is multiplied to divide it by a page, and how many bits the product then loses. The multiplier is 0 for a

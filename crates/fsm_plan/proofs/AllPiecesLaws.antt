@@ -16,20 +16,21 @@ use Rattle.error.specs.Outcome.{answer, refused, sat}
 use Rattle.error.specs.Answers.{numberOutcome}
 use Rattle.error.proofs.OutcomeLaws.{first-pass}
 use Rattle.error.proofs.TestLaws.{or-decides, or-leaves}
+use Rattle.pairs.specs.Pairs.{isRun}
+use Rattle.pairs.proofs.PairLaws.{decode-drop, decode-end}
 use Rattle.fsm_sections.specs.declared.FreeSection.{FreeSection}
 use Rattle.fsm_sections.specs.declared.Chain.{Chain}
 use Rattle.fsm_sections.specs.declared.Part.the-variants.{Pages}
-use Rattle.fsm_sections.specs.Sections.{section, decode}
+use Rattle.fsm_sections.specs.Sections.{section, decode, sectionAt}
 use Rattle.fsm_sections.specs.Pages.{pageEnd, cutAt, piecesFrom, pieces, split, belowPage, fromPage, slot0, slot2, slot6}
 use Rattle.fsm_sections.specs.Sources.{partOf}
-use Rattle.fsm_sections.proofs.SourceLaws.{pairAt}
 use Rattle.fsm_sections.proofs.PagesLaws.{page-end-above, pieces-none, pieces-more, below-or-not}
 use Rattle.fsm_sections.proofs.SizesLaws.{length-chain}
 use Rattle.fsm_sections.proofs.SlotLaws.{from-append, from-pieces}
 use Rattle.fsm_writer.specs.Serializing.{wide, anyOf, anyWide}
-use Rattle.fsm_sections.specs.Runs.{isRun, endsAbove}
+use Rattle.fsm_sections.specs.Runs.{endsAbove}
 use Rattle.fsm_pages.specs.Split.{splitCount}
-use Rattle.fsm_pages.proofs.RunLaws.{opens, ended, fits-at}
+use Rattle.fsm_pages.proofs.RunLaws.{fits-at}
 
 -- ---- the number of pieces
 
@@ -174,18 +175,18 @@ module _ (page n : ℕ) (xs : List ℕ) (room : 2 * n ≤ length xs) where
   abbrev after : ℕ → List FreeSection
   after i = split page (drop i (decode n xs))
 
-  after-more : (i : ℕ) → i < n → after i ≡ pieces page (pairAt xs i) ++ after (i + 1)
+  after-more : (i : ℕ) → i < n → after i ≡ pieces page (sectionAt xs i) ++ after (i + 1)
   unfolding split
-  after-more i h = ap (split page) (opens n xs room i h)
+  after-more i h = ap (split page) (decode-drop section n i xs h room)
 
   after-none : (i : ℕ) → n ≤ i → after i ≡ []
   unfolding split
-  after-none i h = ap (split page) (ended n xs room i h)
+  after-none i h = ap (split page) (decode-end section n i xs h room)
 
   module _ (o i : ℕ) (e : anyWide o (after i) ≡ anyWide o (split page (decode n xs))) where
-    module _ (h : i < n) (t : Bool) (f : t ≡ anyWide o (pieces page (pairAt xs i))) where
-      open-wide : (anyWide o (pieces page (pairAt xs i)) || anyWide o (after (i + 1))) ≡ anyWide o (split page (decode n xs))
-      open-wide = sym (any-append (λ s. wide o (s .addr)) (pieces page (pairAt xs i)) (after (i + 1))) ∙ sym (ap (anyWide o) (after-more i h)) ∙ e
+    module _ (h : i < n) (t : Bool) (f : t ≡ anyWide o (pieces page (sectionAt xs i))) where
+      open-wide : (anyWide o (pieces page (sectionAt xs i)) || anyWide o (after (i + 1))) ≡ anyWide o (split page (decode n xs))
+      open-wide = sym (any-append (λ s. wide o (s .addr)) (pieces page (sectionAt xs i)) (after (i + 1))) ∙ sym (ap (anyWide o) (after-more i h)) ∙ e
 
       pub any-wide-found : t ≡ true → true ≡ anyWide o (split page (decode n xs))
       any-wide-found g = or-decides t _ (anyWide o (after (i + 1))) f g ∙ open-wide
@@ -220,13 +221,13 @@ module _ (page n : ℕ) (xs : List ℕ) where
     pub number : sat (m + pages i) ≡ sat (pages 0)
 
   module _ (p : 0 < page) (room : 2 * n ≤ length xs) where
-    pages-more : (i : ℕ) → i < n → pages i ≡ partOf Pages page (pairAt xs i) .count + pages (i + 1)
+    pages-more : (i : ℕ) → i < n → pages i ≡ partOf Pages page (sectionAt xs i) .count + pages (i + 1)
     pages-more i h =
-        let r = partOf Pages page (pairAt xs i) in
+        let r = partOf Pages page (sectionAt xs i) in
         ap (λ (m : List FreeSection). length (fromPage page m)) (after-more page n xs room i h)
-        ∙ ap length (from-append page (pieces page (pairAt xs i)) (after page n xs room (i + 1)))
-        ∙ length-append (fromPage page (pieces page (pairAt xs i))) (fromPage page (after page n xs room (i + 1)))
-        ∙ ap (λ (k : ℕ). k + pages (i + 1)) (ap length (from-pieces page (pairAt xs i) p) ∙ length-chain (r .addr) (r .size) (r .count))
+        ∙ ap length (from-append page (pieces page (sectionAt xs i)) (after page n xs room (i + 1)))
+        ∙ length-append (fromPage page (pieces page (sectionAt xs i))) (fromPage page (after page n xs room (i + 1)))
+        ∙ ap (λ (k : ℕ). k + pages (i + 1)) (ap length (from-pieces page (sectionAt xs i) p) ∙ length-chain (r .addr) (r .size) (r .count))
 
     pages-none : (i : ℕ) → n ≤ i → pages i ≡ 0
     unfolding fromPage
@@ -235,10 +236,10 @@ module _ (page n : ℕ) (xs : List ℕ) where
     pub paging-start : endsAbove (decode n xs) ≡ false → Paging 0 0
     paging-start h = record { within = omega arith; fits = h; few = omega arith; number = let e : 0 + pages 0 ≡ pages 0 = omega arith in ap sat e }
 
-    pub paging-turn : (m i : ℕ) → Paging m i → i < n → (c : Chain) (r : ℕ) → c ≡ partOf Pages page (pairAt xs i) → r ≡ sat (m + c .count) → Paging r (i + 1)
+    pub paging-turn : (m i : ℕ) → Paging m i → i < n → (c : Chain) (r : ℕ) → c ≡ partOf Pages page (sectionAt xs i) → r ≡ sat (m + c .count) → Paging r (i + 1)
     unfolding sat
     paging-turn m i q h c r e f =
-        let g : c .count ≡ partOf Pages page (pairAt xs i) .count = ap (λ (x : Chain). x .count) e in
+        let g : c .count ≡ partOf Pages page (sectionAt xs i) .count = ap (λ (x : Chain). x .count) e in
         record { within = omega arith; fits = fits-at n xs room i h (q .fits) .1; few = omega arith; number = omega (arith, q .number, pages-more i h) }
 
     pub paging-end : (m i : ℕ) → Paging m i → n ≤ i → m ≡ sat (pages 0)

@@ -16,6 +16,7 @@ use Rattle.error.specs.Answers.{numberOutcome}
 use Rattle.error.proofs.TestLaws.{and-true, or-false}
 use Rattle.error.proofs.OutcomeLaws.{NoneHolds, first-pass, first-answers, first-append, first-refuses}
 use Rattle.fields.specs.Ranges.{top}
+use Rattle.pairs.specs.Pairs.{isRun}
 use Rattle.fsm_sections.specs.declared.FreeSection.{FreeSection}
 use Rattle.fsm_sections.specs.Sections.{decode, space, All}
 use Rattle.fsm_sections.specs.Pages.{end, slot0, slot2, slot6}
@@ -26,7 +27,7 @@ use Rattle.fsm_writer.proofs.RunsLaws.{Tested, tests-show, large-given}
 use Rattle.fsm_plan.specs.declared.plan.Lengths.{Lengths}
 use Rattle.fsm_plan.specs.declared.plan.Measured.{Measured}
 use Rattle.fsm_plan.specs.declared.plan.Measured.the-variants as measured
-use Rattle.fsm_sections.specs.Runs.{isRun, endsAbove}
+use Rattle.fsm_sections.specs.Runs.{endsAbove}
 use Rattle.fsm_plan.specs.Plan.{lengthsAre, lengthsTests, lengthsOf, Ready, lengthsOutcome}
 
 -- ---- the length of one slot

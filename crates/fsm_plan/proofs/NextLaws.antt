@@ -8,12 +8,12 @@ use Rattle.fsm_sections.specs.declared.FreeSection.{FreeSection}
 use Rattle.fsm_sections.specs.declared.Chain.{Chain}
 use Rattle.fsm_sections.specs.declared.Taken.{Taken}
 use Rattle.fsm_sections.specs.declared.next.Region.{Region}
-use Rattle.fsm_sections.specs.Sections.{section}
+use Rattle.fsm_sections.specs.Sections.{section, sectionAt}
 use Rattle.fsm_sections.specs.declared.Part.the-variants.{Pages, Whole}
 use Rattle.fsm_sections.specs.Chains.{link}
 use Rattle.fsm_sections.specs.Sources.{partOf, rest, Given, Within}
 use Rattle.fsm_sections.proofs.NextLaws.{Picked}
-use Rattle.fsm_sections.proofs.SourceLaws.{pairAt, take-a, take-b, take-c, fits-a, fits-b}
+use Rattle.fsm_sections.proofs.SourceLaws.{take-a, take-b, take-c, fits-a, fits-b}
 use Rattle.fsm_sections.proofs.TakeLaws.{take-by}
 use Rattle.fsm_plan.specs.declared.chains.Counts.{Counts}
 use Rattle.fsm_plan.specs.Order.{atAddr, chainOf, Stepped, sourceOf, Next}
@@ -27,13 +27,13 @@ module _ (s : Counts) (a b c : List ℕ) (g : Given (sourceOf s) a b c) (i j k :
   unfolding partOf
   pages-step x e = inr (ap (λ (q : Chain). q .size) e)
 
-  next-a : i < s .na → r ≡ partOf Pages (s .page) (pairAt a i) → (t .i ≡ i + 1) × (t .j ≡ j) × (t .k ≡ k) → Next s a b c i j k t
-  next-a h e p = record { taking = take-a (sourceOf s) a b c g i j k at t h e p; stepped = pages-step (pairAt a i) e }
+  next-a : i < s .na → r ≡ partOf Pages (s .page) (sectionAt a i) → (t .i ≡ i + 1) × (t .j ≡ j) × (t .k ≡ k) → Next s a b c i j k t
+  next-a h e p = record { taking = take-a (sourceOf s) a b c g i j k at t h e p; stepped = pages-step (sectionAt a i) e }
 
-  next-b : j < s .nb → r ≡ partOf Pages (s .page) (pairAt b j) → (t .i ≡ i) × (t .j ≡ j + 1) × (t .k ≡ k) → Next s a b c i j k t
-  next-b h e p = record { taking = take-b (sourceOf s) a b c g i j k at t h e p; stepped = pages-step (pairAt b j) e }
+  next-b : j < s .nb → r ≡ partOf Pages (s .page) (sectionAt b j) → (t .i ≡ i) × (t .j ≡ j + 1) × (t .k ≡ k) → Next s a b c i j k t
+  next-b h e p = record { taking = take-b (sourceOf s) a b c g i j k at t h e p; stepped = pages-step (sectionAt b j) e }
 
-  next-c : k < s .nc → r ≡ partOf Whole (s .page) (pairAt c k) → t .count ≡ 1 → (t .i ≡ i) × (t .j ≡ j) × (t .k ≡ k + 1) → Next s a b c i j k t
+  next-c : k < s .nc → r ≡ partOf Whole (s .page) (sectionAt c k) → t .count ≡ 1 → (t .i ≡ i) × (t .j ≡ j) × (t .k ≡ k + 1) → Next s a b c i j k t
   next-c h e one p = record { taking = take-c (sourceOf s) a b c g i j k at t h e p; stepped = inl (omega arith) }
 
   -- of the region that comes next: of the third run it is taken uncut, of another its whole pages

@@ -17,13 +17,12 @@ use Rattle.error.proofs.OutcomeLaws.{first-none, first-holds, first-passes}
 use Rattle.error.proofs.OverLaws.{length-over}
 use Rattle.fields.specs.Ranges.{top}
 use Rattle.fields.specs.Width.{validWidth}
+use Rattle.pairs.proofs.PairLaws.{length-decode, over-flat}
 use Rattle.fsm_sections.specs.declared.FreeSection.{FreeSection}
-use Rattle.fsm_sections.specs.Sections.{decode, flat}
+use Rattle.fsm_sections.specs.Sections.{decode, flat, section}
 use Rattle.fsm_sections.specs.Pages.{split, fromPage, slot0, slot2, slot6}
-use Rattle.fsm_sections.proofs.SourceLaws.{length-decode}
 use Rattle.fsm_sections.proofs.SlotLaws.{slot6-runs}
 use Rattle.fsm_blocks.specs.Fshd.{fshdSize}
-use Rattle.fsm_blocks.proofs.PutLaws.{over-flat}
 use Rattle.fsm_writer.specs.Serializing.{wide, anyWide, blocksSize}
 use Rattle.fsm_writer.proofs.MeasureLaws.{size-least, part-room, part-back}
 use Rattle.fsm_plan.specs.declared.chains.Counts.{Counts}
@@ -33,6 +32,7 @@ use Rattle.fsm_plan.specs.declared.plan.PagedManagerPlan.{PagedManagerPl
 use Rattle.fsm_plan.specs.Order.{byAddr, repeats, inSlot6}
 use Rattle.fsm_plan.specs.Plan.{addressIn, endAt, planAt, wideBlock, wideBlocks, Placed, lengthsAre, countsAre, planTotal, planBehind, planned, lengthsTests, inSlot0, inSlot2, inLarge, Ready}
 use Rattle.fsm_plan.proofs.AllPiecesLaws.{length-parts, wide-mono}
+use Rattle.fsm_sections.proofs.SectionsLaws.{section-form}
 
 -- ---- numbers of sections
 
@@ -121,9 +121,9 @@ module _ (s : Counts) (a b c : List ℕ) (out : List ℕ) where
             let q = byAddr s6 in
             part-back y z (flat q) j (ze ∙ ap (λ (m : List FreeSection). over 0 (flat (byAddr m)) (take (length y - j) (drop j y))) large-is)
             ∙ ap₂ (λ (i : ℕ) (m : List ℕ). over i (flat q) m) je ye
-            ∙ over-flat k s2 q x
+            ∙ over-flat section-form k s2 q x
             ∙ ap₂ (λ (i : ℕ) (m : List ℕ). over i (flat (s2 ++ q)) m) ke xe
-            ∙ over-flat 0 s0 (s2 ++ q) out
+            ∙ over-flat section-form 0 s0 (s2 ++ q) out
 
 -- ---- `plan_behind`, by its branches
 
@@ -163,7 +163,7 @@ module _ (s : Counts) (a b c : List ℕ) (O start : ℕ) (l : Lengths) (out : Li
           let m = fromPage (s .page) (split (s .page) (decode (s .na) a)) in
           let r = fromPage (s .page) (split (s .page) (decode (s .nb) b)) in
           let d = decode (s .nc) c in
-          omega (arith, length-append m (r ++ d), length-append r d, length-decode (s .nc) c (h .given .room-c))
+          omega (arith, length-append m (r ++ d), length-append r d, length-decode section (s .nc) c (h .given .room-c))
 
       total-fits : planTotal l0 l2 l6 ≤ top
       total-fits = omega (arith, in-time, length-size O l0 (h .low), length-size O l2 (h .low), length-size O l6 (h .low))

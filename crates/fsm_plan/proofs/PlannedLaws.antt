@@ -16,6 +16,7 @@ use Rattle.error.proofs.TestLaws.{or-false}
 use Rattle.error.proofs.OutcomeLaws.{NoneHolds, first-answers, first-append}
 use Rattle.fields.specs.Ranges.{top}
 use Rattle.fields.specs.Width.{validWidth}
+use Rattle.pairs.specs.Pairs.{isEven}
 use Rattle.checksum.specs.Lookup3.{lookup3}
 use Rattle.fsm_sections.specs.declared.FreeSection.{FreeSection}
 use Rattle.fsm_sections.specs.Sections.{decode, flat, space, times, bySizeThenAddr}
@@ -31,7 +32,6 @@ use Rattle.fsm_writer.specs.Serializing.{ofRun, wide, anyOf, anyWide, blocksSiz
 use Rattle.fsm_writer.specs.Slots.{sizeTests}
 use Rattle.fsm_plan.specs.declared.plan.PagedManagerPlan.{PagedManagerPlan}
 use Rattle.fsm_plan.specs.Managers.{manager, managersOf, managerSize, sizeOf, slotsFrom}
-use Rattle.fsm_sections.specs.Runs.{isEven}
 use Rattle.fsm_plan.specs.Order.{turned, byAddr, InOrder, repeats}
 use Rattle.fsm_plan.specs.Plan.{addressIn, endAt, planAt, wideBlock, wideBlocks, lengthsAre, countsAre, planTotal, planBehind, lengthsTests, planned}
 use Rattle.fsm_plan.proofs.OrderLaws.{turned-twice, times-turned}

@@ -32,6 +32,7 @@ use Rattle.error.specs.Outcome.{Outcome, answer, refused, Condition, when, firs
 use Rattle.error.specs.Lent.{With, with, over}
 use Rattle.fields.specs.Ranges.{top}
 use Rattle.fields.specs.Width.{validWidth}
+use Rattle.pairs.specs.Pairs.{isEven, isRun}
 use Rattle.fsm_sections.specs.declared.FreeSection.{FreeSection}
 use Rattle.fsm_sections.specs.Sections.{decode, flat}
 use Rattle.fsm_sections.specs.Pages.{slot0, slot2, slot6}
@@ -48,7 +49,7 @@ use Rattle.fsm_plan.specs.declared.plan.PagedManagerPlan.{PagedManagerPl
 use Rattle.fsm_plan.specs.declared.plan.SectionCounts.{SectionCounts}
 use Rattle.fsm_plan.specs.declared.plan.Planned.{Planned}
 use Rattle.fsm_plan.specs.declared.plan.Planned.the-variants as code
-use Rattle.fsm_sections.specs.Runs.{isEven, isRun, endsAbove}
+use Rattle.fsm_sections.specs.Runs.{endsAbove}
 use Rattle.fsm_plan.specs.Order.{byAddr, repeats, sourceOf}
 
 abbrev pub addressIn : ℕ → ℕ → ℕ

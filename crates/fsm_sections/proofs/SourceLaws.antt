@@ -1,7 +1,7 @@
 -- A source's chains by their place, and the parts of a region as the code makes them. Assumes nothing.
 use mathlib.Core.Path.{_≡_, refl, sym, ap, ap₂, _∙_, subst}
-use Prim.Native.Nat.{ℕ, zero, suc, _+_, _-_, _*_, _/_, _%_, _^_, min, _≤_, _<_}
-use native.Mathlib.Nat.{le-of-suc-le-suc, not-suc-le-zero, div-mul-le-self}
+use Prim.Native.Nat.{ℕ, _+_, _-_, _*_, _/_, _%_, _^_, min, _≤_, _<_}
+use native.Mathlib.Nat.{div-mul-le-self}
 use native.Mathlib.Omega.{arith}
 use native.Mathlib.Numerals.{add-one}
 use mathlib.Core.Bool.{Bool, true, false, cond}
@@ -10,8 +10,9 @@ use borrow.Author.Tests.{eq-eqb, ne-eqb}
 use lib.Dec.{eqb}
 use lib.ListN.{length, length-map, drop, getD, drop-of-length-le}
 use lib.Seq.{drop-cons}
+use Rattle.pairs.proofs.PairLaws.{length-decode, decode-at, decode-map}
 use Rattle.fsm_sections.specs.declared.FreeSection.{FreeSection}
-use Rattle.fsm_sections.specs.Sections.{section, decode, bySizeThenAddr, All}
+use Rattle.fsm_sections.specs.Sections.{section, decode, bySizeThenAddr, All, sectionAt}
 use Rattle.fsm_sections.specs.Chains.{link, chain, sectionsOf, ChainFits}
 use Rattle.fsm_sections.specs.Sources.{one, headSize, bodySize, partOf, chainsOf, rest, PartFits, Within, Taking, Given}
 use Rattle.fsm_sections.specs.declared.Chain.{Chain}
@@ -20,46 +21,14 @@ use Rattle.fsm_sections.specs.declared.Part.the-variants.{Head, Pages, T
 use Rattle.fsm_sections.specs.declared.Source.{Source}
 use Rattle.fsm_sections.specs.declared.Taken.{Taken}
 use Rattle.fsm_sections.proofs.SlotLaws.{times-append, sections-append, same-order}
+use Rattle.fsm_sections.proofs.AllLaws.{all-getD}
 
-double : (n : ℕ) → 2 * suc n ≡ suc (suc (2 * n))
-double n = omega arith
+pub all-at : (P : FreeSection → Type 0) (n i : ℕ) (xs : List ℕ) → i < n → 2 * n ≤ length xs → All P (decode n xs) → P (sectionAt xs i)
+all-at P n i xs l h a =
+    subst P (decode-at section n i xs (section 0 0) l h) (all-getD P (decode n xs) i (section 0 0) (omega (arith, length-decode section n xs h)) a)
 
--- the i-th pair
-abbrev pub pairAt : List ℕ → ℕ → FreeSection
-pairAt xs n = section (getD xs (2 * n) 0) (getD xs (2 * n + 1) 0)
-
-pub length-decode : (n : ℕ) (xs : List ℕ) → 2 * n ≤ length xs → length (decode n xs) ≡ n
-length-decode zero xs h = refl
-length-decode (suc n) [] h = absurd (omega arith)
-length-decode (suc n) (a ∷ []) h = absurd (omega arith)
-length-decode (suc n) (a ∷ z ∷ xs) h = ap suc (length-decode n xs (omega arith))
-
-pub decode-at : (n i : ℕ) (xs : List ℕ) (d : FreeSection) → i < n → 2 * n ≤ length xs → getD (decode n xs) i d ≡ pairAt xs i
-decode-at zero i xs d l h = absurd (not-suc-le-zero l)
-decode-at (suc n) i [] d l h = absurd (omega arith)
-decode-at (suc n) i (a ∷ []) d l h = absurd (omega arith)
-decode-at (suc n) zero (a ∷ b ∷ xs) d l h = refl
-decode-at (suc n) (suc i) (a ∷ b ∷ xs) d l h =
-    let e : 2 * suc i + 1 ≡ suc (suc (2 * i + 1)) = omega arith in
-    rw (e, double) (decode-at n i xs d (le-of-suc-le-suc l) (omega arith))
-
-all-at : (P : FreeSection → Type 0) (n i : ℕ) (xs : List ℕ) → i < n → 2 * n ≤ length xs → All P (decode n xs) → P (pairAt xs i)
-all-at P zero i xs l h a = absurd (not-suc-le-zero l)
-all-at P (suc n) i [] l h a = absurd (omega arith)
-all-at P (suc n) i (x ∷ []) l h a = absurd (omega arith)
-all-at P (suc n) zero (x ∷ y ∷ xs) l h a = a .0
-all-at P (suc n) (suc i) (x ∷ y ∷ xs) l h a =
-    let e : 2 * suc i + 1 ≡ suc (suc (2 * i + 1)) = omega arith in
-    rw (e, double) (all-at P n i xs (le-of-suc-le-suc l) (omega arith) (a .1))
-
-map-at : (q : Part) (page n i : ℕ) (xs : List ℕ) (d : Chain) → i < n → 2 * n ≤ length xs → getD (map (partOf q page) (decode n xs)) i d ≡ partOf q page (pairAt xs i)
-map-at q page zero i xs d l h = absurd (not-suc-le-zero l)
-map-at q page (suc n) i [] d l h = absurd (omega arith)
-map-at q page (suc n) i (x ∷ []) d l h = absurd (omega arith)
-map-at q page (suc n) zero (x ∷ y ∷ xs) d l h = refl
-map-at q page (suc n) (suc i) (x ∷ y ∷ xs) d l h =
-    let e : 2 * suc i + 1 ≡ suc (suc (2 * i + 1)) = omega arith in
-    rw (e, double) (map-at q page n i xs d (le-of-suc-le-suc l) (omega arith))
+map-at : (q : Part) (page n i : ℕ) (xs : List ℕ) (d : Chain) → i < n → 2 * n ≤ length xs → getD (map (partOf q page) (decode n xs)) i d ≡ partOf q page (sectionAt xs i)
+map-at q page n i xs d l h = ap (λ (m : List Chain). getD m i d) (decode-map section (partOf q page) n xs) ∙ decode-at (λ a z. partOf q page (section a z)) n i xs d l h
 
 -- ---- how much of a region stands before its first page multiple
 pub head-no-page : (page : ℕ) (r : FreeSection) → page ≡ 0 → 0 ≡ headSize page r
@@ -112,21 +81,21 @@ module _ (s : Source) (a b c : List ℕ) (g : Given s a b c) where
   C = map (partOf (s .pc) (s .page)) (decode (s .nc) c)
 
   la : length A ≡ s .na
-  la = length-map (decode (s .na) a) (partOf (s .pa) (s .page)) ∙ length-decode (s .na) a (g .room-a)
+  la = length-map (decode (s .na) a) (partOf (s .pa) (s .page)) ∙ length-decode section (s .na) a (g .room-a)
 
   lb : length B ≡ s .nb
-  lb = length-map (decode (s .nb) b) (partOf (s .pb) (s .page)) ∙ length-decode (s .nb) b (g .room-b)
+  lb = length-map (decode (s .nb) b) (partOf (s .pb) (s .page)) ∙ length-decode section (s .nb) b (g .room-b)
 
   lc : length C ≡ s .nc
-  lc = length-map (decode (s .nc) c) (partOf (s .pc) (s .page)) ∙ length-decode (s .nc) c (g .room-c)
+  lc = length-map (decode (s .nc) c) (partOf (s .pc) (s .page)) ∙ length-decode section (s .nc) c (g .room-c)
 
-  pub fits-a : (j : ℕ) → j < s .na → PartFits (s .pa) (pairAt a j)
+  pub fits-a : (j : ℕ) → j < s .na → PartFits (s .pa) (sectionAt a j)
   fits-a j h = all-at (PartFits (s .pa)) (s .na) j a h (g .room-a) (g .fit-a)
 
-  pub fits-b : (j : ℕ) → j < s .nb → PartFits (s .pb) (pairAt b j)
+  pub fits-b : (j : ℕ) → j < s .nb → PartFits (s .pb) (sectionAt b j)
   fits-b j h = all-at (PartFits (s .pb)) (s .nb) j b h (g .room-b) (g .fit-b)
 
-  pub fits-c : (j : ℕ) → j < s .nc → PartFits (s .pc) (pairAt c j)
+  pub fits-c : (j : ℕ) → j < s .nc → PartFits (s .pc) (sectionAt c j)
   fits-c j h = all-at (PartFits (s .pc)) (s .nc) j c h (g .room-c) (g .fit-c)
 
   -- ---- a chain is taken of what is left
@@ -145,29 +114,29 @@ module _ (s : Source) (a b c : List ℕ) (g : Given s a b c) where
     unfolding sectionsOf
     front-in l m = rw (sections-append l (r ∷ m), sections-append l m) (swap (sectionsOf l) front (sectionsOf m))
 
-    pub take-a : i < s .na → r ≡ partOf (s .pa) (s .page) (pairAt a i) → (t .i ≡ i + 1) × (t .j ≡ j) × (t .k ≡ k) → Taking s a b c i j k t
+    pub take-a : i < s .na → r ≡ partOf (s .pa) (s .page) (sectionAt a i) → (t .i ≡ i + 1) × (t .j ≡ j) × (t .k ≡ k) → Taking s a b c i j k t
     unfolding rest sectionsOf
     take-a h e p = record {
-      fits = fit (s .pa) (pairAt a i) e (fits-a i h);
+      fits = fit (s .pa) (sectionAt a i) e (fits-a i h);
       within = record { a-in = omega arith; b-in = omega (arith, at .b-in); c-in = omega (arith, at .c-in) };
       one-more = omega arith;
       same = rw (p .0, p .1, p .2, opens A i (omega (arith, la)) r (e ∙ sym (map-at (s .pa) (s .page) (s .na) i a (link 0 0 0) h (g .room-a))));
     }
 
-    pub take-b : j < s .nb → r ≡ partOf (s .pb) (s .page) (pairAt b j) → (t .i ≡ i) × (t .j ≡ j + 1) × (t .k ≡ k) → Taking s a b c i j k t
+    pub take-b : j < s .nb → r ≡ partOf (s .pb) (s .page) (sectionAt b j) → (t .i ≡ i) × (t .j ≡ j + 1) × (t .k ≡ k) → Taking s a b c i j k t
     unfolding rest
     take-b h e p = record {
-      fits = fit (s .pb) (pairAt b j) e (fits-b j h);
+      fits = fit (s .pb) (sectionAt b j) e (fits-b j h);
       within = record { a-in = omega (arith, at .a-in); b-in = omega arith; c-in = omega (arith, at .c-in) };
       one-more = omega arith;
       same = rw (p .0, p .1, p .2, opens B j (omega (arith, lb)) r (e ∙ sym (map-at (s .pb) (s .page) (s .nb) j b (link 0 0 0) h (g .room-b))))
           (front-in (drop i A) (drop (j + 1) B ++ drop k C));
     }
 
-    pub take-c : k < s .nc → r ≡ partOf (s .pc) (s .page) (pairAt c k) → (t .i ≡ i) × (t .j ≡ j) × (t .k ≡ k + 1) → Taking s a b c i j k t
+    pub take-c : k < s .nc → r ≡ partOf (s .pc) (s .page) (sectionAt c k) → (t .i ≡ i) × (t .j ≡ j) × (t .k ≡ k + 1) → Taking s a b c i j k t
     unfolding rest
     take-c h e p = record {
-      fits = fit (s .pc) (pairAt c k) e (fits-c k h);
+      fits = fit (s .pc) (sectionAt c k) e (fits-c k h);
       within = record { a-in = omega (arith, at .a-in); b-in = omega (arith, at .b-in); c-in = omega arith };
       one-more = omega arith;
       same = rw (p .0, p .1, p .2, opens C k (omega (arith, lc)) r (e ∙ sym (map-at (s .pc) (s .page) (s .nc) k c (link 0 0 0) h (g .room-c))))

@@ -1,13 +1,12 @@
 -- Counts over a source's sections, run by run: what a region adds, and what the three runs come to. Assumes nothing.
-use mathlib.Core.Path.{_≡_, refl, ap, _∙_, subst}
-use Prim.Native.Nat.{ℕ, zero, suc, _+_, _-_, _*_, _%_, _≤_, _<_}
-use native.Mathlib.Nat.{le-of-suc-le-suc, not-suc-le-zero, div-mul-le-self, div-add-mod'}
-use native.Mathlib.Numerals.{add-one}
+use mathlib.Core.Path.{_≡_, refl, sym, ap, _∙_}
+use Prim.Native.Nat.{ℕ, _+_, _-_, _*_, _%_, _≤_, _<_}
+use native.Mathlib.Nat.{div-mul-le-self, div-add-mod'}
 use native.Mathlib.Omega.{arith}
 use mathlib.Core.Bool.{Bool, true, false, cond}
-use mathlib.Core.List.{List, [], _∷_, _++_, map}
+use mathlib.Core.List.{List, [], _∷_, _++_}
 use lib.Dec.{eqb}
-use lib.ListN.{length, length-map, length-append, drop, drop-of-length-le}
+use lib.ListN.{length, length-append, drop}
 use Rattle.fields.specs.Ranges.{top}
 use Rattle.error.specs.declared.Refusal.the-variants.{Overflow}
 use Rattle.error.specs.Outcome.{answer, refused}
@@ -15,25 +14,23 @@ use Rattle.error.specs.declared.Number.{Number}
 use Rattle.error.specs.declared.Number.the-variants as number
 use Rattle.error.specs.declared.Refusal.{Refusal}
 use Rattle.error.specs.Answers.{numberOutcome}
+use Rattle.pairs.specs.Pairs as pairs
+use Rattle.pairs.proofs.PairLaws.{decode-drop, decode-end, decode-map}
 use Rattle.fsm_sections.specs.declared.FreeSection.{FreeSection}
 use Rattle.fsm_sections.specs.declared.Part.{Part}
 use Rattle.fsm_sections.specs.declared.Part.the-variants.{Head, Pages, Tail, Whole}
 use Rattle.fsm_sections.specs.declared.Chain.{Chain}
 use Rattle.fsm_sections.specs.declared.Source.{Source}
-use Rattle.fsm_sections.specs.Sections.{section, decode, space}
+use Rattle.fsm_sections.specs.Sections.{section, decode, space, sectionAt}
 use Rattle.fsm_sections.specs.Chains.{chain, sectionsOf}
 use Rattle.fsm_sections.specs.Sources.{headSize, bodySize, partOf, chainsIn, chainsOf, PartFits}
 use Rattle.fsm_sections.specs.Passes.{spaceOf}
-use Rattle.fsm_sections.proofs.AllLaws.{all-getD}
 use Rattle.fsm_sections.proofs.SlotLaws.{sections-append}
 use Rattle.fsm_sections.proofs.SizesLaws.{length-chain}
-use Rattle.fsm_sections.proofs.SourceLaws.{pairAt, length-decode, decode-at}
 use Rattle.fsm_sections.proofs.TakeLaws.{space-append, space-chain}
+use Rattle.fsm_sections.proofs.SourceLaws.{all-at}
 use Rattle.fsm_writer.specs.Counting.{RunGiven, storable}
 use Rattle.fsm_writer.proofs.StoredLaws.{too-great, great-enough, stored-is, stored-not}
-
-double : (n : ℕ) → 2 * suc n ≡ suc (suc (2 * n))
-double n = omega arith
 
 -- ---- a run's chains
 
@@ -53,15 +50,9 @@ module _ (q : Part) (page : ℕ) where
       by Tail = omega (arith, few (eqb (bodySize page r % page) 0) (bodySize page r % page), div-add-mod' (bodySize page r) page)
       by Whole = omega arith
 
-  opens : (n i : ℕ) (xs : List ℕ) → i < n → 2 * n ≤ length xs
-      → drop i (map (partOf q page) (decode n xs)) ≡ partOf q page (pairAt xs i) ∷ drop (suc i) (map (partOf q page) (decode n xs))
-  opens zero i xs l h = absurd (not-suc-le-zero l)
-  opens (suc n) i [] l h = absurd (omega arith)
-  opens (suc n) i (a ∷ []) l h = absurd (omega arith)
-  opens (suc n) zero (a ∷ b ∷ xs) l h = refl
-  opens (suc n) (suc i) (a ∷ b ∷ xs) l h =
-      let e : 2 * suc i + 1 ≡ suc (suc (2 * i + 1)) = omega arith in
-      rw (e, double) (opens n i xs (le-of-suc-le-suc l) (omega arith))
+  -- a part of each region of a run is made of its pairs
+  parts-are : (n : ℕ) (xs : List ℕ) → chainsIn q page (decode n xs) ≡ pairs.decode (λ a z. partOf q page (section a z)) n xs
+  parts-are n xs = decode-map section (partOf q page) n xs
 
   module _ (run : List ℕ) (n : ℕ) (g : RunGiven q page run n) where
     -- the sections of the regions from the i-th on
@@ -69,26 +60,23 @@ module _ (q : Part) (page : ℕ) where
     from i = sectionsOf (drop i (chainsIn q page (decode n run)))
 
     pub none-left : (i : ℕ) → n ≤ i → drop i (chainsIn q page (decode n run)) ≡ []
-    none-left i h = drop-of-length-le (chainsIn q page (decode n run)) {i = i} (omega (arith, length-map (decode n run) (partOf q page), length-decode n run (g .room)))
+    none-left i h = ap (drop i) (parts-are n run) ∙ decode-end (λ a z. partOf q page (section a z)) n i run h (g .room)
 
     module _ (i : ℕ) (h : i < n) where
-      pub region-fits : (0 < page) × PartFits q (pairAt run i)
-      region-fits = (
-        g .some,
-        subst (PartFits q) (decode-at n i run (section 0 0) h (g .room))
-            (all-getD (PartFits q) (decode n run) i (section 0 0) (omega (arith, length-decode n run (g .room))) (g .fit)),
-      )
+      pub region-fits : (0 < page) × PartFits q (sectionAt run i)
+      region-fits = (g .some, all-at (PartFits q) n i run h (g .room) (g .fit))
 
-      module _ (r : Chain) (e : r ≡ partOf q page (pairAt run i)) where
+      module _ (r : Chain) (e : r ≡ partOf q page (sectionAt run i)) where
         pub region-chain : drop i (chainsIn q page (decode n run)) ≡ r ∷ drop (i + 1) (chainsIn q page (decode n run))
-        region-chain = rw (add-one, opens n i run h (g .room), ← e)
+        region-chain =
+            rw (parts-are n run, decode-drop (λ a z. partOf q page (section a z)) n i run h (g .room)) (ap (λ (x : Chain). x ∷ drop (i + 1) (pairs.decode (λ a z. partOf q page (section a z)) n run)) (sym e))
 
         region-first : from i ≡ chain (r .addr) (r .size) (r .count) ++ from (i + 1)
         unfolding sectionsOf
         region-first = ap sectionsOf region-chain
 
-        pub region-space : r .count * r .size ≤ pairAt run i .size
-        region-space = rw e (part-within (pairAt run i))
+        pub region-space : r .count * r .size ≤ sectionAt run i .size
+        region-space = rw e (part-within (sectionAt run i))
 
         space-step : space (from i) ≡ r .count * r .size + space (from (i + 1))
         space-step = ap space region-first ∙ space-append (chain (r .addr) (r .size) (r .count)) (from (i + 1)) ∙ rw (space-chain (r .addr) (r .size) (r .count))

@@ -19,6 +19,8 @@ use Rattle.error.proofs.TestLaws.{le-or-lt, and-true, or-false}
 use Rattle.error.proofs.OutcomeLaws.{NoneHolds, first-none, first-holds, first-passes, first-pass, first-answers, first-refuses}
 use Rattle.fields.specs.Ranges.{top}
 use Rattle.fields.specs.Width.{validWidth}
+use Rattle.pairs.specs.Pairs.{isRun}
+use Rattle.pairs.proofs.RunLaws.{run-room}
 use Rattle.fsm_sections.specs.declared.FreeSection.{FreeSection}
 use Rattle.fsm_sections.specs.declared.Part.{Part}
 use Rattle.fsm_sections.specs.declared.Part.the-variants.{Head, Pages, Tail, Whole}
@@ -30,7 +32,7 @@ use Rattle.fsm_sections.specs.Passes.{Numbers}
 use Rattle.fsm_sections.proofs.AllLaws.{all-append, all-map}
 use Rattle.fsm_sections.proofs.SlotLaws.{sections-append, slot0-runs, slot6-runs, same-order}
 use Rattle.fsm_writer.specs.Serializing.{anyOf}
-use Rattle.fsm_sections.specs.Runs.{isRun, endsAbove}
+use Rattle.fsm_sections.specs.Runs.{endsAbove}
 use Rattle.fsm_writer.specs.Slots.{runTests}
 
 -- ---- tests of one run
@@ -41,16 +43,6 @@ late-is a z h =
     (λ (p : a ≤ 18446744073709551615 - z). le-ltb (18446744073709551615 - z) a p ∙ sym (le-ltb top (a + z) (omega arith)))
     (λ (p : 18446744073709551615 - z < a). lt-ltb (18446744073709551615 - z) a p ∙ sym (lt-ltb top (a + z) (omega arith)))
     (le-or-lt a (18446744073709551615 - z))
-
-module _ (xs : List ℕ) (n : ℕ) where
-  pub run-odd : (length xs % 2 ≡ 0 → ⊥) → false ≡ isRun xs n
-  run-odd h = sym (rw (ne-eqb (length xs % 2) 0 h))
-
-  pub run-even : length xs % 2 ≡ 0 → leb n (length xs / 2) ≡ isRun xs n
-  run-even e = sym (rw (eq-eqb (length xs % 2) 0 e))
-
-  pub run-room : isRun xs n ≡ true → 2 * n ≤ length xs
-  run-room e = let p : n ≤ length xs / 2 = leb-true n (length xs / 2) (and-true (eqb (length xs % 2) 0) (leb n (length xs / 2)) e .1) in omega arith
 
 pub ends-any : (rs : List FreeSection) → endsAbove rs ≡ anyOf (λ r. ltb top (end r)) rs
 unfolding anyOf

@@ -4,12 +4,10 @@ use mathlib.Core.Logic.{⊎-elim}
 use Prim.Native.Nat.{ℕ, _+_, _*_, _/_, _%_, _^_, _≤_, _<_}
 use native.Mathlib.Nat.{pow-le-pow-right, mul-le-mul}
 use native.Mathlib.Omega.{arith}
-use native.Mathlib.Numerals.{add-one}
 use mathlib.Core.Bool.{Bool, true, false, not, _||_}
 use mathlib.Core.List.{List, [], _∷_}
 use lib.Dec.{ltb, leb, eqb}
-use lib.ListN.{length, drop, getD, drop-of-length-le}
-use lib.Seq.{drop-cons}
+use lib.ListN.{length, drop, getD}
 use borrow.Author.Tests.{ltb-false, leb-true, lt-ltb, le-ltb, le-leb, lt-leb, eq-eqb, ne-eqb}
 use Rattle.error.specs.declared.Number.{Number}
 use Rattle.error.specs.declared.Number.the-variants as number
@@ -23,15 +21,15 @@ use Rattle.error.proofs.OutcomeLaws.{first-holds, first-passes, first-none, fir
 use Rattle.fields.specs.Ranges.{top}
 use Rattle.fields.specs.Width.{encSize, validWidth}
 use Rattle.fields.proofs.WidthLaws.{encSize-least}
+use Rattle.pairs.proofs.PairLaws.{length-decode, decode-drop, decode-end}
 use Rattle.checksum.specs.Lookup3.{lookup3}
 use Rattle.fsm_sections.specs.declared.FreeSection.{FreeSection}
 use Rattle.fsm_sections.specs.declared.Source.{Source}
-use Rattle.fsm_sections.specs.Sections.{section, decode, space, distinct, All}
+use Rattle.fsm_sections.specs.Sections.{section, decode, space, distinct, All, sectionAt}
 use Rattle.fsm_sections.specs.Chains.{sectionsOf}
 use Rattle.fsm_sections.specs.Sources.{chainsOf, plainSource, Given}
 use Rattle.fsm_sections.specs.Passes.{spaceOf, Numbers}
 use Rattle.fsm_sections.proofs.SlotLaws.{plain-runs}
-use Rattle.fsm_sections.proofs.SourceLaws.{pairAt, length-decode, decode-at}
 use Rattle.fsm_blocks.specs.Fshd.{Header, fshdBytes, fshdSize}
 use Rattle.fsm_blocks.specs.Fsse.{fsseSize}
 use Rattle.fsm_blocks.specs.Groups.{Widths}
@@ -63,7 +61,7 @@ module _ (n : ℕ) (run : List ℕ) where
   plain-all = sym (plain-runs n run run run)
 
   pub plain-few : 2 * n ≤ length run → n < 2 ^ 64 → length (sectionsOf (chainsOf (plainSource n) run run run)) < 2 ^ 64
-  plain-few room h = rw plain-all (omega (arith, length-decode n run room))
+  plain-few room h = rw plain-all (omega (arith, length-decode section n run room))
 
 -- ---- what follows on a refusal and on an answer
 
@@ -170,33 +168,30 @@ wide-is o a h k = ⊎-elim big small (le-or-lt (256 ^ o) a)
 -- ---- a test of each section, one by one
 
 module _ (test : FreeSection → Bool) (n : ℕ) (run : List ℕ) (room : 2 * n ≤ length run) (i : ℕ) (h : i < n) where
-  opens : drop i (decode n run) ≡ pairAt run i ∷ drop (i + 1) (decode n run)
-  opens = rw (add-one i) (drop-cons (decode n run) i (section 0 0) (omega (arith, length-decode n run room)) ∙ rw (decode-at n i run (section 0 0) h room))
-
-  pub any-found : (t : Bool) → t ≡ test (pairAt run i) → t ≡ true → anyOf test (drop i (decode n run)) ≡ anyOf test (decode n run) → true ≡ anyOf test (decode n run)
+  pub any-found : (t : Bool) → t ≡ test (sectionAt run i) → t ≡ true → anyOf test (drop i (decode n run)) ≡ anyOf test (decode n run) → true ≡ anyOf test (decode n run)
   unfolding anyOf
-  any-found t e f p = sym (sym p ∙ rw (opens, ← e, f))
+  any-found t e f p = sym (sym p ∙ rw (decode-drop section n i run h room, ← e, f))
 
-  pub any-turn : (t : Bool) → t ≡ test (pairAt run i) → t ≡ false → anyOf test (drop i (decode n run)) ≡ anyOf test (decode n run)
+  pub any-turn : (t : Bool) → t ≡ test (sectionAt run i) → t ≡ false → anyOf test (drop i (decode n run)) ≡ anyOf test (decode n run)
       → anyOf test (drop (i + 1) (decode n run)) ≡ anyOf test (decode n run)
   unfolding anyOf
-  any-turn t e f p = sym (ap (anyOf test) opens ∙ rw (← e, f)) ∙ p
+  any-turn t e f p = sym (ap (anyOf test) (decode-drop section n i run h room) ∙ rw (← e, f)) ∙ p
 
 pub any-none : (test : FreeSection → Bool) (n i : ℕ) (run : List ℕ) → 2 * n ≤ length run → n ≤ i → anyOf test (drop i (decode n run)) ≡ anyOf test (decode n run) → false ≡ anyOf test (decode n run)
 unfolding anyOf
-any-none test n i run room h p = ap (anyOf test) (sym (drop-of-length-le (decode n run) {i = i} (omega (arith, length-decode n run room)))) ∙ p
+any-none test n i run room h p = ap (anyOf test) (sym (decode-end section n i run h room)) ∙ p
 
 -- ---- lengths
 
 module _ (o n : ℕ) (run : List ℕ) (low : 1 ≤ o) (room : 2 * n ≤ length run) (d cw : ℕ) (de : d ≡ distinct (sectionsOf (chainsOf (plainSource n) run run run))) (ce : cw ≡ encSize n) where
   pub used-run : 9 + o + d * (cw + 8) + n * (o + 1) ≡ fsseUsed o (startingSet o) (decode n run)
   used-run =
-      let e : length (decode n run) ≡ n = length-decode n run room in
+      let e : length (decode n run) ≡ n = length-decode section n run room in
       sym (ap (λ (v : Widths). fsseSize v o (decode n run)) (widths-are o (length (decode n run)) low)
       ∙ rw (e, ← plain-all n run, ← de, ← ce))
 
   pub few-sizes : d ≤ n
-  few-sizes = omega (arith, de, ap distinct (plain-all n run), distinct-few (decode n run), length-decode n run room)
+  few-sizes = omega (arith, de, ap distinct (plain-all n run), distinct-few (decode n run), length-decode section n run room)
 
 pub used-few : (o n : ℕ) (run : List ℕ) → 1 ≤ o → o ≤ 8 → 2 * n ≤ length run → n < 2 ^ 64 → fsseUsed o (startingSet o) (decode n run) ≤ 17 + 25 * n
 used-few o n run low high room fits =
@@ -214,13 +209,13 @@ module _ (O : ℕ) (run : List ℕ) (n sum : ℕ) (h : Accepted O run n sum) whe
   pub blocks-none : n ≡ 0 → answer 0 ≡ blocksLen O run n
   unfolding blocksLen
   blocks-none e =
-      let z : length (decode n run) ≡ 0 = length-decode n run (h .room) ∙ e in
+      let z : length (decode n run) ≡ 0 = length-decode section n run (h .room) ∙ e in
       sym (rw (eq-eqb (length (decode n run)) 0 z)) ∙ accepted-then O run n sum h (λ l. answer (blocksSize O l))
 
   pub blocks-some : (n ≡ 0 → ⊥) → (used : ℕ) → used ≡ fsseUsed O (startingSet O) (decode n run) → answer (74 + O + used) ≡ blocksLen O run n
   unfolding blocksLen
   blocks-some e used u =
-      let z : length (decode n run) ≡ 0 → ⊥ = λ q. e (sym (length-decode n run (h .room)) ∙ q) in
+      let z : length (decode n run) ≡ 0 → ⊥ = λ q. e (sym (length-decode section n run (h .room)) ∙ q) in
       ap (λ (m : ℕ). answer (74 + O + m)) u ∙ sym (rw (ne-eqb (length (decode n run)) 0 z))
       ∙ accepted-then O run n sum h (λ l. answer (blocksSize O l))
 
@@ -272,7 +267,7 @@ module _ (O : ℕ) (run : List ℕ) (n sum : ℕ) (h : Accepted O run n sum) (fs
   fshd-done e k used u y p =
       let q : headerOf O (startingSet O) sum n fsse used ≡ headerFor O (startingSet O) fsse (decode n run) =
       ap (λ (m : ℕ). headerOf O (startingSet O) m n fsse used) (h .is-sum)
-      ∙ ap (λ (m : ℕ). headerOf O (startingSet O) (space (decode n run)) m fsse used) (sym (length-decode n run (h .room)))
+      ∙ ap (λ (m : ℕ). headerOf O (startingSet O) (space (decode n run)) m fsse used) (sym (length-decode section n run (h .room)))
       ∙ ap (λ (m : ℕ). headerOf O (startingSet O) (space (decode n run)) (length (decode n run)) fsse m) u in
       let z : y ≡ over 0 (fshdBytes lookup3 O (headerFor O (startingSet O) fsse (decode n run))) out = p ∙ ap (λ (m : Header). over 0 (fshdBytes lookup3 O m) out) q in
       ap (λ (m : List ℕ). left (answer (74 + O)) m) z
@@ -330,4 +325,4 @@ pub run-asked : (O : ℕ) (run : List ℕ) (n sum : ℕ) → Accepted O run n su
 run-asked O run n sum h numbers m u k f s e =
     rw e
     (rw (plain-all n run)
-    (plain-given n run (h .room), (run-numbers n run numbers, ((h .low, h .high), (sym (length-decode n run (h .room)), (u, f))))))
+    (plain-given n run (h .room), (run-numbers n run numbers, ((h .low, h .high), (sym (length-decode section n run (h .room)), (u, f))))))

@@ -19,11 +19,12 @@ use Rattle.error.specs.Outcome.{Outcome, answer, Condition, when, firstOf}
 use Rattle.error.specs.Lent.{With, with, over}
 use Rattle.fields.specs.Ranges.{top}
 use Rattle.fields.specs.Width.{validWidth}
+use Rattle.pairs.specs.Pairs.{isRun}
 use Rattle.checksum.specs.Lookup3.{lookup3}
 use Rattle.fsm_sections.specs.declared.FreeSection.{FreeSection}
 use Rattle.fsm_sections.specs.Sections.{decode, space}
 use Rattle.fsm_sections.specs.Pages.{slot0, slot6}
-use Rattle.fsm_sections.specs.Runs.{isRun, endsAbove}
+use Rattle.fsm_sections.specs.Runs.{endsAbove}
 use Rattle.fsm_blocks.specs.Fshd.{fshdBytes, fshdSize}
 use Rattle.fsm_blocks.specs.Managers.{startingSet, headerFor, fsseFor}
 use Rattle.fsm_writer.specs.declared.slots.Slot.{Slot}

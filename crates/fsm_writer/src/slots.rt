@@ -15,7 +15,8 @@ ghost use Rattle.fsm_sections.specs.Chains.{sectionsOf};
 ghost use Rattle.fsm_sections.specs.Sources.{chainsOf, Given, smallSource, largeSource};
 ghost use Rattle.fsm_sections.specs.Passes.{Numbers};
 ghost use Rattle.fsm_writer.specs.Serializing.{writtenOutcome};
-ghost use Rattle.fsm_sections.specs.Runs.{isRun, endsAbove};
+ghost use Rattle.pairs.specs.Pairs.{isRun};
+ghost use Rattle.fsm_sections.specs.Runs.{endsAbove};
 ghost use Rattle.fsm_writer.specs.Slots.{runTests, lenOf, slotBytes, writtenBlocks, slotLen, writtenSlot};
 ghost use Rattle.fsm_writer.specs.Counting.{storable};
 ghost use Rattle.fsm_writer.specs.Measuring.{measureOf, measured, measuredOutcome};
@@ -31,6 +32,7 @@ use error::Refusal;
 use fields::width::enc_size;
 use fsm_sections::Part;
 use fsm_sections::Source;
+use pairs::is_run;
 
 // The pieces below a page of the first run's regions; or the whole pages of the first two runs' regions, and the third's uncut.
 pub enum Slot {
@@ -48,16 +50,6 @@ struct Measure {
 enum Measured {
     Is(Measure),
     Refused(Refusal),
-}
-
-// Whether a run and a count are pairs: an even length that has so many.
-fn is_run(run: &[u64], n: usize) -> bool
-    ensures { λ r. ⌜ r ≡ isRun (now (run .entry)) n ⌝ }
-{
-    if run.len() % 2 != 0 {
-        return false;
-    }
-    n <= run.len() / 2
 }
 
 fn are_runs(a: &[u64], na: usize, b: &[u64], nb: usize, c: &[u64], nc: usize) -> bool

@@ -8,22 +8,19 @@ use lib.ListN.{length, drop, replicate}
 use lib.Seq.{drop-at}
 use Rattle.error.specs.Lent.{over}
 use Rattle.error.proofs.OverLaws.{over-nil}
+use Rattle.pairs.proofs.PairLaws.{length-flat, flat-append, decode-flat}
 use Rattle.fsm_sections.specs.declared.FreeSection.{FreeSection}
-use Rattle.fsm_sections.specs.Sections.{decode, flat}
+use Rattle.fsm_sections.specs.Sections.{flat}
 use Rattle.fsm_blocks.specs.Reading.{joined}
-use Rattle.fsm_blocks.proofs.PutLaws.{flat-append, length-flat}
 use Rattle.image.specs.Reading.{countsOf}
 use Rattle.listing.specs.Listing.{header, slotText, slotsText, slotsOf, listingText}
+use Rattle.fsm_sections.proofs.SectionsLaws.{section-form}
 
 -- what is written from the front on, where it fits
 pub over-is : (vs xs : List ℕ) → length vs ≤ length xs → over 0 vs xs ≡ vs ++ drop (length vs) xs
 over-is [] xs h = over-nil 0 xs
 over-is (v ∷ vs) [] h = absurd (not-suc-le-zero h)
 over-is (v ∷ vs) (x ∷ xs) h = ap (λ (l : List ℕ). v ∷ l) (over-is vs xs (le-of-suc-le-suc h))
-
-decode-flat : (l : List FreeSection) (rest : List ℕ) → decode (length l) (flat l ++ rest) ≡ l
-decode-flat [] rest = refl
-decode-flat (s ∷ l) rest = ap (λ (m : List FreeSection). s ∷ m) (decode-flat l rest)
 
 -- a slot with no section has no line
 no-lines : (i k : ℕ) (run : List ℕ) → slotsText i (slotsOf (replicate k 0) run) ≡ []
@@ -38,8 +35,8 @@ slots-back i k [] rest = no-lines i k rest
 slots-back i k (l ∷ ls) rest =
     let more = flat (joined ls) ++ rest in
     let counts = map length ls ++ replicate k 0 in
-    ap (λ (s : List ℕ). slotsText i (slotsOf (length l ∷ counts) s)) (ap (λ (s : List ℕ). s ++ rest) (flat-append l (joined ls)) ∙ append-assoc (flat l) (flat (joined ls)) rest)
-    ∙ ap₂ (λ (a : List FreeSection) (b : List ℕ). slotText i a ++ slotsText (suc i) (slotsOf counts b)) (decode-flat l more) (drop-at (flat l) more (2 * length l) (length-flat l))
+    ap (λ (s : List ℕ). slotsText i (slotsOf (length l ∷ counts) s)) (ap (λ (s : List ℕ). s ++ rest) (flat-append section-form l (joined ls)) ∙ append-assoc (flat l) (flat (joined ls)) rest)
+    ∙ ap₂ (λ (a : List FreeSection) (b : List ℕ). slotText i a ++ slotsText (suc i) (slotsOf counts b)) (decode-flat section-form l more) (drop-at (flat l) more (2 * length l) (length-flat section-form l))
     ∙ ap (λ (t : List ℕ). slotText i l ++ t) (slots-back (suc i) k ls rest)
 
 pub listing-back : (ls : List (List FreeSection)) (run : List ℕ) → 2 * length (joined ls) ≤ length run
@@ -47,5 +44,5 @@ pub listing-back : (ls : List (List FreeSection)) (run : List ℕ) → 2 * lengt
 unfolding listingText
 listing-back ls run h =
     ap (λ (t : List ℕ). header ++ t)
-    (ap (λ (s : List ℕ). slotsText 0 (slotsOf (countsOf ls) s)) (over-is (flat (joined ls)) run (omega (arith, length-flat (joined ls))))
+    (ap (λ (s : List ℕ). slotsText 0 (slotsOf (countsOf ls) s)) (over-is (flat (joined ls)) run (omega (arith, length-flat section-form (joined ls))))
     ∙ slots-back 0 (12 - length ls) ls (drop (length (flat (joined ls))) run))

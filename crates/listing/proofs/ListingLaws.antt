@@ -3,7 +3,7 @@ use mathlib.Core.Path.{_≡_, sym, ap, ap₂, _∙_, subst}
 use mathlib.Core.List.{List, [], _∷_, _++_}
 use mathlib.Core.Logic.{⊎-elim}
 use Prim.Native.Nat.{ℕ, zero, suc, _+_, _-_, _*_, _/_, _≤_, _<_, min}
-use native.Mathlib.Nat.{zero-min, min-zero, min-eq-left, sub-zero}
+use native.Mathlib.Nat.{zero-min, min-zero, min-eq-left}
 use native.Mathlib.Numerals.{add-one}
 use native.Mathlib.Omega.{arith}
 use borrow.Rule.Slice.PartAt.{part-to-end}
@@ -11,8 +11,9 @@ use lib.ListN.{length, take, drop, getD, drop-of-length-le}
 use lib.Seq.{drop-cons, drop-drop}
 use Rattle.error.specs.Lent.{With, with}
 use Rattle.error.proofs.TestLaws.{le-or-lt}
+use Rattle.pairs.proofs.PairLaws.{decode-drop, decode-end}
 use Rattle.fsm_sections.specs.declared.FreeSection.{FreeSection}
-use Rattle.fsm_sections.specs.Sections.{section, decode}
+use Rattle.fsm_sections.specs.Sections.{section, decode, sectionAt}
 use Rattle.listing.specs.Text.{written}
 use Rattle.listing.specs.Listing.{rowText, slotText, slotsText, slotsOf}
 use Rattle.listing.proofs.TextLaws.{Printing, piece, printed}
@@ -28,45 +29,27 @@ decode-least (suc n) (a ∷ s ∷ xs) =
     let e : min (suc n) (suc (suc (length xs)) / 2) ≡ suc (min n (length xs / 2)) = omega arith in
     ap (λ (l : List FreeSection). section a s ∷ l) (decode-least n xs) ∙ ap (λ (k : ℕ). decode k (a ∷ s ∷ xs)) (sym e)
 
--- the next pair
-decode-at : (n i : ℕ) (run : List ℕ) → i < n → 2 * i + 1 < length run
-    → decode (n - i) (drop (2 * i) run) ≡ section (getD run (2 * i) 0) (getD run (2 * i + 1) 0) ∷ decode (n - (i + 1)) (drop (2 * (i + 1)) run)
-decode-at n i run h l =
-    let k : n - i ≡ suc (n - (i + 1)) = omega arith in
-    let p : suc (2 * i) ≡ 2 * i + 1 = omega arith in
-    let q : suc (2 * i + 1) ≡ 2 * (i + 1) = omega arith in
-    let d : drop (2 * i) run ≡ getD run (2 * i) 0 ∷ getD run (2 * i + 1) 0 ∷ drop (2 * (i + 1)) run =
-    drop-cons run (2 * i) 0 (omega arith)
-    ∙ ap (λ (m : ℕ). getD run (2 * i) 0 ∷ drop m run) p
-    ∙ ap (λ (m : List ℕ). getD run (2 * i) 0 ∷ m) (drop-cons run (2 * i + 1) 0 l ∙ ap (λ (m : ℕ). getD run (2 * i + 1) 0 ∷ drop m run) q) in
-    ap₂ decode k d
-
 -- ---- the loop that writes a slot's lines: those of the first i sections are written
 
 module _ (slot n : ℕ) (run : List ℕ) where
   abbrev pub linesFrom : ℕ → List ℕ
-  linesFrom i = slotText slot (decode (n - i) (drop (2 * i) run))
+  linesFrom i = slotText slot (drop i (decode n run))
 
   pub lines-start : (count at : ℕ) (out : List ℕ) → at ≤ length out → n ≡ min count (length run / 2) → Printing (written at (slotText slot (decode count run)) out) at (linesFrom 0) out
   lines-start count at out h e =
-      let d : decode count run ≡ decode (n - 0) run = decode-least count run ∙ ap (λ (k : ℕ). decode k run) (sym e ∙ sym (sub-zero n)) in
-      record { inside = h; same = ap (λ (l : List FreeSection). written at (slotText slot l) out) (sym d) }
+      let d : decode n run ≡ decode count run = ap (λ (k : ℕ). decode k run) e ∙ sym (decode-least count run) in
+      record { inside = h; same = ap (λ (l : List FreeSection). written at (slotText slot l) out) d }
 
-  lines-next : (i : ℕ) → i < n → 2 * i + 1 < length run → linesFrom i ≡ rowText slot (section (getD run (2 * i) 0) (getD run (2 * i + 1) 0)) ++ linesFrom (i + 1)
-  unfolding slotText
-  lines-next i h l = ap (slotText slot) (decode-at n i run h l)
+  module _ {whole : With ℕ (List ℕ)} (room : 2 * n ≤ length run) (i to : ℕ) (out : List ℕ) (p : Printing whole to (linesFrom i) out) where
+    pub lines-turn : {r : ℕ} {m : List ℕ} → i < n → with r m ≡ written to (rowText slot (sectionAt run i)) out → Printing whole r (linesFrom (i + 1)) m
+    unfolding slotText
+    lines-turn h e =
+        piece to (rowText slot (sectionAt run i)) (linesFrom (i + 1)) out
+        (subst (λ (l : List FreeSection). Printing whole to (slotText slot l) out) (decode-drop section n i run h room) p) e
 
-  pub lines-turn : {whole : With ℕ (List ℕ)} (i to : ℕ) (out : List ℕ) {r : ℕ} {m : List ℕ} → i < n → 2 * i + 1 < length run → Printing whole to (linesFrom i) out
-      → with r m ≡ written to (rowText slot (section (getD run (2 * i) 0) (getD run (2 * i + 1) 0))) out → Printing whole r (linesFrom (i + 1)) m
-  lines-turn {whole} i to out h l p e =
-      piece to (rowText slot (section (getD run (2 * i) 0) (getD run (2 * i + 1) 0))) (linesFrom (i + 1)) out
-      (subst (λ (t : List ℕ). Printing whole to t out) (lines-next i h l) p) e
-
-  pub lines-end : {whole : With ℕ (List ℕ)} (i to : ℕ) (out : List ℕ) → n ≤ i → Printing whole to (linesFrom i) out → with to out ≡ whole
-  unfolding slotText
-  lines-end {whole} i to out h p =
-      let z : n - i ≡ 0 = omega arith in
-      printed to out (subst (λ (k : ℕ). Printing whole to (slotText slot (decode k (drop (2 * i) run))) out) z p)
+    pub lines-end : n ≤ i → with to out ≡ whole
+    unfolding slotText
+    lines-end h = printed to out (subst (λ (l : List FreeSection). Printing whole to (slotText slot l) out) (decode-end section n i run h room) p)
 
 -- ---- the loop that writes the slots: those before slot i are written, and the pairs of the others begin at `from`
 

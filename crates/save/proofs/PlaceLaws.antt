@@ -17,7 +17,7 @@ use Rattle.free_regions.proofs.OkLaws.{Fit}
 use Rattle.free_space.specs.declared.list.FreeList.{FreeList}
 use Rattle.free_space.specs.Runs.{isList, regionAt, decode}
 use Rattle.free_space.proofs.ListLaws.{listed, region-fits}
-use Rattle.free_space.proofs.DecodeLaws.{decode-drop, decode-end}
+use Rattle.pairs.proofs.PairLaws.{decode-drop, decode-end}
 use Rattle.save.specs.Saving.{endsPast, messageIn, blocksOut}
 
 -- two comparisons that say the same
@@ -98,7 +98,7 @@ module _ (start place : ℕ) where
 
     module _ (h : i < l .count) (t : Bool) (te : t ≡ way (regionAt xs i)) where
       head : ways all ≡ (way (regionAt xs i) || ways (drop (i + 1) all))
-      head = sym inv ∙ ap ways (decode-drop (l .count) i xs h (listed xs l e .room)) ∙ ways-more (regionAt xs i) (drop (i + 1) all)
+      head = sym inv ∙ ap ways (decode-drop region (l .count) i xs h (listed xs l e .room)) ∙ ways-more (regionAt xs i) (drop (i + 1) all)
 
       pub way-found : t ≡ true → true ≡ ways all
       way-found f = or-decides t (way (regionAt xs i)) (ways (drop (i + 1) all)) te f ∙ sym head
@@ -107,4 +107,4 @@ module _ (start place : ℕ) where
       way-turn f = or-leaves t (way (regionAt xs i)) (ways (drop (i + 1) all)) te f ∙ sym head
 
     pub way-none : l .count ≤ i → false ≡ ways all
-    way-none h = sym (sym inv ∙ ap ways (decode-end (l .count) i xs h (listed xs l e .room)))
+    way-none h = sym (sym inv ∙ ap ways (decode-end region (l .count) i xs h (listed xs l e .room)))

@@ -2,7 +2,7 @@
 --   Fine    what refusal 3's test leaves of a run for the writer's own tests
 use mathlib.Core.Path.{_≡_, refl, sym, ap, ap₂, _∙_}
 use mathlib.Core.Logic.{_⊎_, inl, inr, ⊎-elim}
-use Prim.Native.Nat.{ℕ, zero, suc, _+_, _/_, _%_, _≤_, _<_}
+use Prim.Native.Nat.{ℕ, _+_, _/_, _%_, _≤_, _<_}
 use native.Mathlib.Nat.{add-zero, zero-add}
 use native.Mathlib.Omega.{arith}
 use mathlib.Core.Bool.{Bool, true, false, cond}
@@ -20,9 +20,12 @@ use Rattle.error.proofs.OutcomeLaws.{NoneHolds, first-pass, first-answers}
 use Rattle.fields.specs.Ranges.{top}
 use Rattle.checksum.specs.Lookup3.{lookup3}
 use Rattle.free_regions.proofs.OkLaws.{ok-prop}
+use Rattle.free_regions.specs.Regions.{region}
 use Rattle.free_space.specs.declared.list.FreeList.{FreeList}
 use Rattle.free_space.specs.Runs.{isList, decode as decodeRegions}
 use Rattle.free_space.proofs.ListLaws.{listed}
+use Rattle.pairs.specs.Pairs.{isRun}
+use Rattle.pairs.proofs.PairLaws.{decode-map}
 use Rattle.free_lists.specs.declared.FileLists.{FileLists}
 use Rattle.free_lists.specs.Lists.{Regions, listsIn, regionsIn}
 use Rattle.fsm_sections.specs.declared.FreeSection.{FreeSection}
@@ -33,7 +36,7 @@ use Rattle.fsm_blocks.specs.Managers.{startingSet, headerFor, fsseFor, fsseUsed
 use Rattle.fsm_writer.specs.declared.slots.Slot.{Slot}
 use Rattle.fsm_writer.specs.declared.slots.Slot.the-variants.{Small, Large}
 use Rattle.fsm_writer.specs.Serializing.{blocksSize}
-use Rattle.fsm_sections.specs.Runs.{isRun, endsAbove}
+use Rattle.fsm_sections.specs.Runs.{endsAbove}
 use Rattle.fsm_writer.specs.Slots.{runTests, sizeTests, slotBytes, lenOf, slotLen}
 use Rattle.fsm_writer.proofs.MeasureLaws.{size-least, size-none}
 use Rattle.fsm_plan.specs.Managers.{manager, managerSize, managerBytes, sizeOf, slotsFrom, blocksFrom}
@@ -45,10 +48,7 @@ use Rattle.save.proofs.FitLaws.{Ends, list-ends}
 -- ---- a run that is a list passes the writer's tests
 
 decode-sections : (n : ℕ) (xs : List ℕ) → decode n xs ≡ map (λ r. section (r .addr) (r .len)) (decodeRegions n xs)
-decode-sections zero xs = refl
-decode-sections (suc n) [] = refl
-decode-sections (suc n) (a ∷ []) = refl
-decode-sections (suc n) (a ∷ l ∷ xs) = ap (λ (t : List FreeSection). section a l ∷ t) (decode-sections n xs)
+decode-sections n xs = sym (decode-map region (λ r. section (r .addr) (r .len)) n xs)
 
 none-late : (rs : List FreeSection) → All (Ends top) rs → endsAbove rs ≡ false
 none-late [] h = refl

@@ -9,14 +9,14 @@ use lib.Dec.{ltb}
 use lib.ListN.{length, drop}
 use Rattle.error.proofs.TestLaws.{le-or-lt, or-false}
 use Rattle.fields.specs.Ranges.{top}
-use Rattle.fsm_sections.proofs.SourceLaws.{pairAt}
+use Rattle.pairs.proofs.PairLaws.{decode-drop, decode-end}
 use Rattle.fsm_sections.specs.declared.FreeSection.{FreeSection}
-use Rattle.fsm_sections.specs.Sections.{section, decode}
+use Rattle.fsm_sections.specs.Sections.{section, decode, sectionAt}
 use Rattle.fsm_sections.specs.Pages.{end, pieces, split}
 use Rattle.fsm_sections.proofs.PagesLaws.{pieces-none}
 use Rattle.fsm_sections.specs.Runs.{endsAbove}
 use Rattle.fsm_pages.proofs.PieceLaws.{left, pieceSize, left-more, left-all}
-use Rattle.fsm_pages.proofs.RunLaws.{opens, ended, fits-at}
+use Rattle.fsm_pages.proofs.RunLaws.{fits-at}
 use Rattle.split_records.specs.Records.{cutOff, piecesLeft}
 
 -- nothing is cut off
@@ -36,7 +36,7 @@ fits-behind (suc i) [] h = h
 fits-behind (suc i) (s ∷ l) h = fits-behind i l (or-false (ltb top (end s)) (endsAbove l) h .1)
 
 -- the end of section i is a number
-pub fits-here : (n : ℕ) (xs : List ℕ) → 2 * n ≤ length xs → endsAbove (decode n xs) ≡ false → (i : ℕ) → i < n → pairAt xs i .addr + pairAt xs i .size < 2 ^ 64
+pub fits-here : (n : ℕ) (xs : List ℕ) → 2 * n ≤ length xs → endsAbove (decode n xs) ≡ false → (i : ℕ) → i < n → sectionAt xs i .addr + sectionAt xs i .size < 2 ^ 64
 fits-here n xs run f i h = fits-at n xs run i h (fits-behind i (decode n xs) f) .0
 
 -- where nothing is left of a section, it has no piece
@@ -71,26 +71,26 @@ module _ (page n : ℕ) (xs : List ℕ) (run : 2 * n ≤ length xs) where
   within i d h = ⊎-elim none (λ (l : i < n). l) (le-or-lt n i)
     where
       none : n ≤ i → i < n
-      none l = let e : length (rest i d) ≡ 0 = ap (λ (m : List FreeSection). length (split page (cutOff d m))) (ended n xs run i l) in absurd (omega arith)
+      none l = let e : length (rest i d) ≡ 0 = ap (λ (m : List FreeSection). length (split page (cutOff d m))) (decode-end section n i xs l run) in absurd (omega arith)
 
-  opened : (i d : ℕ) → i < n → rest i d ≡ pieces page (section (pairAt xs i .addr + d) (pairAt xs i .size - d)) ++ split page (drop (i + 1) (decode n xs))
+  opened : (i d : ℕ) → i < n → rest i d ≡ pieces page (section (sectionAt xs i .addr + d) (sectionAt xs i .size - d)) ++ split page (drop (i + 1) (decode n xs))
   unfolding piecesLeft split
-  opened i d h = ap (λ (m : List FreeSection). split page (cutOff d m)) (opens n xs run i h)
+  opened i d h = ap (λ (m : List FreeSection). split page (cutOff d m)) (decode-drop section n i xs h run)
 
   -- a section that is cut whole is passed over
-  pub skip : (i d : ℕ) → i < n → pairAt xs i .size ≤ d → rest i d ≡ rest (i + 1) 0
+  pub skip : (i d : ℕ) → i < n → sectionAt xs i .size ≤ d → rest i d ≡ rest (i + 1) 0
   unfolding piecesLeft
   skip i d h o =
-      let s = pairAt xs i in
+      let s = sectionAt xs i in
       let m = drop (i + 1) (decode n xs) in
       opened i d h
       ∙ ap (λ (l : List FreeSection). l ++ split page m) (no-piece page (s .addr + d) (s .size - d) (omega arith))
       ∙ sym (ap (split page) (cut-none m))
 
-  pub cut : 0 < page → (i d z : ℕ) → i < n → d < pairAt xs i .size → z ≡ min (pairAt xs i .size - d) (page - (pairAt xs i .addr + d) % page)
-      → rest i d ≡ section (pairAt xs i .addr + d) z ∷ rest i (d + z)
+  pub cut : 0 < page → (i d z : ℕ) → i < n → d < sectionAt xs i .size → z ≡ min (sectionAt xs i .size - d) (page - (sectionAt xs i .addr + d) % page)
+      → rest i d ≡ section (sectionAt xs i .addr + d) z ∷ rest i (d + z)
   cut p i d z h o e =
-      let s = pairAt xs i in
+      let s = sectionAt xs i in
       opened i d h
       ∙ ap (λ (l : List FreeSection). l ++ split page (drop (i + 1) (decode n xs))) (first-piece page (s .addr) z d (s .size) p o e)
       ∙ ap (λ (l : List FreeSection). section (s .addr + d) z ∷ l) (sym (opened i (d + z) h))

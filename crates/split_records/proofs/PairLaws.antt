@@ -9,16 +9,15 @@ use lib.ListN.{length}
 use borrow.Author.Tests.{eq-eqb, ltb-false}
 use Rattle.error.specs.Outcome.{Outcome, answer, nothing, refuse, firstOf, sat}
 use Rattle.error.specs.Lent.{With, with, over}
+use Rattle.pairs.specs.Pairs.{isRun}
+use Rattle.pairs.proofs.PairLaws.{length-flat}
 use Rattle.fsm_sections.specs.declared.FreeSection.{FreeSection}
 use Rattle.fsm_sections.specs.Sections.{decode, flat}
 use Rattle.fsm_sections.specs.Pages.{split}
-use Rattle.fsm_sections.specs.Runs.{isRun, endsAbove}
+use Rattle.fsm_sections.specs.Runs.{endsAbove}
+use Rattle.fsm_sections.proofs.SectionsLaws.{section-form}
 use Rattle.fsm_pages.specs.Split.{splitInto}
 use Rattle.split_records.specs.Records.{atFront, splitRecords}
-
-length-flat : (l : List FreeSection) → length (flat l) ≡ 2 * length l
-length-flat [] = refl
-length-flat (s ∷ l) = let e : length (flat l) ≡ 2 * length l = length-flat l in omega arith
 
 -- written over pairs, or put at the front of records
 flat-front : (l out : List FreeSection) → length l ≤ length out → over 0 (flat l) (flat out) ≡ flat (atFront l out)
@@ -42,10 +41,10 @@ records-are-pairs xs n page out =
     all = split page (decode n xs)
 
     even : length (flat out) % 2 ≡ 0
-    even = let e : length (flat out) ≡ 2 * length out = length-flat out in omega arith
+    even = let e : length (flat out) ≡ 2 * length out = length-flat section-form out in omega arith
 
     half : length (flat out) / 2 ≡ length out
-    half = let e : length (flat out) ≡ 2 * length out = length-flat out in omega arith
+    half = let e : length (flat out) ≡ 2 * length out = length-flat section-form out in omega arith
 
     tests : (a b c t : Bool) → ltb (length out) (length all) ≡ t
         → cond a (refuse 2 []) (cond b (refuse 3 []) (cond c (refuse 4 []) (cond t (refuse 14 (sat (length all) ∷ length out ∷ [])) (answer (with (length all) (over 0 (flat all) (flat out)))))))

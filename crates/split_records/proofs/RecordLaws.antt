@@ -1,18 +1,20 @@
 -- The refusals of `split_at_pages` over records, and the records at the end. Assumes nothing.
 use mathlib.Core.Path.{_≡_, refl, sym, ap, ap₂, _∙_}
-use Prim.Native.Nat.{ℕ, zero, suc, _+_, _-_, _*_, _^_, _≤_, _<_}
+use Prim.Native.Nat.{ℕ, zero, suc, _-_, _*_, _^_, _≤_, _<_}
 use native.Mathlib.Omega.{arith}
 use mathlib.Core.Bool.{false}
 use mathlib.Core.List.{List, [], _∷_, _++_}
 use lib.Dec.{ltb}
 use lib.ListN.{length, take, drop, set, getD, length-append, length-drop}
 use lib.Seq.{take-length, drop-cons, take-suc, set-at, append-snoc, length-take-le}
-use borrow.Author.Tests.{lt-ltb, le-ltb, ltb-false, eqb-false}
+use borrow.Author.Tests.{lt-ltb, le-ltb, ltb-false, eqb-false, not-false}
 use Rattle.error.specs.declared.Refusal.{Refusal}
 use Rattle.error.specs.declared.Refusal.the-variants.{OverCapacity}
 use Rattle.error.specs.Outcome.{answer, refused, Condition, when, firstOf, sat}
 use Rattle.error.specs.Lent.{with, left, leaving}
 use Rattle.error.proofs.OutcomeLaws.{first-pass, first-answers, first-append, first-refuses, refuses, passes}
+use Rattle.pairs.proofs.RunLaws.{run-room}
+use Rattle.pairs.specs.Pairs.{isRun}
 use Rattle.fsm_sections.specs.declared.FreeSection.{FreeSection}
 use Rattle.fsm_sections.specs.Sections.{section, decode}
 use Rattle.fsm_sections.specs.Pages.{split}
@@ -20,7 +22,6 @@ use Rattle.fsm_pages.specs.declared.pages.Split.{Split}
 use Rattle.fsm_pages.specs.declared.pages.Split.the-variants as code
 use Rattle.fsm_sections.specs.Runs.{endsAbove}
 use Rattle.fsm_pages.specs.Split.{splitTests, splitCount, splitOutcome}
-use Rattle.fsm_pages.proofs.RunLaws.{run-room}
 use Rattle.fsm_pages.proofs.SplitLaws.{Splits}
 use Rattle.split_records.specs.Records.{atFront, refusals, splitRecords, splitAnswer, piecesIn, piecesLeft}
 
@@ -75,7 +76,7 @@ module _ (xs : List ℕ) (n page : ℕ) where
       let z = eqb-false page 0 (q .0 .0) in
       record {
         some = omega (arith, z);
-        run = run-room xs n (q .0 .1 .0);
+        run = run-room xs n (not-false (isRun xs n) (q .0 .1 .0));
         fits = q .0 .1 .1 .0;
         whole = omega (arith, q .1);
         space = omega (arith, q .1, ltb-false room (length all) (q .0 .1 .1 .1 .0));

@@ -34,9 +34,7 @@ sub-last : tie.Need-sub-last
 sub-last c = some-meta (heights (c .before .before .before .before)) (c .before .if2 .left)
 
 region-at-requires : tie.Need-region-at-requires
-region-at-requires c κs =
-    let h = heights (c .before .before .before .before) in
-    omega (arith, some-meta h (c .before .if2 .left), h .order .meta .room)
+region-at-requires c κs = search needs
 
 returns-2 : tie.Need-returns-2
 returns-2 c = next-meta (heights (c .before .before .before .before .before)) _ (c .region-at .ensures) (omega arith) (c .before .before .if2 .left)
@@ -45,9 +43,7 @@ sub-last-2 : tie.Need-sub-last-2
 sub-last-2 c = some-raw (heights (c .before .before .before .before)) (omega arith) (omega arith)
 
 region-at-requires-2 : tie.Need-region-at-requires-2
-region-at-requires-2 c κs =
-    let h = heights (c .before .before .before .before) in
-    omega (arith, some-raw h (omega arith) (omega arith), h .order .raw .room)
+region-at-requires-2 c κs = search needs
 
 returns-3 : tie.Need-returns-3
 returns-3 c = next-raw (heights (c .before .before .before .before .before)) _ (c .region-at2 .ensures) (omega arith) (omega arith)
@@ -56,9 +52,7 @@ sub-last-3 : tie.Need-sub-last-3
 sub-last-3 c = some-unclassified (heights (c .before .before .before .before)) (omega arith) (omega arith)
 
 region-at-requires-3 : tie.Need-region-at-requires-3
-region-at-requires-3 c κs =
-    let h = heights (c .before .before .before .before) in
-    omega (arith, some-unclassified h (omega arith) (omega arith), h .order .unclassified .room)
+region-at-requires-3 c κs = search needs
 
 returns-4 : tie.Need-returns-4
 returns-4 c = next-unclassified (heights (c .before .before .before .before .before)) _ (c .region-at3 .ensures) (omega arith) (omega arith)

@@ -19,10 +19,10 @@ returns : tie.Need-returns Inv-loop μ-loop
 returns c = let l = c .before .before in no-others (l .loop .inv) (l .before .before .before .pre .1) (c .if1 .taken)
 
 region-at-requires : tie.Need-region-at-requires Inv-loop μ-loop
-region-at-requires c κs = omega (arith, c .before .before .before .before .before .pre .0 .room)
+region-at-requires c κs = search needs
 
 region-at-requires-2 : tie.Need-region-at-requires-2 Inv-loop μ-loop
-region-at-requires-2 c κs = omega (arith, c .before .before .before .before .before .before .pre .1 .room)
+region-at-requires-2 c κs = search needs
 
 add-if2 : tie.Need-add-if2 Inv-loop μ-loop
 add-if2 c =

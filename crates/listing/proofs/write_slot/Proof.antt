@@ -1,8 +1,7 @@
-use Prim.Native.Nat.{_+_, _-_, _*_, _≤_, _<_}
+use Prim.Native.Nat.{_-_, _≤_}
 use native.Mathlib.Omega.{arith}
 use borrow.Author.Needs.{needs}
 use denote.Ref.{now}
-use lib.ListN.{length}
 use Rattle.fsm_sections.specs.Sections.{decode}
 use Rattle.listing.specs.Text.{written}
 use Rattle.listing.specs.Listing.{slotText}
@@ -59,8 +58,7 @@ loop-again c =
     let l = b .before .loop in
     let a = b .before .before .before .before .before .args in
     let n = b .before .before .least .result in
-    let p : 2 * l .i + 1 < length (now (a .run)) = omega arith in
-    (omega arith, lines-turn (a .slot) n (now (a .run)) (l .i) (l .to) (l .out) (b .loop-test .taken) p (l .inv .1) (c .before .before .write-row .ensures))
+    (omega arith, lines-turn (a .slot) n (now (a .run)) (omega arith) (l .i) (l .to) (l .out) (l .inv .1) (b .loop-test .taken) (c .before .before .write-row .ensures))
 
 same-length : tie.Need-same-length Inv-loop μ-loop
 same-length c =
@@ -73,7 +71,7 @@ returns : tie.Need-returns Inv-loop μ-loop
 returns c =
     let l = c .before .loop in
     let a = c .before .before .before .before .before .args in
-    lines-end (a .slot) (c .before .before .least .result) (now (a .run)) (l .i) (l .to) (l .out) (c .loop-test .left) (l .inv .1)
+    lines-end (a .slot) (c .before .before .least .result) (now (a .run)) (omega arith) (l .i) (l .to) (l .out) (l .inv .1) (c .loop-test .left)
 
 pub write-slot-spec : {M : Type 1} → statement M
 write-slot-spec =

@@ -4,12 +4,12 @@ use native.Mathlib.Nat.{mod-lt, le-of-lt}
 use native.Mathlib.Omega.{arith}
 use lib.ListN.{length}
 use denote.Ref.{now}
-use Rattle.fsm_sections.proofs.SourceLaws.{pairAt}
 use Rattle.split_records.specs.Records.{piecesLeft}
 use Rattle.split_records.proofs.CutLaws.{within, skip, cut, fits-here}
 use borrow.Author.Needs.{needs}
 use Rattle.split_records.proofs.next_piece.Statement.{statement}
 use Rattle.split_records.proofs.next_piece.Tie as tie
+use Rattle.fsm_sections.specs.Sections.{sectionAt}
 
 abbrev Inv-loop : tie.InvT-loop
 Inv-loop sections count page section done i₀ d₀ i d = (i < count) × (piecesLeft page count sections section done ≡ piecesLeft page count sections i d)
@@ -48,7 +48,7 @@ loop-again c =
     (within (a .page) (a .count) (now (a .sections)) (s .pre .1) (l .i + 1) 0 z, e)
 
 -- the section ends at a number
-ends : (c : tie.Else1 Inv-loop μ-loop) → let r = pairAt (now (c .before .before .before .before .args .sections)) (c .before .before .loop .i) in r .addr + r .size < 2 ^ 64
+ends : (c : tie.Else1 Inv-loop μ-loop) → let r = sectionAt (now (c .before .before .before .before .args .sections)) (c .before .before .loop .i) in r .addr + r .size < 2 ^ 64
 ends c =
     let l = c .before .before .loop in
     let s = c .before .before .before .before in
@@ -67,7 +67,7 @@ shared-slice-read-a c = search needs
 add-a : tie.Need-add-a Inv-loop μ-loop
 add-a c =
     let l = c .before .before .before .loop in
-    let r = pairAt (now (c .before .before .before .before .before .args .sections)) (l .i) in
+    let r = sectionAt (now (c .before .before .before .before .before .args .sections)) (l .i) in
     let h : r .addr + l .d < 2 ^ 64 = omega (arith, ends (c .before), c .before .if1 .left) in
     record { fits = h }
 
@@ -94,7 +94,7 @@ sub-lesser-2 c =
     let l = c .before .before .before .before .loop in
     let s = c .before .before .before .before .before .before in
     let a = s .args in
-    le-of-lt (mod-lt (pairAt (now (a .sections)) (l .i) .addr + l .d) (s .pre .0))
+    le-of-lt (mod-lt (sectionAt (now (a .sections)) (l .i) .addr + l .d) (s .pre .0))
 
 lesser-requires : tie.Need-lesser-requires Inv-loop μ-loop
 lesser-requires c κs = search needs

@@ -3,11 +3,11 @@ use native.Mathlib.Omega.{arith}
 use borrow.Author.Needs.{needs}
 use denote.Ref.{now}
 use Rattle.free_regions.specs.declared.FreeRegion.{FreeRegion}
-use Rattle.free_space.proofs.ListLaws.{listed}
 use Rattle.free_space.proofs.CheckLaws.{read-fits}
 use Rattle.free_space.proofs.InsertLaws.{absorb-apart, absorb-touch}
 use Rattle.free_space.proofs.join.join_above.Statement.{statement}
 use Rattle.free_space.proofs.join.join_above.Tie as tie
+use Rattle.free_space.proofs.ListLaws.{listed}
 
 region-at-requires : tie.Need-region-at-requires
 region-at-requires c κs =

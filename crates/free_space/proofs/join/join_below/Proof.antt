@@ -4,11 +4,11 @@ use native.Mathlib.Omega.{arith}
 use borrow.Author.Needs.{needs}
 use denote.Ref.{now}
 use Rattle.free_regions.specs.Regions.{end}
-use Rattle.free_space.proofs.ListLaws.{listed}
 use Rattle.free_space.proofs.CheckLaws.{read-fits}
 use Rattle.free_space.proofs.InsertLaws.{insert-apart, insert-touch}
 use Rattle.free_space.proofs.join.join_below.Statement.{statement}
 use Rattle.free_space.proofs.join.join_below.Tie as tie
+use Rattle.free_space.proofs.ListLaws.{listed}
 
 sub-region-at : tie.Need-sub-region-at
 sub-region-at c = search needs

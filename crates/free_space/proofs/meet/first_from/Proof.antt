@@ -5,10 +5,10 @@ use borrow.Author.Needs.{needs}
 use denote.Ref.{now}
 use Rattle.free_regions.specs.declared.FreeRegion.{FreeRegion}
 use Rattle.free_space.specs.Runs.{regionAt}
-use Rattle.free_space.proofs.ListLaws.{listed}
 use Rattle.free_space.proofs.MeetLaws.{region-before}
 use Rattle.free_space.proofs.meet.first_from.Statement.{statement}
 use Rattle.free_space.proofs.meet.first_from.Tie as tie
+use Rattle.free_space.proofs.ListLaws.{listed}
 
 abbrev Inv-loop : tie.InvT-loop
 Inv-loop run list lo e i₀ i = (lo ≤ i) × (i ≤ list .count) × (lo < i → (regionAt run (i - 1)) .addr < e)

@@ -5,11 +5,11 @@ use borrow.Author.Needs.{needs}
 use denote.Ref.{now}
 use Rattle.free_regions.specs.Regions.{end}
 use Rattle.free_space.specs.Runs.{regionAt}
-use Rattle.free_space.proofs.ListLaws.{listed}
 use Rattle.free_space.proofs.CheckLaws.{read-fits}
 use Rattle.free_space.proofs.MeetLaws.{region-before}
 use Rattle.free_space.proofs.meet.first_past.Statement.{statement}
 use Rattle.free_space.proofs.meet.first_past.Tie as tie
+use Rattle.free_space.proofs.ListLaws.{listed}
 
 abbrev Inv-loop : tie.InvT-loop
 Inv-loop run a low₀ high₀ low high =

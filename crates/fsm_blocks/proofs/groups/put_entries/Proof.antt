@@ -30,11 +30,8 @@ entry c =
 field-at-requires : tie.Need-field-at-requires Inv-loop μ-loop
 field-at-requires c κs = let h = entry c in (c .before .before .before .before .pre .0, omega arith)
 
-put-section-requires : tie.Need-put-section-requires Inv-loop μ-loop
-put-section-requires c κs =
-    let l = c .before .before .before .loop in
-    let h : l .k + 2 ≤ length (l .out) = omega (arith, l .inv .room, c .before .before .loop-test .taken) in
-    h
+put-pair-requires : tie.Need-put-pair-requires Inv-loop μ-loop
+put-pair-requires c κs = search needs
 
 add-p : tie.Need-add-p Inv-loop μ-loop
 add-p c = search needs
@@ -57,7 +54,7 @@ loop-again c =
     let a = t .before .before .before .before in
     let l = t .before .loop in
     fill-step (now (a .args .groups)) (a .args .width) (a .args .size) (now (a .args .out)) (a .args .at) (a .args .count) (a .args .from) (l .out) (l .left) (l .p) (l .k) (l .inv)
-    (t .loop-test .taken) _ (c .before .before .before .before .field-at .ensures) _ (c .before .before .put-section .ensures)
+    (t .loop-test .taken) _ (c .before .before .before .before .field-at .ensures) _ (c .before .before .put-pair .ensures)
 
 same-length : tie.Need-same-length Inv-loop μ-loop
 same-length c = c .before .loop .inv .same-length
@@ -76,7 +73,7 @@ put-entries-spec =
     μ-loop
     loop-holds
     field-at-requires
-    put-section-requires
+    put-pair-requires
     add-p
     add-p-2
     add-k

@@ -21,7 +21,7 @@ picked c =
     let s = c .before .before .before .before in
     let a = s .args in
     subst (λ (r : Region). Picked (sourceOf (a .s)) (now (a .a)) (now (a .b)) (now (a .c)) (a .i) (a .j) (a .k) r) (sym (c .next-region .ensures))
-    (next-picked (sourceOf (a .s)) (now (a .a)) (now (a .b)) (now (a .c)) (s .pre .0) (a .i) (a .j) (a .k) (s .pre .1 .0) (s .pre .1 .1))
+    (next-picked (sourceOf (a .s)) (now (a .a)) (now (a .b)) (now (a .c)) (a .i) (a .j) (a .k) (s .pre .1 .0) (s .pre .1 .1))
 
 returns : tie.Need-returns
 returns c =

@@ -24,7 +24,7 @@ picked c =
     let s = c .before .before .before .before in
     let a = s .args in
     subst (λ (r : Region). Picked (a .s) (now (a .a)) (now (a .b)) (now (a .c)) (a .i) (a .j) (a .k) r) (sym (c .next-region .ensures))
-    (next-picked (a .s) (now (a .a)) (now (a .b)) (now (a .c)) (s .pre .0) (a .i) (a .j) (a .k) (s .pre .1 .0) (s .pre .1 .1))
+    (next-picked (a .s) (now (a .a)) (now (a .b)) (now (a .c)) (a .i) (a .j) (a .k) (s .pre .1 .0) (s .pre .1 .1))
 
 part-chain-requires : tie.Need-part-chain-requires
 part-chain-requires c κs =

@@ -1,8 +1,8 @@
 use borrow.Author.Tests.{not-true, not-false}
 use mathlib.Core.Path.{_∙_}
 use denote.Ref.{now}
-use Rattle.fsm_sections.specs.Runs.{isRun}
 use Rattle.error.proofs.TestLaws.{and-decides, and-leaves}
+use Rattle.pairs.specs.Pairs.{isRun}
 use borrow.Author.Needs.{needs}
 use Rattle.fsm_writer.proofs.slots.are_runs.Statement.{statement}
 use Rattle.fsm_writer.proofs.slots.are_runs.Tie as tie

@@ -1,4 +1,4 @@
--- Laws of a part of a run that is copied within it. Assumes nothing.
+-- Laws of numbers written over others in a run, and of a part of a run that is copied within it. Assumes nothing.
 use mathlib.Core.Path.{_≡_, refl, sym, ap, _∙_}
 use mathlib.Core.Logic.{⊎-elim}
 use mathlib.Core.List.{List, [], _∷_}
@@ -9,9 +9,17 @@ use lib.Seq.{slice, take-all, take-take}
 use Rattle.error.specs.Lent.{over}
 use Rattle.error.proofs.OverLaws.{over-nil, over-cut}
 use Rattle.error.proofs.TestLaws.{le-or-lt}
 use Rattle.fields.proofs.LayoutLaws.{drop-take}
 
-over-same : (i e : ℕ) (xs : List ℕ) → over i (slice i e xs) xs ≡ xs
+-- what is written over is no more seen
+pub over-again : (i : ℕ) (vs ws xs : List ℕ) → length ws ≤ length vs → over i vs (over i ws xs) ≡ over i vs xs
+over-again i vs ws [] h = refl
+over-again zero vs [] (x ∷ xs) h = refl
+over-again zero [] (w ∷ ws) (x ∷ xs) h = absurd (omega arith)
+over-again zero (v ∷ vs) (w ∷ ws) (x ∷ xs) h = ap (λ (l : List ℕ). v ∷ l) (over-again zero vs ws xs (omega arith))
+over-again (suc i) vs ws (x ∷ xs) h = ap (λ (l : List ℕ). x ∷ l) (over-again i vs ws xs h)
+
+pub over-same : (i e : ℕ) (xs : List ℕ) → over i (slice i e xs) xs ≡ xs
 over-same i e [] = refl
 over-same zero zero (x ∷ xs) = refl
 over-same zero (suc e) (x ∷ xs) = ap (λ (l : List ℕ). x ∷ l) (over-same zero e xs)

@@ -1,7 +1,7 @@
 use denote.Ref.{now}
-use Rattle.fsm_writer.proofs.RunsLaws.{run-odd, run-even}
-use Rattle.fsm_writer.proofs.slots.is_run.Statement.{statement}
-use Rattle.fsm_writer.proofs.slots.is_run.Tie as tie
+use Rattle.pairs.proofs.RunLaws.{run-odd, run-even}
+use Rattle.pairs.proofs.is_run.Statement.{statement}
+use Rattle.pairs.proofs.is_run.Tie as tie
 
 returns : tie.Need-returns
 returns c = let a = c .before .args in run-odd (now (a .run)) (a .n) (c .if1 .taken)
