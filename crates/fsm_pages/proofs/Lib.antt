@@ -1,5 +1,3 @@
 pub mod RunLaws
 pub mod PieceLaws
 pub mod SplitLaws
-pub mod Cases
-pub mod DivisorLaws
