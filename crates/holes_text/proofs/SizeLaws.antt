@@ -16,7 +16,7 @@ use Rattle.file_space_info.specs.Message.{fixedLen, fixedRead, present}
 use Rattle.file_space_info.proofs.ReadLaws.{length-numbers}
 use Rattle.image.specs.Reading.{messageAt, addressesIn, readImage}
 use Rattle.image.proofs.PlaceLaws.{message-few}
-use Rattle.listing.specs.Text.{written}
+use Rattle.text.specs.Text.{written}
 use Rattle.listing.specs.Listing.{header, slotText, slotsText, listingText}
 use Rattle.listing.proofs.SizeLaws.{slot-at-most, refused-at-most}
 use Rattle.holes_text.specs.Holes.{imageLimit, sectionLimit, textLimit, atMost, holesRead, textOf, holesText}

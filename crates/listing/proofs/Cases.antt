@@ -2,7 +2,7 @@
 use mathlib.Core.Path.{_≡_, refl}
 use mathlib.Core.List.{List, [], _∷_}
 use Prim.Native.Nat.{ℕ}
-use Rattle.decimal.specs.Decimal.{digits, decimal}
+use Rattle.text.specs.Decimal.{digits, decimal}
 use Rattle.fsm_sections.specs.Sections.{section}
 use Rattle.listing.specs.Listing.{slotText, slotsText, listingText, refusedText}
 

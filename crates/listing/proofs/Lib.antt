@@ -1,4 +1,3 @@
-pub mod TextLaws
 pub mod ListingLaws
 pub mod SizeLaws
 pub mod Cases

@@ -13,9 +13,9 @@ use Rattle.error.specs.Lent.{With, with}
 use Rattle.error.proofs.TestLaws.{le-or-lt}
 use Rattle.fsm_sections.specs.declared.FreeSection.{FreeSection}
 use Rattle.fsm_sections.specs.Sections.{section, decode}
-use Rattle.listing.specs.Text.{written}
+use Rattle.text.specs.Text.{written}
 use Rattle.listing.specs.Listing.{rowText, slotText, slotsText, slotsOf}
-use Rattle.listing.proofs.TextLaws.{Printing, piece, printed}
+use Rattle.text.proofs.TextLaws.{Printing, piece, printed}
 
 -- ---- pairs
 

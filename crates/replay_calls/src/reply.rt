@@ -4,7 +4,7 @@ use crate::text::pairs_line;
 use error::Number;
 use error::Refusal;
 use libc::STDOUT_FILENO;
-use listing::text::write_bytes;
+use text::words::write_bytes;
 use replay_lines::answer::bad;
 use replay_lines::answer::done;
 use replay_lines::answer::nothing;

@@ -9,7 +9,7 @@ use crate::reply::write_out;
 use crate::text::end_line;
 use crate::text::put_bytes;
 use free_space::list::FreeList;
-use listing::text::write_bytes;
+use text::words::write_bytes;
 use replay_lines::answer::put_number;
 use save::Begin;
 use save::save_begin;
