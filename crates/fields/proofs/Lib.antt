@@ -3,4 +3,3 @@ pub mod WidthLaws
 pub mod RangeLaws
 pub mod LayoutLaws
 pub mod ShiftLaws
-pub mod CopyLaws

@@ -36,7 +36,7 @@ fn wide(x: u8) -> u64
     x as u64
 }
 
-pub(crate) fn lesser(a: usize, b: usize) -> usize
+pub fn lesser(a: usize, b: usize) -> usize
     ensures { λ r. ⌜ r ≡ min a b ⌝ }
 {
     if a <= b { a } else { b }

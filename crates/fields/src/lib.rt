@@ -4,5 +4,4 @@ pub mod address;
 pub mod bytes;
 pub mod convert;
 pub mod number;
-pub mod runs;
 pub mod width;

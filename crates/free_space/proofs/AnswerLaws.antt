@@ -17,12 +17,12 @@ use Rattle.free_regions.specs.declared.FreeRegion.{FreeRegion}
 use Rattle.free_regions.specs.Regions.{region, end, around, spliced, shares, insert, cutAll, Found, at, best}
 use Rattle.free_regions.specs.Units.{interiorStart, interiorSpan}
 use Rattle.free_regions.proofs.ShareLaws.{shares-empty}
+use Rattle.pairs.proofs.PairLaws.{length-decode, decode-at}
 use Rattle.free_space.specs.declared.list.FreeList.{FreeList}
 use Rattle.free_space.specs.declared.decide.Decision.the-variants.{Refused, Nothing}
 use Rattle.free_space.specs.Runs.{regionAt, regions, isList}
 use Rattle.free_space.specs.Calls.{Gave, giving, placed, taken, serve, keeping, freedRegions, leftRegions, allocated, allocatedUnits, freed, rangeTaken, trailingTaken, partUnit}
 use Rattle.free_space.specs.Decisions.{ifList, givenBy, keptBy}
-use Rattle.free_space.proofs.DecodeLaws.{decode-at, length-decode}
 use Rattle.free_space.proofs.ListLaws.{listed}
 use Rattle.free_space.proofs.SpliceLaws.{kept-same}
 
@@ -33,7 +33,7 @@ pub taken-is : (xs : List ℕ) (l : FreeList) (i : ℕ) (r : FreeRegion) (start 
     → r ≡ regionAt xs i → p ≡ around r start len
     → placed (giving start) xs l (spliced (regions xs l) i (i + 1) p) ≡ placed (giving start) xs l (taken (regions xs l) i start len)
 taken-is xs l i r start len p h room got e =
-    let d : r ≡ getD (regions xs l) i (region 0 0) = got ∙ sym (decode-at (l .count) i xs (region 0 0) h room) in
+    let d : r ≡ getD (regions xs l) i (region 0 0) = got ∙ sym (decode-at region (l .count) i xs (region 0 0) h room) in
     ap (placed (giving start) xs l)
     (ap₂ (λ (j : ℕ) (q : List FreeRegion). spliced (regions xs l) i j q) (add-one i) (e ∙ ap (λ (q : FreeRegion). around q start len) d))
 
@@ -41,7 +41,7 @@ taken-is xs l i r start len p h room got e =
 pub serve-at : (start : FreeRegion → ℕ) (xs : List ℕ) (l : FreeList) (len i s : ℕ) (f : Found) (r : FreeRegion) → i < l .count → 2 * l .count ≤ length xs
     → r ≡ regionAt xs i → f ≡ at i s → placed (giving (start r)) xs l (taken (regions xs l) i (start r) len) ≡ serve start xs l len f
 serve-at start xs l len i s f r h room got e =
-    let d : r ≡ getD (regions xs l) i (region 0 0) = got ∙ sym (decode-at (l .count) i xs (region 0 0) h room) in
+    let d : r ≡ getD (regions xs l) i (region 0 0) = got ∙ sym (decode-at region (l .count) i xs (region 0 0) h room) in
     ap (λ (q : FreeRegion). placed (giving (start q)) xs l (taken (regions xs l) i (start q) len)) d ∙ sym (ap (serve start xs l len) e)
 
 module _ (xs : List ℕ) (l : FreeList) (len : ℕ) where
@@ -177,7 +177,7 @@ module _ (xs : List ℕ) (l : FreeList) (eof : ℕ) where
   module _ (ok : isList xs l ≡ true) where
     trail-is : trail (l .count) ≡ trailingTaken xs l eof
     unfolding trailingTaken trail
-    trail-is = ap trail (sym (length-decode (l .count) xs (listed xs l ok .room))) ∙ passes _ _ _ (ap not ok)
+    trail-is = ap trail (sym (length-decode region (l .count) xs (listed xs l ok .room))) ∙ passes _ _ _ (ap not ok)
 
     pub trailing-none : l .count ≡ 0 → nothing ≡ trailingTaken xs l eof
     unfolding trail
@@ -185,7 +185,7 @@ module _ (xs : List ℕ) (l : FreeList) (eof : ℕ) where
 
     module _ (some : l .count ≡ 0 → ⊥) (r : FreeRegion) (got : r ≡ regionAt xs (l .count - 1)) where
       last : getD (regions xs l) (l .count - 1) (region 0 0) ≡ r
-      last = decode-at (l .count) (l .count - 1) xs (region 0 0) (omega arith) (listed xs l ok .room) ∙ sym got
+      last = decode-at region (l .count) (l .count - 1) xs (region 0 0) (omega arith) (listed xs l ok .room) ∙ sym got
 
       pub trailing-other : (end r ≡ eof → ⊥) → nothing ≡ trailingTaken xs l eof
       unfolding trail

@@ -1,20 +1,20 @@
--- Laws of the functions that test for refusal 3: the room, one region, and the whole. Assumes nothing.
+-- Laws of the functions that test for refusal 3: one region, and the whole. Assumes nothing.
 use mathlib.Core.Path.{_≡_, refl, sym, ap, _∙_, subst}
 use mathlib.Core.List.{List}
 use mathlib.Core.Bool.{Bool, true, false, _&&_, not}
-use Prim.Native.Nat.{ℕ, suc, _+_, _*_, _/_, _%_, _^_, _≤_, _<_}
+use Prim.Native.Nat.{ℕ, suc, _+_, _*_, _%_, _^_, _≤_, _<_}
 use native.Mathlib.Omega.{arith}
-use borrow.Author.Tests.{le-leb, lt-ltb, ltb-true, leb-true, eq-eqb, ne-eqb, not-true, not-false}
+use borrow.Author.Tests.{le-leb, lt-ltb, ltb-true, not-true, not-false}
 use lib.ListN.{length, drop}
-use lib.Dec.{leb, ltb, eqb}
+use lib.Dec.{leb, ltb}
 use Rattle.error.proofs.TestLaws.{and-true, true-not-false}
+use Rattle.pairs.specs.Pairs.{capacity, isEven, isRun}
 use Rattle.free_regions.specs.declared.FreeRegion.{FreeRegion}
-use Rattle.free_regions.specs.Regions.{end, fitsFrom, okFrom}
+use Rattle.free_regions.specs.Regions.{end, fitsFrom, okFrom, region}
 use Rattle.free_regions.proofs.OkLaws.{Fit, fit, fit-back}
+use Rattle.pairs.proofs.PairLaws.{decode-end}
 use Rattle.free_space.specs.declared.list.FreeList.{FreeList}
 use Rattle.free_space.specs.Runs.{regionAt, decode, isList}
-use Rattle.free_space.specs.Splices.{evenRoom}
-use Rattle.free_space.proofs.DecodeLaws.{decode-end}
 use Rattle.free_space.proofs.ListLaws.{ok-turn, ok-stop, region-fits}
 
 -- two tests that hold together are one
@@ -22,19 +22,6 @@ pub same-test : (a b : Bool) → (a ≡ true → b ≡ true) → (b ≡ true →
 same-test true b f g = sym (f refl)
 same-test false true f g = g refl
 same-test false false f g = refl
-
--- ---- the room
-
-pub room-odd : (len n : ℕ) → (len % 2 ≡ 0 → ⊥) → false ≡ evenRoom len n
-room-odd len n h = rw (ne-eqb (len % 2) 0 h)
-
-pub room-even : (len n : ℕ) → len % 2 ≡ 0 → leb n (len / 2) ≡ evenRoom len n
-room-even len n h = rw (eq-eqb (len % 2) 0 h)
-
-pub room-has : (len n : ℕ) → evenRoom len n ≡ true → 2 * n ≤ len
-room-has len n e =
-    let h : n ≤ len / 2 = leb-true n (len / 2) (and-true (eqb (len % 2) 0) (leb n (len / 2)) e .1) in
-    omega arith
 
 -- ---- one region
 
@@ -73,7 +60,7 @@ module _ (n i prev : ℕ) (xs : List ℕ) (l : i < n) (room : 2 * n ≤ length x
   pass-goes h = ok-turn n i (suc prev) xs l room (at-i ∙ not-false b h) ∙ ap (λ (q : FreeRegion). okFrom (suc (end q)) (drop (i + 1) (decode n xs))) (sym got)
 
 pub pass-ends : (n i prev : ℕ) (xs : List ℕ) → n ≤ i → 2 * n ≤ length xs → okFrom (suc prev) (drop i (decode n xs)) ≡ true
-pass-ends n i prev xs l room = ap (okFrom (suc prev)) (decode-end n i xs l room)
+pass-ends n i prev xs l room = ap (okFrom (suc prev)) (decode-end region n i xs l room)
 
 -- the first region, which follows none
 module _ (n : ℕ) (xs : List ℕ) (l : 0 < n) (room : 2 * n ≤ length xs) (r : FreeRegion) (got : r ≡ regionAt xs 0) (b : Bool) (test : b ≡ fitsFrom 0 r) where
@@ -92,19 +79,19 @@ module _ (n : ℕ) (xs : List ℕ) (l : 0 < n) (room : 2 * n ≤ length xs) (r :
 -- ---- the whole
 
 module _ (xs : List ℕ) (l : FreeList) where
-  pub list-no-room : evenRoom (length xs) (l .count) ≡ false → false ≡ isList xs l
+  pub list-no-room : isRun xs (l .count) ≡ false → false ≡ isList xs l
   unfolding isList
-  list-no-room e = go (eqb (length xs % 2) 0) (leb (l .count) (length xs / 2)) e
+  list-no-room e = go (isEven xs) (leb (l .count) (capacity xs)) e
     where
       go : (a b : Bool) → (a && b) ≡ false → false ≡ (a && (b && okFrom 0 (decode (l .count) xs)))
       go true true e = true-not-false true refl e
       go true false e = refl
       go false b e = refl
 
-  pub list-room : evenRoom (length xs) (l .count) ≡ true → okFrom 0 (decode (l .count) xs) ≡ isList xs l
+  pub list-room : isRun xs (l .count) ≡ true → okFrom 0 (decode (l .count) xs) ≡ isList xs l
   unfolding isList
   list-room e =
-      let p = and-true (eqb (length xs % 2) 0) (leb (l .count) (length xs / 2)) e in
+      let p = and-true (isEven xs) (leb (l .count) (capacity xs)) e in
       rw (p .0, p .1)
 
 -- a region that the code reads

@@ -9,13 +9,13 @@ use lib.ListN.{take, drop, take-append-drop}
 use Rattle.error.proofs.TestLaws.{le-or-lt}
 use Rattle.fields.specs.Ranges.{top}
 use Rattle.free_regions.specs.declared.FreeRegion.{FreeRegion}
-use Rattle.free_regions.specs.Regions.{end, piece, cut, cutAll, spliced}
+use Rattle.free_regions.specs.Regions.{end, piece, cut, cutAll, spliced, region}
 use Rattle.free_regions.proofs.OkLaws.{Within}
 use Rattle.free_regions.proofs.OrderLaws.{keep-prefix}
+use Rattle.pairs.proofs.PairLaws.{decode-drop, decode-end}
 use Rattle.free_space.specs.declared.list.FreeList.{FreeList}
 use Rattle.free_space.specs.Runs.{regionAt, regions, isList}
 use Rattle.free_space.specs.Splices.{Apart}
-use Rattle.free_space.proofs.DecodeLaws.{decode-drop, decode-end}
 use Rattle.free_space.proofs.ListLaws.{listed, region-fits}
 use Rattle.free_space.proofs.PlaceLaws.{rest-within, next-above, later, all-before}
 use Rattle.free_space.proofs.SpliceLaws.{piece-none, piece-some}
@@ -75,7 +75,7 @@ module _ (xs : List ℕ) (l : FreeList) (a e lo hi : ℕ) (h : a ≤ e) (apart :
   above = go (le-or-lt (l .count) hi)
     where
       go : (l .count ≤ hi) ⊎ (hi < l .count) → cutAll a e (drop hi (regions xs l)) ≡ drop hi (regions xs l)
-      go (inl m) = let z = decode-end (l .count) hi xs m (listed xs l ok .room) in ap (cutAll a e) z ∙ sym z
+      go (inl m) = let z = decode-end region (l .count) hi xs m (listed xs l ok .room) in ap (cutAll a e) z ∙ sym z
       go (inr m) = cut-all-above a e h (regionAt xs hi .addr) top (drop hi (regions xs l)) (rest-within xs l ok hi m) (apart .high .from m)
 
   -- no region shares a byte
@@ -103,7 +103,7 @@ module _ (xs : List ℕ) (l : FreeList) (a e lo hi : ℕ) (h : a ≤ e) (apart :
       rw z (
         omega (arith, p .0, n),
         p .1
-            ∙ ap (λ (q : List FreeRegion). piece e (end (regionAt xs (lo + k)) - e) ++ cutAll a e q) (decode-drop (l .count) j xs (omega arith) (listed xs l ok .room))
+            ∙ ap (λ (q : List FreeRegion). piece e (end (regionAt xs (lo + k)) - e) ++ cutAll a e q) (decode-drop region (l .count) j xs (omega arith) (listed xs l ok .room))
             ∙ cut-next a e h (end (regionAt xs (lo + k))) (regionAt xs j) (drop (j + 1) (regions xs l)) (p .0) n (omega (arith, s .0, i)),
       )
 
@@ -124,7 +124,7 @@ module _ (xs : List ℕ) (l : FreeList) (a e lo hi : ℕ) (h : a ≤ e) (apart :
       let back = piece e (end (regionAt xs (hi - 1)) - e) in
       prefix
       ∙ ap (λ (q : List FreeRegion). take lo (regions xs l) ++ q)
-      (ap (cutAll a e) (decode-drop (l .count) lo xs (omega arith) (listed xs l ok .room))
+      (ap (cutAll a e) (decode-drop region (l .count) lo xs (omega arith) (listed xs l ok .room))
       ∙ ap (λ (q : List FreeRegion). q ++ cutAll a e (drop (lo + 1) (regions xs l))) (cut-over a e h r (omega (arith, s .0, i)) (apart .low .past (omega arith)))
       ∙ append-assoc front (piece e (end r - e)) (cutAll a e (drop (lo + 1) (regions xs l)))
       ∙ ap (λ (q : List FreeRegion). front ++ q)

@@ -12,13 +12,13 @@ use lib.Dec.{leb, ltb}
 use Rattle.error.proofs.TestLaws.{le-or-lt, and-true}
 use Rattle.free_regions.specs.declared.FreeRegion.{FreeRegion}
 use Rattle.free_regions.specs.Regions.{region, Found, none, at, better, best}
+use Rattle.pairs.proofs.PairLaws.{length-decode, decode-at, decode-drop, decode-end}
 use Rattle.free_space.specs.declared.list.FreeList.{FreeList}
 use Rattle.free_space.specs.declared.fit.Search.{Search}
 use Rattle.free_space.specs.declared.fit.Search.the-variants.{Nothing, At}
 use Rattle.free_space.specs.declared.fit.Best.{Best}
 use Rattle.free_space.specs.Runs.{regionAt, decode, regions, isList}
 use Rattle.free_space.specs.Searches.{oneAt, lower, soFar, answered, Finds}
-use Rattle.free_space.proofs.DecodeLaws.{decode-drop, decode-at, decode-end, length-decode}
 use Rattle.free_space.proofs.ListLaws.{listed}
 
 -- ---- what is found lower, and above it
@@ -66,7 +66,7 @@ so-far-at len b h = rw (lt-ltb (b .slack) (2 ^ 64 - len) h)
 best-turn : (span : FreeRegion → ℕ) (len i n : ℕ) (xs : List ℕ) → i < n → 2 * n ≤ length xs
     → best span len i (drop i (decode n xs)) ≡ lower (oneAt len i (span (regionAt xs i))) (best span len (i + 1) (drop (i + 1) (decode n xs)))
 best-turn span len i n xs l room =
-    ap (best span len i) (decode-drop n i xs l room)
+    ap (best span len i) (decode-drop region n i xs l room)
     ∙ better-lower len i (span (regionAt xs i)) (best span len (suc i) (drop (i + 1) (decode n xs)))
     ∙ ap (λ (j : ℕ). lower (oneAt len i (span (regionAt xs i))) (best span len j (drop (i + 1) (decode n xs)))) (sym (add-one i))
 
@@ -89,7 +89,7 @@ fit-first span len n xs b b′ r l room got z e = ap (λ (f : Found). lower f (b
 
 pub fit-end : (span : FreeRegion → ℕ) (len i n : ℕ) (xs : List ℕ) (b : Best) → n ≤ i → 2 * n ≤ length xs
     → lower (soFar len b) (best span len i (drop i (decode n xs))) ≡ soFar len b
-fit-end span len i n xs b l room = ap (λ (q : List FreeRegion). lower (soFar len b) (best span len i q)) (decode-end n i xs l room) ∙ lower-none (soFar len b)
+fit-end span len i n xs b l room = ap (λ (q : List FreeRegion). lower (soFar len b) (best span len i q)) (decode-end region n i xs l room) ∙ lower-none (soFar len b)
 
 -- ---- the bytes left over
 
@@ -189,8 +189,8 @@ finds measure xs l len b s ok e is = ⊎-elim none-left served (le-or-lt (2 ^ 64
         let room = listed xs l ok .room in
         let found = e ∙ so-far-at len b h in
         let t = best-at measure len i (b .slack + len) d 0 (decode n xs) found in
-        let below : i < n = omega (arith, t .place, t .below, length-decode n xs room) in
+        let below : i < n = omega (arith, t .place, t .below, length-decode region n xs room) in
         let q : t .rel ≡ i = omega (arith, t .place) in
-        let g : getD (decode n xs) (t .rel) d ≡ regionAt xs i = ap (λ (k : ℕ). getD (decode n xs) k d) q ∙ decode-at n i xs d below room in
+        let g : getD (decode n xs) (t .rel) d ≡ regionAt xs i = ap (λ (k : ℕ). getD (decode n xs) k d) q ∙ decode-at region n i xs d below room in
         subst⁻¹ (Finds measure xs l len) (is ∙ sym (found-at len b h))
         (record { list = ok; room = room; below = below; suffices = omega (arith, t .suffices, t .spans, ap measure g); span = b .slack + len; is = found })

@@ -13,10 +13,10 @@ use Rattle.free_regions.specs.declared.FreeRegion.{FreeRegion}
 use Rattle.free_regions.specs.Regions.{region, end, shares, join, absorb, insert}
 use Rattle.free_regions.proofs.OrderLaws.{keep-prefix}
 use Rattle.free_regions.proofs.ShareLaws.{shares-at, shares-prefix, shares-above}
+use Rattle.pairs.proofs.PairLaws.{length-decode, decode-at, decode-drop, decode-end}
 use Rattle.free_space.specs.declared.list.FreeList.{FreeList}
 use Rattle.free_space.specs.Runs.{regionAt, regions, isList}
 use Rattle.free_space.specs.Splices.{Apart}
-use Rattle.free_space.proofs.DecodeLaws.{decode-at, decode-drop, decode-end, length-decode}
 use Rattle.free_space.proofs.ListLaws.{listed, region-fits}
 use Rattle.free_space.proofs.PlaceLaws.{rest-within, next-above, later, all-before}
 
@@ -30,12 +30,12 @@ module _ (xs : List ℕ) (l : FreeList) (new : FreeRegion) (some : 0 < new .len)
       let within = apart .high .within in
       let n : lo < l .count = omega arith in
       let r = getD (regions xs l) lo (region 0 0) in
-      let e : r ≡ regionAt xs lo = decode-at (l .count) lo xs (region 0 0) n room in
+      let e : r ≡ regionAt xs lo = decode-at region (l .count) lo xs (region 0 0) n room in
       let s = later xs l ok lo (hi - 1) (omega arith) (omega arith) in
       let i = apart .high .inside h in
       let p = apart .low .past n in
       let f = region-fits xs l lo ok n in
-      shares-at new lo (regions xs l) (region 0 0) (omega (arith, length-decode (l .count) xs room))
+      shares-at new lo (regions xs l) (region 0 0) (omega (arith, length-decode region (l .count) xs room))
       (lt-ltb (max (new .addr) (r .addr)) (min (end new) (end r))
       (omega (arith, ap end e, ap (λ (q : FreeRegion). q .addr) e, s .0, i, p, f .some)))
 
@@ -52,7 +52,7 @@ module _ (xs : List ℕ) (l : FreeList) (new : FreeRegion) (some : 0 < new .len)
         ∙ go (le-or-lt (l .count) i)
       where
         go : (l .count ≤ i) ⊎ (i < l .count) → shares new (drop i (regions xs l)) ≡ false
-        go (inl m) = ap (shares new) (decode-end (l .count) i xs m (listed xs l ok .room))
+        go (inl m) = ap (shares new) (decode-end region (l .count) i xs m (listed xs l ok .room))
         go (inr m) = shares-above new (regionAt xs i .addr) top (drop i (regions xs l)) (rest-within xs l ok i m) (apart .high .from m)
 
     -- the region below does not touch
@@ -63,10 +63,10 @@ module _ (xs : List ℕ) (l : FreeList) (new : FreeRegion) (some : 0 < new .len)
         ∙ ap (λ (q : List FreeRegion). take i (regions xs l) ++ q) (go (le-or-lt (l .count) i))
       where
         go : (l .count ≤ i) ⊎ (i < l .count) → insert new (drop i (regions xs l)) ≡ absorb new (drop i (regions xs l))
-        go (inl m) = let z = decode-end (l .count) i xs m (listed xs l ok .room) in ap (insert new) z ∙ sym (ap (absorb new) z)
+        go (inl m) = let z = decode-end region (l .count) i xs m (listed xs l ok .room) in ap (insert new) z ∙ sym (ap (absorb new) z)
         go (inr m) =
             let r = regionAt xs i in
-            let z = decode-drop (l .count) i xs m (listed xs l ok .room) in
+            let z = decode-drop region (l .count) i xs m (listed xs l ok .room) in
             let p = apart .low .past m in
             ap (insert new) z
             ∙ ap (λ (b : Bool). cond b (r ∷ insert new (drop (i + 1) (regions xs l))) (absorb new (r ∷ drop (i + 1) (regions xs l)))) (le-ltb (end r) (new .addr) (omega arith))
@@ -80,7 +80,7 @@ module _ (xs : List ℕ) (l : FreeList) (new : FreeRegion) (some : 0 < new .len)
         let within = apart .high .within in
         let k : j + 1 ≡ i = omega arith in
         let z : drop j (regions xs l) ≡ r ∷ drop i (regions xs l) =
-        decode-drop (l .count) j xs (omega arith) (listed xs l ok .room) ∙ ap₂ (λ (q : FreeRegion) (u : ℕ). q ∷ drop u (regions xs l)) (sym is) k in
+        decode-drop region (l .count) j xs (omega arith) (listed xs l ok .room) ∙ ap₂ (λ (q : FreeRegion) (u : ℕ). q ∷ drop u (regions xs l)) (sym is) k in
         let joined : join new r ≡ region (r .addr) (r .len + new .len) =
         ap₂ region (let g : min (new .addr) (r .addr) ≡ r .addr = omega arith in g)
         (let g : max (end new) (end r) - min (new .addr) (r .addr) ≡ r .len + new .len = omega arith in g) in
@@ -106,10 +106,10 @@ module _ (xs : List ℕ) (l : FreeList) (ok : isList xs l ≡ true) where
   absorb-apart new i h = go (le-or-lt (l .count) i)
     where
       go : (l .count ≤ i) ⊎ (i < l .count) → absorb new (drop i (regions xs l)) ≡ new ∷ drop i (regions xs l)
-      go (inl m) = let z = decode-end (l .count) i xs m (listed xs l ok .room) in ap (absorb new) z ∙ ap (λ (q : List FreeRegion). new ∷ q) (sym z)
+      go (inl m) = let z = decode-end region (l .count) i xs m (listed xs l ok .room) in ap (absorb new) z ∙ ap (λ (q : List FreeRegion). new ∷ q) (sym z)
       go (inr m) =
           let r = regionAt xs i in
-          let z = decode-drop (l .count) i xs m (listed xs l ok .room) in
+          let z = decode-drop region (l .count) i xs m (listed xs l ok .room) in
           ap (absorb new) z
           ∙ ap (λ (b : Bool). cond b (absorb (join new r) (drop (i + 1) (regions xs l))) (new ∷ r ∷ drop (i + 1) (regions xs l))) (lt-leb (r .addr) (end new) (h m))
           ∙ ap (λ (q : List FreeRegion). new ∷ q) (sym z)
@@ -118,7 +118,7 @@ module _ (xs : List ℕ) (l : FreeList) (ok : isList xs l ≡ true) where
       → absorb new (drop i (regions xs l)) ≡ region (new .addr) (new .len + r .len) ∷ drop (i + 1) (regions xs l)
   absorb-touch new i r m is t =
       let z : drop i (regions xs l) ≡ r ∷ drop (i + 1) (regions xs l) =
-      decode-drop (l .count) i xs m (listed xs l ok .room) ∙ ap (λ (q : FreeRegion). q ∷ drop (i + 1) (regions xs l)) (sym is) in
+      decode-drop region (l .count) i xs m (listed xs l ok .room) ∙ ap (λ (q : FreeRegion). q ∷ drop (i + 1) (regions xs l)) (sym is) in
       let joined : join new r ≡ region (new .addr) (new .len + r .len) =
       ap₂ region (let g : min (new .addr) (r .addr) ≡ new .addr = omega arith in g)
       (let g : max (end new) (end r) - min (new .addr) (r .addr) ≡ new .len + r .len = omega arith in g) in

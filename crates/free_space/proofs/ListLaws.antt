@@ -14,18 +14,19 @@ use Rattle.fields.specs.Ranges.{top}
 use Rattle.free_regions.specs.Regions.{region, end, Free, fitsFrom, okFrom}
 use Rattle.free_regions.proofs.OkLaws.{Fit, ok-at, ok-prop}
 use Rattle.free_regions.proofs.UniqueLaws.{list-unique}
+use Rattle.pairs.proofs.PairLaws.{length-decode, decode-at, decode-drop}
+use Rattle.pairs.specs.Pairs.{capacity}
 use Rattle.free_space.specs.declared.list.FreeList.{FreeList}
-use Rattle.free_space.specs.Runs.{capacity, regionAt, decode, regions, isList}
-use Rattle.free_space.proofs.DecodeLaws.{decode-drop, decode-at, length-decode}
+use Rattle.free_space.specs.Runs.{regionAt, decode, regions, isList}
 
 -- ---- a turn of a loop that tests
 
 module _ (n i low : ℕ) (xs : List ℕ) (l : i < n) (room : 2 * n ≤ length xs) where
   pub ok-turn : fitsFrom low (regionAt xs i) ≡ true → okFrom low (drop i (decode n xs)) ≡ okFrom (suc (end (regionAt xs i))) (drop (i + 1) (decode n xs))
-  ok-turn e = ap (okFrom low) (decode-drop n i xs l room) ∙ ap (λ (b : Bool). b && okFrom (suc (end (regionAt xs i))) (drop (i + 1) (decode n xs))) e
+  ok-turn e = ap (okFrom low) (decode-drop region n i xs l room) ∙ ap (λ (b : Bool). b && okFrom (suc (end (regionAt xs i))) (drop (i + 1) (decode n xs))) e
 
   pub ok-stop : fitsFrom low (regionAt xs i) ≡ false → okFrom low (drop i (decode n xs)) ≡ false
-  ok-stop e = ap (okFrom low) (decode-drop n i xs l room) ∙ ap (λ (b : Bool). b && okFrom (suc (end (regionAt xs i))) (drop (i + 1) (decode n xs))) e
+  ok-stop e = ap (okFrom low) (decode-drop region n i xs l room) ∙ ap (λ (b : Bool). b && okFrom (suc (end (regionAt xs i))) (drop (i + 1) (decode n xs))) e
 
 -- ---- a list as its three parts
 
@@ -53,8 +54,8 @@ pub region-fits : (xs : List ℕ) (l : FreeList) (i : ℕ) → isList xs l ≡ t
 region-fits xs l i e h =
     let p = listed xs l e in
     let n = l .count in
-    let k : i < length (decode n xs) = omega (arith, length-decode n xs (p .room)) in
-    subst (Fit 0) (decode-at n i xs (region 0 0) h (p .room)) (ok-at 0 i (decode n xs) (region 0 0) (p .ok) k)
+    let k : i < length (decode n xs) = omega (arith, length-decode region n xs (p .room)) in
+    subst (Fit 0) (decode-at region n i xs (region 0 0) h (p .room)) (ok-at 0 i (decode n xs) (region 0 0) (p .ok) k)
 
 -- ---- two runs and records that are lists
 

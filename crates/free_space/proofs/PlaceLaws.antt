@@ -10,9 +10,9 @@ use Rattle.free_regions.specs.declared.FreeRegion.{FreeRegion}
 use Rattle.free_regions.specs.Regions.{region, end}
 use Rattle.free_regions.proofs.OkLaws.{Within, ok-prop}
 use Rattle.free_regions.proofs.OrderLaws.{EndBefore, end-before, drop-within, next-in}
+use Rattle.pairs.proofs.PairLaws.{length-decode, decode-at}
 use Rattle.free_space.specs.declared.list.FreeList.{FreeList}
 use Rattle.free_space.specs.Runs.{regionAt, regions, isList}
-use Rattle.free_space.proofs.DecodeLaws.{decode-at, length-decode}
 use Rattle.free_space.proofs.ListLaws.{listed, region-fits}
 
 module _ (xs : List ℕ) (l : FreeList) (ok : isList xs l ≡ true) where
@@ -20,10 +20,10 @@ module _ (xs : List ℕ) (l : FreeList) (ok : isList xs l ≡ true) where
   room = listed xs l ok .room
 
   long : length (regions xs l) ≡ l .count
-  long = length-decode (l .count) xs room
+  long = length-decode region (l .count) xs room
 
   at-is : (i : ℕ) → i < l .count → getD (regions xs l) i (region 0 0) ≡ regionAt xs i
-  at-is i h = decode-at (l .count) i xs (region 0 0) h room
+  at-is i h = decode-at region (l .count) i xs (region 0 0) h room
 
   ordered : Within 0 top (regions xs l)
   ordered = ok-prop 0 (regions xs l) .0 (listed xs l ok .ok)

@@ -13,15 +13,15 @@ use Rattle.error.specs.declared.Refusal.the-variants.{NotAList}
 use Rattle.error.specs.Outcome.{answer, refused}
 use Rattle.error.proofs.OutcomeLaws.{refuses, passes}
 use Rattle.error.proofs.TestLaws.{and-true}
+use Rattle.pairs.specs.Pairs.{isRun}
 use Rattle.free_regions.specs.declared.FreeRegion.{FreeRegion}
-use Rattle.free_regions.specs.Regions.{end, fitsFrom, okFrom}
+use Rattle.free_regions.specs.Regions.{end, fitsFrom, okFrom, region}
+use Rattle.pairs.proofs.PairLaws.{decode-drop, decode-end}
 use Rattle.free_space.specs.declared.list.FreeList.{FreeList}
 use Rattle.free_space.specs.declared.questions.Measure.{Measure}
 use Rattle.free_space.specs.Runs.{regionAt, decode, regions, isList}
 use Rattle.free_space.specs.Questions.{greatest}
-use Rattle.free_space.specs.Splices.{evenRoom}
 use Rattle.free_space.specs.Passes.{measureOf, greatestOf}
-use Rattle.free_space.proofs.DecodeLaws.{decode-drop, decode-end}
 use Rattle.free_space.proofs.ListLaws.{is-list-else}
 
 -- ---- a flag that the code tests by `if !..`, and what its function ensures of it
@@ -38,7 +38,7 @@ pub record Room (xs : List ℕ) (n : ℕ) : Type 0 where
   pub even : length xs % 2 ≡ 0
   pub fits : 2 * n ≤ length xs
 
-pub room : (xs : List ℕ) (n : ℕ) → evenRoom (length xs) n ≡ true → Room xs n
+pub room : (xs : List ℕ) (n : ℕ) → isRun xs n ≡ true → Room xs n
 room xs n e =
     let p = and-true (eqb (length xs % 2) 0) (leb n (length xs / 2)) e in
     let h : n ≤ length xs / 2 = leb-true n (length xs / 2) (p .1) in
@@ -48,7 +48,7 @@ module _ (what : Measure) (xs : List ℕ) (list : FreeList) where
   no-list : isList xs list ≡ false → refused NotAList ≡ greatestOf what xs list
   no-list e = refuses _ _ _ (ap not e)
 
-  pub pass-no-room : evenRoom (length xs) (list .count) ≡ false → refused NotAList ≡ greatestOf what xs list
+  pub pass-no-room : isRun xs (list .count) ≡ false → refused NotAList ≡ greatestOf what xs list
   unfolding isList
   pass-no-room e = no-list (go (eqb (length xs % 2) 0) (leb (list .count) (length xs / 2)) e)
     where
@@ -81,7 +81,7 @@ pub record Passed (what : Measure) (xs : List ℕ) (n i e m : ℕ) : Type 0 wher
 
 -- the regions from i on, of which r is the one that the code reads
 pub here : (n i : ℕ) (xs : List ℕ) (r : FreeRegion) → r ≡ regionAt xs i → i < n → 2 * n ≤ length xs → drop i (decode n xs) ≡ r ∷ drop (i + 1) (decode n xs)
-here n i xs r is l h = decode-drop n i xs l h ∙ ap (λ (q : FreeRegion). q ∷ drop (i + 1) (decode n xs)) (sym is)
+here n i xs r is l h = decode-drop region n i xs l h ∙ ap (λ (q : FreeRegion). q ∷ drop (i + 1) (decode n xs)) (sym is)
 
 module _ (what : Measure) (xs : List ℕ) (list : FreeList) (i : ℕ) (r : FreeRegion) (is : r ≡ regionAt xs i) (l : i < list .count) where
   next : List FreeRegion
@@ -121,5 +121,5 @@ module _ (what : Measure) (xs : List ℕ) (list : FreeList) where
 
   pub pass-end : (i : ℕ) {e m : ℕ} → Passed what xs (list .count) i e m → list .count ≤ i → answer m ≡ greatestOf what xs list
   pass-end i {e} {m} p k =
-      let z : drop i (regions xs list) ≡ [] = decode-end (list .count) i xs k (p .room .fits) in
+      let z : drop i (regions xs list) ≡ [] = decode-end region (list .count) i xs k (p .room .fits) in
       whole what xs list (p .room) m (sym (p .ok) ∙ ap (okFrom (suc e)) z) (omega (arith, p .most, ap (greatest (measureOf what)) z))

@@ -14,15 +14,17 @@ use Rattle.error.proofs.OverLaws.{over-nil, over-front}
 use Rattle.error.proofs.OutcomeLaws.{refuses, passes}
 use Rattle.free_regions.specs.declared.FreeRegion.{FreeRegion}
 use Rattle.free_regions.specs.Regions.{region, piece, spliced}
+use Rattle.pairs.proofs.PairLaws.{length-decode, length-flat, flat-decode, length-spliced}
+use Rattle.pairs.specs.Pairs.{capacity}
 use Rattle.free_space.specs.declared.list.FreeList.{FreeList}
 use Rattle.free_space.specs.declared.run.Patch.{Patch}
 use Rattle.free_space.specs.declared.decide.Decision.the-variants.{Refused, Nothing, Change}
-use Rattle.free_space.specs.Runs.{capacity, recordOf, decode, flat, regions, isList, stored}
+use Rattle.free_space.specs.Runs.{recordOf, decode, flat, regions, isList, stored}
 use Rattle.free_space.specs.Calls.{placed, giving, keeping}
 use Rattle.free_space.specs.Splices.{patch}
 use Rattle.free_space.specs.Decisions.{fitted, leave, givenBy, keptBy}
-use Rattle.free_space.proofs.DecodeLaws.{length-flat, flat-decode, length-decode, length-spliced}
 use Rattle.free_space.proofs.ListLaws.{listed}
+use Rattle.free_space.proofs.DecodeLaws.{region-form}
 
 -- ---- what is left of a region on either side of a range
 
@@ -68,7 +70,7 @@ module _ (xs : List ℕ) (l : FreeList) (a lo hi : ℕ) (p : Patch) (lo-hi : lo 
 
   long : length rs ≡ needed
   unfolding rs needed
-  long = length-spliced xs (l .count) lo hi (patch p) lo-hi hi-n room
+  long = length-spliced region-form xs (l .count) lo hi (patch p) lo-hi hi-n room
 
   refuse : {A : Type 0} (give : FreeList → A) → ltb (capacity xs) needed ≡ true → refused (OverCapacity needed (capacity xs)) ≡ placed give xs l rs
   refuse give e =
@@ -102,18 +104,18 @@ pub stored-same : (xs : List ℕ) (n : ℕ) → 2 * n ≤ length xs → stored x
 unfolding stored
 stored-same xs n h =
     let rs = decode n xs in
-    let z : 2 * n - length (flat rs) ≡ 0 = omega (arith, length-flat rs, length-decode n xs h) in
-    ap₂ (λ (l : List ℕ) (k : ℕ). over 0 (l ++ replicate k 0) xs) (flat-decode n xs h) z ∙ sym (over-front (2 * n) [] xs h) ∙ over-nil (2 * n) xs
+    let z : 2 * n - length (flat rs) ≡ 0 = omega (arith, length-flat region-form rs, length-decode region n xs h) in
+    ap₂ (λ (l : List ℕ) (k : ℕ). over 0 (l ++ replicate k 0) xs) (flat-decode region-form n xs h) z ∙ sym (over-front (2 * n) [] xs h) ∙ over-nil (2 * n) xs
 
 -- a list's record is the one that its regions have
 pub record-same : (xs : List ℕ) (l : FreeList) → isList xs l ≡ true → recordOf (regions xs l) ≡ l
-record-same xs l ok = ap (λ (n : ℕ). record { count = n }) (length-decode (l .count) xs (listed xs l ok .room))
+record-same xs l ok = ap (λ (n : ℕ). record { count = n }) (length-decode region (l .count) xs (listed xs l ok .room))
 
 pub kept-same : (xs : List ℕ) (l : FreeList) (rs : List FreeRegion) → isList xs l ≡ true → rs ≡ regions xs l → keptBy xs l Nothing ≡ placed keeping xs l rs
 kept-same xs l rs ok e =
     let n = l .count in
     let room = listed xs l ok .room in
-    let long : length (regions xs l) ≡ n = length-decode n xs room in
+    let long : length (regions xs l) ≡ n = length-decode region n xs room in
     let fits : ltb (capacity xs) (length (regions xs l)) ≡ false = le-ltb (capacity xs) (length (regions xs l)) (omega arith) in
     ap₂ (λ (k : FreeList) (ys : List ℕ). answer (with k ys)) (sym (record-same xs l ok)) (sym (stored-same xs n room))
     ∙ passes _ _ _ fits

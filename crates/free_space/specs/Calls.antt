@@ -25,12 +25,13 @@ use Rattle.fields.specs.Ranges.{top}
 use Rattle.free_regions.specs.declared.FreeRegion.{FreeRegion}
 use Rattle.free_regions.specs.Regions.{region, end, shares, insert, cutAll, around, spliced, Found, none, at, best}
 use Rattle.free_regions.specs.Units.{interiorStart, interiorSpan}
+use Rattle.pairs.specs.Pairs.{capacity}
 use Rattle.free_space.specs.declared.list.FreeList.{FreeList}
 use Rattle.free_space.specs.declared.list.Kept.{Kept}
 use Rattle.free_space.specs.declared.list.Kept.the-variants as kept
 use Rattle.free_space.specs.declared.list.Given.{Given}
 use Rattle.free_space.specs.declared.list.Given.the-variants as given
-use Rattle.free_space.specs.Runs.{capacity, recordOf, regions, isList, stored}
+use Rattle.free_space.specs.Runs.{recordOf, regions, isList, stored}
 
 pub record Gave : Type 0 where
   pub addr : ℕ

@@ -1,5 +1,4 @@
 -- A lent run of numbers as a list of regions, and the run that holds a list of regions. Assumes nothing.
---   capacity   how many regions a run has room for: half its length
 --   regionAt   the i-th pair of a run
 --   decode     the first n pairs of a run, as regions
 --   flat       regions as a run: address, length, address, length, ..
@@ -7,31 +6,26 @@
 --   regions    the regions of a run by its record
 --   isList     the run and the record are a list: what refusal 3 tests
 --   stored     the run after an accepted call that leaves regions where there were n: the regions, then 0 up to the old count, the rest as it was
-use Prim.Native.Nat.{ℕ, zero, suc, _+_, _-_, _*_, _/_, _%_}
+use Prim.Native.Nat.{ℕ, _-_, _*_}
 use mathlib.Core.Bool.{Bool, _&&_}
-use mathlib.Core.List.{List, [], _∷_, _++_}
-use lib.Dec.{leb, eqb}
-use lib.ListN.{length, getD, replicate}
+use mathlib.Core.List.{List, _++_}
+use lib.Dec.{leb}
+use lib.ListN.{length, replicate}
 use Rattle.error.specs.Lent.{over}
+use Rattle.pairs.specs.Pairs as pairs
+use Rattle.pairs.specs.Pairs.{capacity, isEven, pairAt}
 use Rattle.free_regions.specs.declared.FreeRegion.{FreeRegion}
 use Rattle.free_regions.specs.Regions.{region, okFrom}
 use Rattle.free_space.specs.declared.list.FreeList.{FreeList}
 
-abbrev pub capacity : List ℕ → ℕ
-capacity xs = length xs / 2
-
 abbrev pub regionAt : List ℕ → ℕ → FreeRegion
-regionAt xs i = region (getD xs (2 * i) 0) (getD xs (2 * i + 1) 0)
+regionAt xs i = pairAt region xs i
 
 abbrev pub decode : ℕ → List ℕ → List FreeRegion
-decode zero xs = []
-decode (suc n) [] = []
-decode (suc n) (a ∷ []) = []
-decode (suc n) (a ∷ l ∷ xs) = region a l ∷ decode n xs
+decode n xs = pairs.decode region n xs
 
 abbrev pub flat : List FreeRegion → List ℕ
-flat [] = []
-flat (r ∷ rs) = r .addr ∷ r .len ∷ flat rs
+flat rs = pairs.flat (λ r. r .addr) (λ r. r .len) rs
 
 abbrev pub recordOf : List FreeRegion → FreeList
 recordOf rs = record { count = length rs }
@@ -40,7 +34,7 @@ abbrev pub regions : List ℕ → FreeList → List FreeRegion
 regions xs l = decode (l .count) xs
 
 unfoldable pub isList : List ℕ → FreeList → Bool
-isList xs l = eqb (length xs % 2) 0 && (leb (l .count) (capacity xs) && okFrom 0 (regions xs l))
+isList xs l = isEven xs && (leb (l .count) (capacity xs) && okFrom 0 (regions xs l))
 
 unfoldable pub stored : List ℕ → ℕ → List FreeRegion → List ℕ
 stored xs n rs = over 0 (flat rs ++ replicate (2 * n - length (flat rs)) 0) xs

@@ -1,5 +1,4 @@
 -- What the inner functions of the calls know of a run, and what a patch holds. No public contract cites this file. Assumes nothing.
---   evenRoom   a run of this length is of pairs and has room for a count of them
 --   Stands     where a pass stands: at a region, with all up to it tested
 --   Begins     what is known where the room and the first region were tested
 --   Past       the first region that ends past a place
@@ -7,11 +6,10 @@
 --   Apart      the regions between two places share a byte with a range, and no others
 --   Meets      the answer of the search for the regions that share a byte with a range
 --   patch      the regions that take the place of others
-use Prim.Native.Nat.{ℕ, suc, _+_, _-_, _*_, _/_, _%_, _≤_, _<_}
+use Prim.Native.Nat.{ℕ, suc, _+_, _-_, _*_, _≤_, _<_}
 use mathlib.Core.Path.{_≡_}
-use mathlib.Core.Bool.{Bool, true, false, _&&_}
+use mathlib.Core.Bool.{true, false}
 use mathlib.Core.List.{List, [], _∷_}
-use lib.Dec.{leb, eqb}
 use lib.ListN.{length, drop}
 use Rattle.fields.specs.Ranges.{top}
 use Rattle.free_regions.specs.declared.FreeRegion.{FreeRegion}
@@ -24,9 +22,6 @@ use Rattle.free_space.specs.declared.meet.Meet.the-variants as meet
 use Rattle.free_space.specs.declared.run.Patch.{Patch}
 use Rattle.free_space.specs.declared.run.Patch.the-variants.{Empty, One, Two}
 use Rattle.free_space.specs.Runs.{regionAt, regions, isList}
-
-abbrev pub evenRoom : ℕ → ℕ → Bool
-evenRoom len n = eqb (len % 2) 0 && leb n (len / 2)
 
 -- r is the region at i, and the regions up to it are tested
 pub record Stands (xs : List ℕ) (l : FreeList) (i : ℕ) (r : FreeRegion) : Type 0 where

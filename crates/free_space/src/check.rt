@@ -5,20 +5,11 @@ ghost use Prim.Native.Nat.{suc, _*_, _≤_};
 ghost use lib.ListN.{length, drop};
 ghost use Rattle.free_regions.specs.Regions.{fitsFrom, okFrom};
 ghost use Rattle.free_space.specs.Runs.{decode, isList};
-ghost use Rattle.free_space.specs.Splices.{evenRoom, Begins};
+ghost use Rattle.free_space.specs.Splices.{Begins};
 use crate::list::FreeList;
 use crate::run::region_at;
 use free_regions::FreeRegion;
-
-// Whether a run is of pairs and has room for `count` of them.
-pub(crate) fn has_room(len: usize, count: usize) -> bool
-    ensures { λ b. ⌜ b ≡ evenRoom len count ⌝ }
-{
-    if len % 2 != 0 {
-        return false;
-    }
-    count <= len / 2
-}
+use pairs::is_run;
 
 // Whether a region is not empty and ends within 64 bits. The wrapped end is above the address in no other case.
 pub(crate) fn stands(r: FreeRegion) -> bool
@@ -67,7 +58,7 @@ pub(crate) fn first_region(run: &[u64], list: FreeList) -> Head
     ensures { λ h. ⌜ Begins (now (run .entry)) list h ⌝ }
 {
     let count = list.count;
-    if !has_room(run.len(), count) {
+    if !is_run(run, count) {
         return Head::Bad;
     }
     if count == 0 {

@@ -6,5 +6,5 @@ mod join;
 pub mod list;
 mod meet;
 pub mod questions;
-mod run;
+pub mod run;
 mod units;

@@ -7,7 +7,6 @@ ghost use Rattle.free_regions.specs.Regions.{end};
 ghost use Rattle.free_space.specs.Questions.{largestOf, largestUnitsOf};
 ghost use Rattle.free_space.specs.Passes.{measureOf, greatestOf};
 use crate::check::follows;
-use crate::check::has_room;
 use crate::check::stands;
 use crate::list::FreeList;
 use crate::run::region_at;
@@ -15,6 +14,7 @@ use crate::units::whole_units;
 use error::Number;
 use error::Refusal;
 use free_regions::FreeRegion;
+use pairs::is_run;
 
 // What counts of a region: its length, or the length of its aligned interior.
 enum Measure {
@@ -41,7 +41,7 @@ fn greatest_of(run: &[u64], list: FreeList, what: Measure) -> Number
     ensures { λ r. ⌜ numberOutcome r ≡ greatestOf what (now (run .entry)) list ⌝ }
 {
     let count = list.count;
-    if !has_room(run.len(), count) {
+    if !is_run(run, count) {
         return Number::Refused(Refusal::NotAList);
     }
     if count == 0 {

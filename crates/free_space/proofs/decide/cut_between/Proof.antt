@@ -24,19 +24,13 @@ returns c =
     (kept-same xs (a .list) _ (pre .0 .list) (cut-none xs (a .list) (a .a) (a .e) (a .lo) (a .hi) (pre .1) (pre .0) (c .if1 .taken)), tt)
 
 region-at-requires : tie.Need-region-at-requires
-region-at-requires c κs =
-    let a = c .before .before .args in
-    let p = c .before .before .pre .0 in
-    omega (arith, p .high .order, p .high .within, listed (now (a .run)) (a .list) (p .list) .room)
+region-at-requires c κs = search needs
 
 sub-region-at : tie.Need-sub-region-at
 sub-region-at c = omega (arith, c .before .before .before .pre .0 .high .order)
 
 region-at-requires-2 : tie.Need-region-at-requires-2
-region-at-requires-2 c κs =
-    let a = c .before .before .before .args in
-    let p = c .before .before .before .pre .0 in
-    omega (arith, p .high .order, p .high .within, listed (now (a .run)) (a .list) (p .list) .room)
+region-at-requires-2 c κs = search needs
 
 add-edges : tie.Need-add-edges
 add-edges c =

@@ -32,10 +32,7 @@ enum-known-s : tie.Need-enum-known-s
 enum-known-s c = search needs
 
 region-at-requires : tie.Need-region-at-requires
-region-at-requires c κs =
-    let a = c .before .before .before .before .before .before .args in
-    let f = subst (Finds (λ r. r .len) (now (a .run)) (a .list) (a .len)) (c .before .s .given .1) (c .before .before .before .best-fit .ensures) in
-    omega (arith, f .below, f .room)
+region-at-requires c κs = search needs
 
 take-part-requires : tie.Need-take-part-requires
 take-part-requires c κs =

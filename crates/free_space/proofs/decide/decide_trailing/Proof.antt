@@ -32,11 +32,7 @@ sub-region-at : tie.Need-sub-region-at
 sub-region-at c = search needs
 
 region-at-requires : tie.Need-region-at-requires
-region-at-requires c κs =
-    let a = c .before .before .before .before .args in
-    let t = c .before .before .is-list in
-    let room = listed (now (a .run)) (a .list) (sym (t .ensures) ∙ not-false (t .result) (c .before .if1 .left)) .room in
-    omega arith
+region-at-requires c κs = search needs
 
 add-if3 : tie.Need-add-if3
 add-if3 c =

@@ -49,10 +49,7 @@ enum-known-s : tie.Need-enum-known-s
 enum-known-s c = search needs
 
 region-at-requires : tie.Need-region-at-requires
-region-at-requires c κs =
-    let a = c .before .before .before .before .before .before .before .before .args in
-    let f = subst (Finds (interiorSpan (a .unit)) (now (a .run)) (a .list) (a .len)) (c .before .s .given .1) (c .before .before .before .best-units .ensures) in
-    omega (arith, f .below, f .room)
+region-at-requires c κs = search needs
 
 take-units-requires : tie.Need-take-units-requires
 take-units-requires c κs =

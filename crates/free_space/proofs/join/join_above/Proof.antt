@@ -3,17 +3,13 @@ use native.Mathlib.Omega.{arith}
 use borrow.Author.Needs.{needs}
 use denote.Ref.{now}
 use Rattle.free_regions.specs.declared.FreeRegion.{FreeRegion}
-use Rattle.free_space.proofs.ListLaws.{listed}
 use Rattle.free_space.proofs.CheckLaws.{read-fits}
 use Rattle.free_space.proofs.InsertLaws.{absorb-apart, absorb-touch}
 use Rattle.free_space.proofs.join.join_above.Statement.{statement}
 use Rattle.free_space.proofs.join.join_above.Tie as tie
 
 region-at-requires : tie.Need-region-at-requires
-region-at-requires c κs =
-    let a = c .before .before .before .args in
-    let pre = c .before .before .before .pre in
-    omega (arith, listed (now (a .run)) (a .list) (pre .0) .room)
+region-at-requires c κs = search needs
 
 add-if2 : tie.Need-add-if2
 add-if2 c = search needs

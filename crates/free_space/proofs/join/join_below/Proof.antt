@@ -4,7 +4,6 @@ use native.Mathlib.Omega.{arith}
 use borrow.Author.Needs.{needs}
 use denote.Ref.{now}
 use Rattle.free_regions.specs.Regions.{end}
-use Rattle.free_space.proofs.ListLaws.{listed}
 use Rattle.free_space.proofs.CheckLaws.{read-fits}
 use Rattle.free_space.proofs.InsertLaws.{insert-apart, insert-touch}
 use Rattle.free_space.proofs.join.join_below.Statement.{statement}
@@ -14,10 +13,7 @@ sub-region-at : tie.Need-sub-region-at
 sub-region-at c = search needs
 
 region-at-requires : tie.Need-region-at-requires
-region-at-requires c κs =
-    let a = c .before .before .args in
-    let p = c .before .before .pre .0 in
-    omega (arith, p .high .within, listed (now (a .run)) (a .list) (p .list) .room)
+region-at-requires c κs = search needs
 
 add-if2 : tie.Need-add-if2
 add-if2 c =

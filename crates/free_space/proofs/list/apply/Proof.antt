@@ -4,10 +4,11 @@ use native.Mathlib.Omega.{arith}
 use denote.Ref.{now}
 use Rattle.free_space.specs.declared.list.FreeList.{FreeList}
 use Rattle.free_space.specs.Splices.{patch}
-use Rattle.free_space.proofs.DecodeLaws.{length-spliced}
 use borrow.Author.Needs.{needs}
 use Rattle.free_space.proofs.list.apply.Statement.{statement}
 use Rattle.free_space.proofs.list.apply.Tie as tie
+use Rattle.pairs.proofs.PairLaws.{length-spliced}
+use Rattle.free_space.proofs.DecodeLaws.{region-form}
 
 patch-len-requires : tie.Need-patch-len-requires
 patch-len-requires c κs = search needs
@@ -34,7 +35,7 @@ returns c =
     let n = a .list .count in
     let record-of : ℕ → FreeList = λ m. record { count = m } in (
       ap (λ (m : ℕ). record-of (a .lo + m + (n - a .hi))) (k .ensures .0)
-          ∙ ap record-of (sym (length-spliced (now (a .run)) n (a .lo) (a .hi) (patch (a .p)) (omega arith) (omega arith) (omega arith))),
+          ∙ ap record-of (sym (length-spliced region-form (now (a .run)) n (a .lo) (a .hi) (patch (a .p)) (omega arith) (omega arith) (omega arith))),
       c .before .before .replace .ensures,
     )
 

@@ -5,7 +5,6 @@ use borrow.Author.Needs.{needs}
 use denote.Ref.{now}
 use Rattle.free_regions.specs.declared.FreeRegion.{FreeRegion}
 use Rattle.free_space.specs.Runs.{regionAt}
-use Rattle.free_space.proofs.ListLaws.{listed}
 use Rattle.free_space.proofs.MeetLaws.{region-before}
 use Rattle.free_space.proofs.meet.first_from.Statement.{statement}
 use Rattle.free_space.proofs.meet.first_from.Tie as tie
@@ -20,9 +19,7 @@ loop-holds : tie.Need-loop-holds Inv-loop μ-loop
 loop-holds c = (omega arith, search needs, λ h. absurd (omega arith))
 
 region-at-requires : tie.Need-region-at-requires Inv-loop μ-loop
-region-at-requires c κs =
-    let a = c .before .before .before .before .args in
-    omega (arith, listed (now (a .run)) (a .list) (c .before .before .before .before .pre .0) .room)
+region-at-requires c κs = search needs
 
 returns : tie.Need-returns Inv-loop μ-loop
 returns c =

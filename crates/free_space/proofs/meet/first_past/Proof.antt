@@ -5,7 +5,6 @@ use borrow.Author.Needs.{needs}
 use denote.Ref.{now}
 use Rattle.free_regions.specs.Regions.{end}
 use Rattle.free_space.specs.Runs.{regionAt}
-use Rattle.free_space.proofs.ListLaws.{listed}
 use Rattle.free_space.proofs.CheckLaws.{read-fits}
 use Rattle.free_space.proofs.MeetLaws.{region-before}
 use Rattle.free_space.proofs.meet.first_past.Statement.{statement}
@@ -28,10 +27,7 @@ add-mid : tie.Need-add-mid Inv-loop μ-loop
 add-mid c = search needs
 
 region-at-requires : tie.Need-region-at-requires Inv-loop μ-loop
-region-at-requires c κs =
-    let a = c .before .before .before .args in
-    let l = c .before .loop in
-    omega (arith, l .inv .1, listed (now (a .run)) (a .list) (c .before .before .before .pre) .room)
+region-at-requires c κs = search needs
 
 add-if1 : tie.Need-add-if1 Inv-loop μ-loop
 add-if1 c =

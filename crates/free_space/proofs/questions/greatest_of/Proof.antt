@@ -17,19 +17,19 @@ abbrev μ-loop : tie.MeasureT-loop
 
 -- the run has room for the count
 has : (s : tie.Else1 Inv-loop μ-loop) → Room (now (s .before .before .before .args .run)) (s .before .before .before .args .list .count)
-has s = room _ _ (held (s .before .has-room .ensures) (s .if1 .left))
+has s = room _ _ (held (s .before .is-run .ensures) (s .if1 .left))
 
-has-room-requires : tie.Need-has-room-requires Inv-loop μ-loop
-has-room-requires c κs = search needs
+is-run-requires : tie.Need-is-run-requires Inv-loop μ-loop
+is-run-requires c κs = search needs
 
 returns : tie.Need-returns Inv-loop μ-loop
-returns c = pass-no-room (c .before .before .before .args .what) _ _ (denied (c .before .has-room .ensures) (c .if1 .taken))
+returns c = pass-no-room (c .before .before .before .args .what) _ _ (denied (c .before .is-run .ensures) (c .if1 .taken))
 
 returns-2 : tie.Need-returns-2 Inv-loop μ-loop
 returns-2 c = pass-empty (c .before .before .before .before .args .what) _ _ (has (c .before)) (c .if2 .taken)
 
 region-at-requires : tie.Need-region-at-requires Inv-loop μ-loop
-region-at-requires c κs = omega (arith, has (c .before) .fits)
+region-at-requires c κs = search needs
 
 stands-requires : tie.Need-stands-requires Inv-loop μ-loop
 stands-requires c κs = search needs
@@ -56,7 +56,7 @@ loop-holds c =
     (held (r .stands .ensures) (c .before .before .if3 .left)) (c .before .measured .ensures)
 
 region-at-requires-2 : tie.Need-region-at-requires-2 Inv-loop μ-loop
-region-at-requires-2 c κs = omega (arith, c .before .loop .inv .room .fits)
+region-at-requires-2 c κs = search needs
 
 follows-requires : tie.Need-follows-requires Inv-loop μ-loop
 follows-requires c κs = search needs
@@ -115,7 +115,7 @@ greatest-of-spec =
     (tie.spec
     Inv-loop
     μ-loop
-    has-room-requires
+    is-run-requires
     returns
     returns-2
     region-at-requires

@@ -19,20 +19,20 @@ enum-told c = search needs
 enum-known-p : tie.Need-enum-known-p
 enum-known-p c = search needs
 
-put-region-requires : tie.Need-put-region-requires
-put-region-requires c κs = omega (arith, ap (λ (q : Patch). length (patch q)) (c .before .before .p .given .1))
+put-pair-requires : tie.Need-put-pair-requires
+put-pair-requires c κs = omega (arith, ap (λ (q : Patch). length (patch q)) (c .before .before .p .given .1))
 
 enum-known-p-2 : tie.Need-enum-known-p-2
 enum-known-p-2 c = search needs
 
-put-region-requires-2 : tie.Need-put-region-requires-2
-put-region-requires-2 c κs = omega (arith, ap (λ (q : Patch). length (patch q)) (c .before .before .p2 .given .1))
+put-pair-requires-2 : tie.Need-put-pair-requires-2
+put-pair-requires-2 c κs = omega (arith, ap (λ (q : Patch). length (patch q)) (c .before .before .p2 .given .1))
 
-add-put-region : tie.Need-add-put-region
-add-put-region c = search needs
+add-put-pair : tie.Need-add-put-pair
+add-put-pair c = search needs
 
-put-region-requires-3 : tie.Need-put-region-requires-3
-put-region-requires-3 c κs = omega (arith, c .before .before .before .put-region2 .kept .0, ap (λ (q : Patch). length (patch q)) (c .before .before .before .before .before .before .p2 .given .1))
+put-pair-requires-3 : tie.Need-put-pair-requires-3
+put-pair-requires-3 c κs = omega (arith, c .before .before .before .put-pair2 .kept .0, ap (λ (q : Patch). length (patch q)) (c .before .before .before .before .before .before .p2 .given .1))
 
 returns : tie.Need-returns
 returns c =
@@ -45,7 +45,7 @@ same-length c = search needs
 returns-2 : tie.Need-returns-2
 returns-2 c =
     let a = c .before .before .before .before .before .before .before .before .args in
-    c .before .before .put-region .ensures ∙ ap (λ (q : Patch). over (a .at) (flat (patch q)) (now (a .run))) (sym (c .before .before .before .before .before .p .given .1))
+    c .before .before .put-pair .ensures ∙ ap (λ (q : Patch). over (a .at) (flat (patch q)) (now (a .run))) (sym (c .before .before .before .before .before .p .given .1))
 
 same-length-2 : tie.Need-same-length-2
 same-length-2 c = search needs
@@ -54,8 +54,8 @@ returns-3 : tie.Need-returns-3
 returns-3 c =
     let a = c .before .before .before .before .before .before .before .before .before .before .before .before .args in
     let g = c .before .before .before .before .before .before .before .before .before .p2 .given in
-    c .before .before .put-region3 .ensures
-    ∙ ap (λ (l : List ℕ). over (a .at + 2) (flat (g .0 .1 .0 ∷ [])) l) (c .before .before .before .before .before .before .put-region2 .ensures)
+    c .before .before .put-pair3 .ensures
+    ∙ ap (λ (l : List ℕ). over (a .at + 2) (flat (g .0 .1 .0 ∷ [])) l) (c .before .before .before .before .before .before .put-pair2 .ensures)
     ∙ over-right (a .at) (flat (g .0 .0 ∷ [])) (flat (g .0 .1 .0 ∷ [])) (now (a .run))
     ∙ ap (λ (q : Patch). over (a .at) (flat (patch q)) (now (a .run))) (sym (g .1))
 
@@ -65,11 +65,11 @@ put-patch-spec =
     (tie.spec
     enum-told
     enum-known-p
-    put-region-requires
+    put-pair-requires
     enum-known-p-2
-    put-region-requires-2
-    add-put-region
-    put-region-requires-3
+    put-pair-requires-2
+    add-put-pair
+    put-pair-requires-3
     returns
     same-length
     returns-2

@@ -9,9 +9,9 @@ use lib.Seq.{slice, take-all, take-take}
 use Rattle.error.specs.Lent.{over}
 use Rattle.error.proofs.OverLaws.{over-nil, over-cut}
 use Rattle.error.proofs.TestLaws.{le-or-lt}
 use Rattle.fields.proofs.LayoutLaws.{drop-take}
 
-over-same : (i e : ℕ) (xs : List ℕ) → over i (slice i e xs) xs ≡ xs
+pub over-same : (i e : ℕ) (xs : List ℕ) → over i (slice i e xs) xs ≡ xs
 over-same i e [] = refl
 over-same zero zero (x ∷ xs) = refl
 over-same zero (suc e) (x ∷ xs) = ap (λ (l : List ℕ). x ∷ l) (over-same zero e xs)

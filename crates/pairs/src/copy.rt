@@ -4,7 +4,7 @@ ghost use Prim.Native.Nat.{_+_, _-_, _≤_, min};
 ghost use lib.ListN.{length};
 ghost use lib.Seq.{slice};
 ghost use Rattle.error.specs.Lent.{over};
-use crate::bytes::lesser;
+use fields::bytes::lesser;
 
 // Moves the numbers from `from` up to `end` to `to`, at or below them.
 fn move_down(run: &mut [u64], from: usize, end: usize, to: usize)

@@ -8,8 +8,8 @@ use lib.Seq.{slice, take-all, length-slice}
 use denote.Ref.{now}
 use Rattle.error.specs.Lent.{over}
 use Rattle.error.proofs.OverLaws.{length-over, over-nil, down-step}
-use Rattle.fields.proofs.runs.move_down.Statement.{statement}
-use Rattle.fields.proofs.runs.move_down.Tie as tie
+use Rattle.pairs.proofs.copy.move_down.Statement.{statement}
+use Rattle.pairs.proofs.copy.move_down.Tie as tie
 
 abbrev Inv-loop : tie.InvT-loop
 Inv-loop run₀ from end to n j₀ run j = (j ≤ n) × (run ≡ over to (take j (slice from end run₀)) run₀)

@@ -1,10 +1,10 @@
 use mathlib.Core.Path.{_≡_}
 use native.Mathlib.Omega.{arith}
 use denote.Ref.{now}
-use Rattle.fields.proofs.CopyLaws.{copied-none, copied, copied-same}
+use Rattle.pairs.proofs.CopyLaws.{copied-none, copied, copied-same}
 use borrow.Author.Needs.{needs}
-use Rattle.fields.proofs.runs.copy_within.Statement.{statement}
-use Rattle.fields.proofs.runs.copy_within.Tie as tie
+use Rattle.pairs.proofs.copy.copy_within.Statement.{statement}
+use Rattle.pairs.proofs.copy.copy_within.Tie as tie
 
 moved-requires : tie.Need-moved-requires
 moved-requires c κs = search needs

@@ -1,0 +1,3 @@
+pub mod CopyLaws
+pub mod PairLaws
+pub mod RunLaws

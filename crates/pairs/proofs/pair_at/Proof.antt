@@ -1,0 +1,70 @@
+use mathlib.Core.Path.{_≡_, sym, ap₂}
+use mathlib.Core.List.{List}
+use Prim.Native.Nat.{ℕ, _+_, _*_, _≤_}
+use native.Mathlib.Omega.{arith}
+use lib.ListN.{length, getD, List·getD-eq-default}
+use denote.Ref.{now}
+use borrow.Author.Needs.{needs}
+use Rattle.pairs.specs.Pairs.{pairAt, pair}
+use Rattle.pairs.proofs.pair_at.Statement.{statement}
+use Rattle.pairs.proofs.pair_at.Tie as tie
+
+half : (xs : List ℕ) (i a : ℕ) → a ≡ getD xs (2 * i) 0 → length xs ≤ 2 * i + 1 → pair a 0 ≡ pairAt pair xs i
+half xs i a e h = ap₂ pair e (sym (List·getD-eq-default xs 0 h))
+
+returns : tie.Need-returns
+returns c =
+    let a = c .before .before .args in
+    half (now (a .run)) (a .i) 0 (sym (List·getD-eq-default (now (a .run)) 0 (omega (arith, c .if1 .taken)))) (omega (arith, c .if1 .taken))
+
+mul-number-at : tie.Need-mul-number-at
+mul-number-at c = search needs
+
+number-at-requires : tie.Need-number-at-requires
+number-at-requires c κs = search needs
+
+returns-2 : tie.Need-returns-2
+returns-2 c =
+    let a = c .before .before .before .before .args in
+    half (now (a .run)) (a .i) _ (c .number-at .ensures) (omega (arith, c .before .if2 .taken))
+
+mul-t4 : tie.Need-mul-t4
+mul-t4 c = search needs
+
+mul-t8 : tie.Need-mul-t8
+mul-t8 c = search needs
+
+shared-slice-read-t10 : tie.Need-shared-slice-read-t10
+shared-slice-read-t10 c = search needs
+
+mul-t11 : tie.Need-mul-t11
+mul-t11 c = search needs
+
+add-t12 : tie.Need-add-t12
+add-t12 c = search needs
+
+mul-t13 : tie.Need-mul-t13
+mul-t13 c = search needs
+
+shared-slice-read-t15 : tie.Need-shared-slice-read-t15
+shared-slice-read-t15 c = search needs
+
+returns-3 : tie.Need-returns-3
+returns-3 c = search needs
+
+pub pair-at-spec : {M : Type 1} → statement M
+pair-at-spec =
+    tie.close
+    (tie.spec
+    returns
+    mul-number-at
+    number-at-requires
+    returns-2
+    mul-t4
+    mul-t8
+    shared-slice-read-t10
+    mul-t11
+    add-t12
+    mul-t13
+    shared-slice-read-t15
+    returns-3)
