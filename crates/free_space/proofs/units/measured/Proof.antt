@@ -1,9 +1,9 @@
 use mathlib.Core.Path.{sym, ap, _∙_}
 use borrow.Author.Needs.{needs}
-use Rattle.free_space.specs.declared.questions.Measure.{Measure}
+use Rattle.free_space.specs.declared.units.Measure.{Measure}
 use Rattle.free_space.specs.Passes.{measureOf}
-use Rattle.free_space.proofs.questions.measured.Statement.{statement}
-use Rattle.free_space.proofs.questions.measured.Tie as tie
+use Rattle.free_space.proofs.units.measured.Statement.{statement}
+use Rattle.free_space.proofs.units.measured.Tie as tie
 
 enum-told : tie.Need-enum-told
 enum-told c = search needs
