@@ -1,24 +1,14 @@
 //! Times each function of this library beside the Rust's, on the same input, in turns within one run.
 #![allow(dead_code)]
 
-extern crate alloc;
+include!("files.rs");
 
-mod address;
 mod blocks;
-mod bytes;
-mod checksum;
-mod convert;
-mod error;
 mod figures;
-mod file_space_info;
-mod free_space;
-mod free_space_manager;
 mod lists;
 mod save;
-mod stubs;
 
 use figures::Figures;
-use stubs::{message_type, source};
 
 mod c {
     unsafe extern "C" {

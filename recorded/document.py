@@ -1,4 +1,4 @@
-"""Blocks, message and stores of a save, written from document 01 and from the HDF5 specification; offset size 8. See README.md."""
+"""Blocks, message and stores of a save, written from document 01 and from the HDF5 specification. See README.md."""
 
 TOP = 2**64 - 1
 
@@ -40,7 +40,7 @@ def lookup3(data):
     return ((c ^ b) - rotated(b, 24)) % 2**32
 
 
-# blocks, at offset size 8
+# blocks
 
 
 def num(n, width=8):
@@ -55,30 +55,43 @@ def bytes_for(n):
     return max(1, (n.bit_length() + 7) // 8)
 
 
-def fsse(sections, fshd_addr, section_class):
-    block = b"FSSE\0" + num(fshd_addr)
+def fsse(sections, fshd_addr, section_class, offset_size=8):
+    block = b"FSSE\0" + num(fshd_addr, offset_size)
     for size in sorted({size for _, size in sections}):
         addrs = sorted(addr for addr, other in sections if other == size)
         block += num(len(addrs), bytes_for(len(sections))) + num(size)
         for addr in addrs:
-            block += num(addr) + num(section_class, 1)
+            block += num(addr, offset_size) + num(section_class, 1)
     return summed(block)
+
+
+def fshd(sections, fsse_addr, fsse_used, offset_size=8):
+    count, space = len(sections), sum(size for _, size in sections)
+    block = b"FSHD\0\1" + num(space) + num(count) + num(count) + num(0)
+    block += num(3, 2) + num(80, 2) + num(120, 2) + num(8 * offset_size - 1, 2) + num(2**63 - 1)
+    return summed(block + num(fsse_addr, offset_size) + num(fsse_used) + num(fsse_used))
 
 
 def manager(sections, at, section_class):
     """FSHD and FSSE, side by side from `at` on; none without sections."""
     if not sections:
         return b""
-    used = len(fsse(sections, at, section_class))
-    count, space = len(sections), sum(size for _, size in sections)
-    block = b"FSHD\0\1" + num(space) + num(count) + num(count) + num(0)
-    block += num(3, 2) + num(80, 2) + num(120, 2) + num(63, 2) + num(2**63 - 1)
-    return summed(block + num(at + 82) + num(used) + num(used)) + fsse(sections, at, section_class)
+    listed = fsse(sections, at, section_class)
+    return fshd(sections, at + 82, len(listed)) + listed
 
 
-def message(page, end, slots, persist=1):
+# the message
+
+
+def info(strategy, persist, threshold, page, page_end, end, addrs):
+    """The message of any values; the addresses stand in it only if persist is 1."""
+    text = bytes([1, strategy, persist]) + num(threshold) + num(page) + num(page_end, 2) + num(end)
+    return text + b"".join(num(addr) for addr in addrs if persist)
+
+
+def message(page, end, slots):
     """The message of strategy Page and threshold 1."""
-    return bytes([1, 1, persist]) + num(1) + num(page) + num(0, 2) + num(end) + b"".join(num(s) for s in slots)
+    return info(1, 1, 1, page, 0, end, slots)
 
 
 def slots_of(addrs):

@@ -1,11 +1,11 @@
-"""record.py ORACLE CRATE: writes CRATE/stdin, calls of the generator, and CRATE/stdout, the Rust's answers. See README.md."""
+"""record.py DRIVER CRATE: writes CRATE/stdin, calls of the generator, and CRATE/stdout, the Rust's answers. See README.md."""
+
 import os
-import subprocess
 import sys
 
+from answers import answers
 from domain import compared, fits, ours
-
-oracle, crate = sys.argv[1:]
+from generator import generated
 
 # Kind, calls of each seed, seeds, and seeds at which the generator also goes outside the domain of comparison.
 KINDS = [
@@ -20,54 +20,41 @@ KINDS = [
 ]
 
 
-def generated(kind, count, seed, edge):
-    args = [sys.executable, os.path.join(oracle, "py", "gen.py"), "--kind", kind, "--count", str(count), "--seed", str(seed)]
-    if edge:
-        args.append("--edge")
-    lines = subprocess.run(args, capture_output=True, text=True, check=True).stdout.split("\n")[:-1]
-    return [line for line in lines if not (edge and outside(line.split(" ")))]
-
-
-def outside(words):
+def outside(call):
     """Calls outside the domain that the Rust answers all the same: crates/replay_edges has such calls."""
-    name = words[0]
+    name, *words = call.split(" ")
     if name == "fshd_len":  # an offset size outside 1 to 8
-        return not 1 <= int(words[1]) <= 8
+        return not 1 <= int(words[0]) <= 8
     if name == "fsse_parse":  # address bits above 64
-        return 64 < int(words[3])
+        return 64 < int(words[2])
     return name == "tstart"  # lists that may share a byte
 
 
-def marked():
-    """Document 01's cases by hand."""
-    with open(os.path.join(oracle, "marked.txt")) as f:
-        return [line for line in f.read().split("\n") if line and not line.startswith("#")]
-
-
-def answers(lines):
-    run = subprocess.run(
-        [os.path.join(oracle, "out", "debug", "oracle")], input="\n".join(lines) + "\n", capture_output=True, text=True, check=True
-    )
-    return run.stdout.split("\n")[:-1]
-
-
-def main():
-    calls = marked()
+def all_calls():
+    """Document 01's cases, and then those of the generator."""
+    with open(os.path.join(os.path.dirname(__file__), "marked.txt")) as f:
+        calls = f.read().splitlines()
     for kind, count, seeds, edges in KINDS:
         for seed in seeds:
-            calls += generated(kind, count, seed, False)
+            calls += generated(seed, count, [kind])
         for seed in edges:
-            calls += generated(kind, count, seed, True)
-    calls = [line for line in calls if ours(line)]
-    given = answers(calls)
-    assert len(given) == len(calls)
+            calls += [call for call in generated(seed, count, [kind], edge=True) if not outside(call)]
+    return [call for call in calls if ours(call)]
+
+
+def answered(call, answer):
+    return answer not in ("panic", "guard", "bad") and fits(call, answer)
+
+
+def main(driver, crate):
+    calls = all_calls()
     # A call that the Rust does not answer is left out. Its list is then as it was before, so the calls behind it stay as they are.
-    kept = [(c, a) for c, a in zip(calls, given) if a.split(" ")[0] not in ("panic", "guard", "bad") and fits(c, a)]
-    assert answers([call for call, _ in kept]) == [answer for _, answer in kept]
+    kept = [(call, answer) for call, answer in zip(calls, answers(driver, calls)) if answered(call, answer)]
+    assert answers(driver, [call for call, _ in kept]) == [answer for _, answer in kept]
     with open(os.path.join(crate, "stdin"), "w") as f:
         f.write("".join(call + "\n" for call, _ in kept))
     with open(os.path.join(crate, "stdout"), "w") as f:
         f.write("".join(compared(answer) + "\n" for _, answer in kept))
 
 
-main()
+main(*sys.argv[1:])

@@ -1,13 +1,13 @@
-"""saves.py ORACLE CRATE: writes the calls of plans, saves and images that no answer of the Rust settles, and their answers, behind those
+"""saves.py DRIVER CRATE: writes the calls of plans, saves and images that no answer of the Rust settles, and their answers, behind those
 that CRATE/stdin and CRATE/stdout have before the line MARK. See README.md.
 
-The bytes come from document.py, and the Rust's writers (ORACLE) must agree; none comes from the program under test."""
+The bytes come from document.py, and the Rust's writers (DRIVER) must agree; none comes from the program under test."""
 
 import os
-import subprocess
 import sys
 
 import document
+from answers import answers
 from document import TOP, cut, manager, message, num, slots_of
 
 MARK = "# Plans, saves and images. Before each group stands the sentence of document 01 that settles its answers."
@@ -381,48 +381,42 @@ def protocol():
         call(line, "bad")
 
 
-def asked(oracle, lines):
-    program = os.path.join(oracle, "out", "debug", "oracle")
-    run = subprocess.run([program], input="\n".join(lines) + "\n", capture_output=True, text=True, check=True)
-    return run.stdout.split("\n")[:-1]
-
-
 def run_of(sections):
     return " ".join(map(str, [len(sections)] + [n for s in sections for n in s]))
 
 
-def agree(oracle, page, start, lists):
+def agree(driver, page, start, lists):
     """The Rust plans the same managers, and writes the same blocks and the same message."""
     blocks, text = document.saved(page, start, lists)
-    (plan,) = asked(oracle, [f"plan 8 {page} {start} " + " ".join(run_of(l) for l in lists)])
+    (plan,) = answers(driver, [f"plan 8 {page} {start} " + " ".join(run_of(l) for l in lists)])
     words = plan.split(" ")
     assert words[0] == "end" and int(words[1]) == start + len(blocks)
-    assert asked(oracle, [f"msg_managers 1 {page} {start} 12 " + " ".join(words[3:15])]) == [text.hex()]
+    assert answers(driver, [f"msg_managers 1 {page} {start} 12 " + " ".join(words[3:15])]) == [text.hex()]
     rust, words = "", [int(w) for w in words[17:]]
     while words:
         count = words[3]
         fshd, fsse_addr, section_class = words[:3]
         sections, words = words[4 : 4 + 2 * count], words[4 + 2 * count :]
         line = f"serialize 8 {fshd} {fsse_addr} {section_class} {count} " + " ".join(map(str, sections))
-        rust += asked(oracle, [line])[0].replace(" ", "")
+        rust += answers(driver, [line])[0].replace(" ", "")
     assert rust == blocks.hex()
 
 
-def main(oracle, crate):
+def main(driver, crate):
     for group in (plans, not_lists, cuts, refused_saves, images, m9, protocol):
         group()
     for save in saves + [(PAGE, TOP, [[], [], []]), (1, 125, [[(0, 1366)], [], []])]:
-        agree(oracle, *save)
+        agree(driver, *save)
     with open(os.path.join(crate, "stdin")) as f:
         before = f.read().split(MARK)[0]
     answered = sum(1 for line in before.split("\n") if line and not line.startswith("#"))
     with open(os.path.join(crate, "stdout")) as f:
-        answers = f.read().split("\n")[:answered]
+        kept = f.read().split("\n")[:answered]
     assert all(len(line) <= 65536 for line, _ in rows)
     with open(os.path.join(crate, "stdin"), "w") as f:
         f.write(before + MARK + "\n" + "".join(line + "\n" for line, _ in rows))
     with open(os.path.join(crate, "stdout"), "w") as f:
-        f.write("".join(answer + "\n" for answer in answers + [a for _, a in rows if a is not None]))
+        f.write("".join(answer + "\n" for answer in kept + [a for _, a in rows if a is not None]))
 
 
 main(*sys.argv[1:])

@@ -1,18 +1,20 @@
 -- `hashlittle` of lookup3.c, over a list of bytes. Assumes nothing.
+-- In quotes: document 01's words, from "Blocks on file". Names with brackets are lookup3.c's.
 --   add32, sub32   "every add and subtract of the mixing wraps at 32 bits"
---   xor32          the exclusive or of two words
---   rotl32         lookup3.c's rot(x, k): "a left rotation of 32 bits"
---   mixed          lookup3.c's mix(a, b, c), a line for each statement
---   finished       lookup3.c's final(a, b, c), a line for each statement
---   blockAdded     a block: a, b and c each gain the next four bytes, a word with its least byte first
+--   xor32          the exclusive or of two words, as in mix() and final()
+--   rotl32         rot(x, k): "a left rotation of 32 bits"
+--   mixed          mix(a, b, c), a line for each statement
+--   finished       final(a, b, c), a line for each statement
+--   blockAdded     a block of hashlittle(): a, b and c each gain the next four bytes, a word with its least byte first
 --   gained         one word gains a number: a (word 0), b (word 1) or c
---   byteAdded      one case of the last switch: byte j, shifted left by 8 * (j mod 4), is added to a (j < 4), b (j < 8) or c
+--   byteAdded      one case of the last switch of hashlittle(): byte j, shifted left by 8 * (j mod 4), is added to a (j < 4), b (j < 8) or c
 --   tailAdded      the last switch: entered at the last byte, it falls through to byte j, the first of those given
---   ending         the answer for the last bytes: with none, c as it is; else c after the switch and final
---   hashFrom       the answer for the bytes and words at hand: blocks while more than 12 bytes are left, then the ending; n bounds the number of blocks
+--   ending         the answer for the last bytes: with none, c as it is ("Empty input gives 0xdeadbeef"); else c after the switch and final()
+--   hashFrom       the answer for the bytes and words at hand: blocks while more than 12 bytes are left, then the ending; n bounds the number
+--                  of blocks
 --   seed           a, b and c as they start, all equal
---   hashOf         hashlittle(key, length, initval)
---   lookup3        the checksum of bytes, with initval 0
+--   hashOf         hashlittle(key, length, initval): "starts from 0xdeadbeef plus the length, modulo 2^32"
+--   lookup3        the checksum of bytes: hashlittle() with initval 0 (HDF5 File Format Specification, III.H, the checksum fields)
 use Prim.Native.Nat.{ℕ, zero, suc, _+_, _-_, _*_, _/_, _%_, _^_}
 use mathlib.Core.Bool.{cond}
 use mathlib.Core.List.{List, [], _∷_}

@@ -1,7 +1,8 @@
 -- The checksum at the end of a block. Assumes nothing.
---   body       a block without its last four bytes, over which its checksum is taken
+--   body       a block without its last four bytes, over which its checksum is taken (HDF5 File Format Specification, III.H)
 --   stored     the checksum that the last four bytes spell
---   trailing   `verify_trailing`: refusal 7 (expected 4), then refusal 11 with the stored and the computed checksum
+--   trailing   `verify_trailing`: refusal 7 (expected 4), then refusal 11 with the stored and the computed checksum (document 01, "Blocks on
+--              file": "`verify_trailing` is the separate test: 7 (expected 4), then 11")
 use Prim.Native.Nat.{ℕ, _-_}
 use mathlib.Core.Bool.{not}
 use mathlib.Core.List.{List, [], _∷_}

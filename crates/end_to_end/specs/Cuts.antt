@@ -1,9 +1,10 @@
--- A save cut after k steps, and the reading of the image that the cut leaves. Assumes nothing.
---   Cut        what a save that was begun, cut and read comes to: the record after its steps or the beginning's refusal, the reading's counts or its
---              refusal, and image, scratch and the run of sections as they are left
+-- A save cut after k steps, and the reading of the image that the cut leaves (document 01, "The save": "A cut leaves the first k stores").
+-- Assumes nothing.
+--   Cut        what a save that was begun, cut and read comes to: the record after its steps or the beginning's refusal, the reading's counts or
+--              its refusal, and image, scratch and the run of sections as they are left
 --   cutWith    these together
---   cutAfter   what a beginning comes to: where it was accepted, k steps and then a reading at a place; where it was refused, its refusal for both,
---              and all lent memory is as it was
+--   cutAfter   what a beginning comes to: where it was accepted, k steps and then a reading at a place; where it was refused, its refusal for
+--              both, and all lent memory is as it was
 --   cutBy      the code's answer, with the memory that it leaves
 --   begunWith  an answer of a beginning, with the scratch that it left
 --   notBegun   the code's answer where the beginning is refused

@@ -1,8 +1,10 @@
 -- Demand 3 of the code: what `call_save_read` answers and leaves after k steps is what demand 3 says of k. Assumes nothing.
---   T, cut, S, R, G   demand 3's: how many stores the save has, record and image after k steps, the plan's sections of slots 0, 2 and 6 by size and then address
+-- In quotes: document 01's words, from "The save".
+--   T, cut, S, R, G   demand 3's: how many stores the save has, record and image after k steps, the plan's sections of slots 0, 2 and 6 by size
+--              and then address
 --   found      all of these sections, in reading order
 --   counts     how many of them each of the twelve slots has
---   Room       a lent run is one of pairs, and has room for all of them
+--   Room       a lent run is one of pairs, and has room for all of them ("with capacity for all")
 --   Shown      of a beginning that was accepted with a record and a scratch, and of k steps of it:
 --     demand       demand 3 holds of this save
 --     record-is, image-is, scratch-is, reading-is   what the code answers and leaves is what demand 3 speaks of, after k steps
@@ -11,7 +13,7 @@
 --     finished     from the last store on: exactly the plan's sections stand in the lent run, and their counts are answered
 --     once         of the sections that then stand in the lent run, exactly one holds each byte that is free by history, and none any other byte
 --   Demanded   of calls, a save of what they leave, and k steps of it:
---     accepted     if the code answers a record, the beginning was accepted
+--     accepted     if the code answers a record, the beginning was accepted ("not the program's word")
 --     shown        if the beginning was accepted, all of the above
 --     refused      if it was refused, that is the answer, and image, scratch and lent run are as they were
 use Prim.Native.Nat.{ℕ, _/_, _%_, _≤_, _<_, min}

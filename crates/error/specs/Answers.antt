@@ -1,4 +1,5 @@
--- The outcome that each shared answer of the code stands for. Assumes nothing.
+-- The outcome that each shared answer of the code stands for (document 01, "Language forms in the code": "a definition gives this paper's number
+-- and values for every case of the enum"). Assumes nothing.
 --   checkedOutcome   of a test
 --   numberOutcome    of a number that may be refused
 use Prim.Native.Nat.{ℕ}

@@ -1,10 +1,11 @@
 -- The memory that is lent to an entry: what an outcome leaves of it, and what a write makes of it. Assumes nothing.
---   With      an answer, together with what the lent memory holds when it is given
+-- In quotes: document 01's words, from "Fourteen ways to say no".
+--   With      an answer, together with what the lent memory holds when it is given ("Each promise covers answer and lent memory")
 --   with      the answer and the memory put together
---   Left      an outcome, and what the lent memory holds after it
+--   Left      an outcome, and what the lent memory holds after it ("refusals too")
 --   left      the outcome and the memory put together
---   leaving   an outcome and the lent memory after it: a refusal or Nothing leaves the memory as it was
---   over      a run with numbers written over it from a place on; what would pass its end is dropped
+--   leaving   an outcome and the lent memory after it: a refusal or Nothing leaves the memory as it was ("Nothing changes no lent memory")
+--   over      a run with numbers written over it from a place on; what would pass its end is dropped: how contracts say what is written
 use Prim.Native.Nat.{ℕ, zero, suc}
 use mathlib.Core.List.{List, [], _∷_}
 use Rattle.error.specs.Outcome.{Outcome, answer, nothing, refuse}

@@ -1,11 +1,14 @@
 -- What a public entry ends in, and the order of its refusals. Every contract goes through these. Assumes nothing.
---   Outcome     an entry's end: its answer, Nothing, or a refusal with document 01's number and values
---   refused     the outcome that a refusal of the code stands for
---   Condition   a test, and the refusal that is due where it holds
+-- In quotes: document 01's words, from "Fourteen ways to say no" or from the heading named.
+--   Outcome     an entry's end: its answer, Nothing, or a refusal with its number and values ("Every public entry says what it yields")
+--   refused     the outcome that a refusal of the code stands for ("Language forms in the code": "for every case of the enum")
+--   Condition   a test, and the refusal that is due where it holds ("each condition is exact")
 --   when        the condition of a test and a refusal
---   firstOf     "the first condition that holds": its refusal, or else what comes after all of them; refusals are given in the order of the conditions
---   andThen     what follows on an answer; a refusal or Nothing ends it
---   sat         a count or a sum as a refusal carries it: what exceeds 2^64 - 1 stands as 2^64 - 1
+--   firstOf     the refusal of the first condition that holds, or else what comes after all of them: refusals are given in the order of the
+--               conditions ("Where several apply, the lowest number is given, unless a sequence of tests is stated")
+--   andThen     what follows on an answer; a refusal or Nothing ends it ("Blocks on file": "the first refusal ends the read")
+--   sat         a count or a sum as a refusal carries it: what exceeds 2^64 - 1 stands as 2^64 - 1 ("Eight files": "on overflow, expected
+--               saturates"; a needed count of refusal 14 is cut alike, docs/DECISIONS.md)
 use Prim.Native.Nat.{ℕ, _-_, _^_, min}
 use mathlib.Core.Bool.{Bool, cond}
 use mathlib.Core.List.{List, [], _∷_}

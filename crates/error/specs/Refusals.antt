@@ -1,6 +1,7 @@
 -- Each refusal's number and values, by cases. Assumes nothing.
---   numberOf   the number, 1 to 14, under which document 01 lists a refusal
---   valuesOf   the values that document 01 says a refusal carries, in its order
+--   numberOf   the number, 1 to 14, under which document 01 lists a refusal ("Fourteen ways to say no")
+--   valuesOf   the values that it names, in its order ("A refusal carries its number and the values named"): "expected and available" of 7,
+--              "the byte" of 8 and 9, "stored and computed" of 11, "needed and given" of 14; the others have none
 use Prim.Native.Nat.{ℕ}
 use mathlib.Core.List.{List, [], _∷_}
 use Rattle.error.specs.declared.Refusal.{Refusal}

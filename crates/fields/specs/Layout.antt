@@ -1,11 +1,11 @@
--- A block of the format as a row of fields, and the bytes that stand at a place. Assumes nothing.
+-- A block of the format as a row of fields, and the bytes that stand at a place. FSHD, FSSE and the message are given so. Assumes nothing.
 --   Field       a number, and how many bytes it takes
 --   field       the field of a width and a number
 --   row         the fields of these widths with these numbers, as far as both go
 --   widths      the widths of a row
 --   span        how many bytes fields of these widths take
---   layout      the bytes of a row: number after number, each least byte first
---   FieldFits   the number fits its bytes
+--   layout      the bytes of a row, number after number (document 01, "Fourteen ways to say no": "unsigned, least byte first")
+--   FieldFits   the number fits its bytes: for the proofs that a row reads back
 --   AllFit      so does every number of a row
 --   window      the n bytes from place p on
 --   leAt        the number that the w bytes at place p spell

@@ -1,4 +1,5 @@
--- Unsigned numbers as bytes, least byte first, at any width. Assumes nothing.
+-- Unsigned numbers as bytes at any width (document 01, "Fourteen ways to say no": "stored numbers are unsigned, least byte first").
+-- Assumes nothing.
 --   leBytes   the bytes of a number at a width: its low bytes, least first
 --   leValue   the number that bytes spell, least first
 use Prim.Native.Nat.{ℕ, zero, suc, _+_, _*_, _/_, _%_}

@@ -1,15 +1,19 @@
 -- Sums, ranges and multiples of 64-bit numbers, with their refusals. Assumes nothing.
---   top               2^64 - 1, the greatest stored number; as an address of 8 bytes, the undefined one
---   enough            `ensure_len`: refusal 7, with the end that is asked for (at most top) and the length that is there
---   sum               `absolute`: the sum of two numbers; refusal 4 above top
+-- In quotes: document 01's words, from the refusal of that number or from the heading named.
+--   top               2^64 - 1, the greatest stored number (refusal 4: "exceeds 2^64−1"); as an address of 8 bytes, the undefined one
+--   enough            `ensure_len`: refusal 7, with the end that is asked for and the length that is there ("Eight files": "`ensure_len` gives 7
+--                     alone; on overflow, expected saturates")
+--   sum               `absolute`: the sum of two numbers (refusal 4: "address plus length or base")
 --   Range             the places from start up to end
---   range             `slice_range`: refusal 4 where the end is above top
---   allOnes           the address of which all bits of O bytes are one
---   undefinedAt       `is_undefined_addr`: as the Rust, all ones at offset sizes 2, 4 and 8, no address at the other sizes; refusal 1 outside 1 to 8
---   firstMultiple     the first multiple of a page at or after a number
---   alignedUp         `align_up`: that multiple; refusal 2 for page 0, refusal 4 above top
---   orTop             the number that an outcome has, all ones for a refusal or Nothing: what a C interface shows of it; leftOrTop that number and the lent memory
---   rangeOutcome, undefinedOutcome   the outcome that an answer of the code stands for
+--   range             `slice_range` (refusal 4: "address plus length")
+--   allOnes           the address of which all bits of O bytes are one: the undefined address of the HDF5 File Format Specification
+--   undefinedAt       `is_undefined_addr`: as the Rust's table, all ones at offset sizes 2, 4 and 8, no address at the other sizes
+--                     (refusal 1: "outside 1 to 8")
+--   firstMultiple     the first multiple of a page at or after a number ("The list": "the first multiple of the unit at or after the address")
+--   alignedUp         `align_up`: that multiple (refusal 2: "a page size to cut or round by is 0"; refusal 4: "a rounded-up value")
+--   orTop             the number that an outcome has, all ones for a refusal or Nothing: what a C interface shows of it
+--   leftOrTop         that number, and the lent memory
+--   rangeOutcome, undefinedOutcome   the outcome that an answer of the code stands for ("Language forms": "for every case of the enum")
 use Prim.Native.Nat.{ℕ, _+_, _-_, _*_, _/_, _^_}
 use mathlib.Core.Bool.{Bool, _&&_, _||_, not}
 use mathlib.Core.List.{[], _∷_}

@@ -1,9 +1,10 @@
 -- Widths and lengths that follow from a number alone. Assumes nothing.
---   validWidth   an offset size or length size within 1 to 8
+-- In quotes: document 01's words, from "Blocks on file" or from the heading named.
+--   validWidth   an offset size or length size that refusal 1 lets pass ("outside 1 to 8" is refused)
 --   leastFrom    the first of the widths w, w + 1, .. whose bytes hold a number, w + n at the most
---   encSize      document 01's `enc_size`: the least number of bytes, at least 1, that hold a 64-bit number
---   Least        what that means: at least 1, enough, and no more than any other width that is both
---   fshdLen      the length of FSHD at offset size O, 74 + O; refusal 1 outside 1 to 8
+--   encSize      "`enc_size` is the least number of bytes, at least 1", that hold a 64-bit number
+--   Least        what that means: at least 1, enough, and no more than any other width that is both ("Language forms": "tied to least byte count")
+--   fshdLen      `fshd_len`: "FSHD, length 74+O"; refusal 1 outside 1 to 8
 use Prim.Native.Nat.{ℕ, zero, suc, _+_, _^_, _≤_, _<_}
 use mathlib.Core.Bool.{Bool, cond, _&&_, not}
 use mathlib.Core.List.{[], _∷_}

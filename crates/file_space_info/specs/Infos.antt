@@ -1,9 +1,11 @@
--- The messages that the library makes. Assumes nothing.
---   slotCount                 how many slots a persisting message has: twelve
+-- The messages that the library makes, those of the four constructors of `file_space_info.rs`. Assumes nothing.
+--   slotCount                 how many slots a persisting message has (document 01, "The message": "twelve slots"; HDF5 File Format
+--                             Specification, IV.A.2, File Space Info: twelve manager addresses)
 --   made                      a message with page-end threshold 0 and the given other values
 --   nonPersistent             `non_persistent`: no manager, and the undefined address as the end before managers
 --   persistentManagers        `persistent_managers`: the given slots and end before managers
---   persistentEmpty           `persistent_empty`: the same with every slot and that end undefined
+--   persistentEmpty           `persistent_empty`: the same with every slot and that end undefined (document 01, "The save": "unused ones all
+--                             one bits")
 --   persistentSingleManager   `persistent_single_manager`: the same with one address in slot 0 and the others undefined
 use Prim.Native.Nat.{ℕ, _-_}
 use mathlib.Core.Bool.{Bool, true, false}

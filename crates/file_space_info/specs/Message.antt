@@ -1,21 +1,26 @@
--- The File Space Info message, version 1: its bytes, and its reading. O is the offset size, L the length size. Assumes nothing.
---   shape           the widths of the fixed part's fields: version, strategy, persist, threshold, page size, page-end threshold, end before managers
+-- The File Space Info message, version 1: its bytes, and its reading (HDF5 File Format Specification, IV.A.2, File Space Info).
+-- O is the offset size, L the length size. Assumes nothing.
+-- In quotes: document 01's words, from "The message", from the refusal of that number or from the heading named.
+--   shape           the widths of the fixed part's fields: "Version 1, strategy", "persist, threshold, page size, 2-byte page-end threshold,
+--                   end before managers"
 --   fixedLen        the length of the fixed part
 --   bit             persist as it is written, 1 or 0
 --   numbersOf       a message's numbers in the fields of the fixed part
 --   addressRow      addresses, O bytes each
---   messageRow      the message as a row of fields: the fixed part, then the addresses if persist
+--   messageRow      the message as a row of fields: the fixed part, "then addresses if persist"
 --   messageBytes    the message's bytes
---   serialized      `serialize`: the message at sizes 8, and its length; refusal 14, with the bytes needed and given
---   infoWith        the fixed part as it is read, with a strategy; any nonzero persist is yes
+--   serialized      `serialize`: the message, and its length: "Written fields are 8 bytes: 29 bytes, or 125 with twelve slots" (refusal 14:
+--                   "needed and given", in bytes)
+--   infoWith        the fixed part as it is read, with a strategy: "any nonzero persist as yes"
 --   infoOf          the same, with the strategy of the code that stands there
---   present         how many whole addresses n bytes have behind the fixed part, if persist; a partial one does not count
+--   present         how many addresses n bytes have after the fixed part, if persist: "all whole addresses present; a partial one is ignored"
 --   numbersAt       the numbers of the first n fields of w bytes each
---   fixedTests      the refusals of the fixed part: 1, 7, 8, 9
+--   fixedTests      the refusals of the fixed part, in this order: 1, 7, 8 ("with the byte: it isn't 1"), 9
 --   fixedRead       the fixed part, where they pass
 --   Read            what a reading answers: the fixed part, and how many addresses there are
---   parsed          `parse`: the refusals of the fixed part, then 14, with the addresses present and the places given; the addresses fill the lent memory from its front
---   fixedOutcome, parsedOutcome   the outcome that an answer of the code stands for
+--   parsed          `parse`: "Reading takes the stated sizes"; the refusals of the fixed part, then 14, with the addresses present and the
+--                   places given; the addresses fill the lent memory from its front
+--   fixedOutcome, parsedOutcome   the outcome that an answer of the code stands for ("Language forms": "for every case of the enum")
 use Prim.Native.Nat.{ℕ, zero, suc, _-_, _/_}
 use mathlib.Core.Bool.{Bool, true, false, cond, not, _&&_}
 use mathlib.Core.List.{List, [], _∷_, _++_}

@@ -1,9 +1,10 @@
 -- The file-space strategies and their codes. Assumes nothing.
---   codeOf            a strategy's code: 0 FsmAggr, 1 Page, 2 Aggr, 3 None
---   strategyOf        the strategy of a code; that of 3 also above it, where no entry asks
---   codeTest          the test of a code: refusal 9, with the byte, above 3
+-- In quotes: document 01's words.
+--   codeOf            a strategy's code ("The message": "strategy (0 FsmAggr, 1 Page, 2 Aggr, 3 None)"; HDF5 File Format Specification, IV.A.2)
+--   strategyOf        the strategy of a code; that of 3 also above it, where `codeTest` refuses
+--   codeTest          the test of a code (refusal 9: "with the byte: it is above 3")
 --   fromCode          `from_code`: the strategy of a byte that passes it
---   strategyOutcome   the outcome that an answer of the code stands for
+--   strategyOutcome   the outcome that an answer of the code stands for ("Language forms": "for every case of the enum")
 use Prim.Native.Nat.{ℕ, zero, suc}
 use mathlib.Core.List.{[], _∷_}
 use lib.Dec.{ltb}

@@ -1,21 +1,23 @@
 -- List calls in a row on three lists, and what their history leaves free. Assumes nothing.
---   Call            a list call with its arguments: `free`, `alloc`, `alloc_whole_units`, `take_range`, `take_trailing`
+-- In quotes: document 01's words, from "The save".
+--   Call            a list call with its arguments: "`free`, `alloc`, `alloc_whole_units`, `take_range` and `take_trailing`, with any arguments"
 --   Did             what a call comes to: its outcome, an accepted call's with the bytes that it goes over, and the list that it leaves
 --   mapped          an outcome with another answer
 --   recordAfter     the record after an outcome: an answer's; a refusal or Nothing leaves the old one
 --   did, kept, gave   what a call comes to by its outcome: of any call; of one that gives nothing out; of one that gives an address out
 --   bytes           the places from one up to another
---   perform         a call on a list, by the definition that the contract of the call cites
+--   perform         a call on a list, by the definition that the contract of the call cites: acceptance and address are "those that the rules
+--                   above yield for the list as the calls before leave it"; the bytes that it goes over stand at the definition
 --   On              a call, and the list that it is made on
 --   next            the lists after a call: its own as the call leaves it, the others as they were
---   run             the lists after calls in a row: each call gets its list as the last call on it left it
---   begun           lists begun empty: any lent runs, with the record of no regions
+--   run             the lists after calls in a row: each call "gets its list as the last call on it left it"
+--   begun           "three lists, each begun empty": any lent runs, with the record of no regions
 --   Last, later     the last accepted call over a byte, if there was one; the later of two
 --   holds, goesOver   a range holds a byte; an accepted call goes over it
---   lastOver        the last accepted call over a byte, of those made on one list
---   wasFree         that call was a `free`
---   freeByHistory   document 01's "free by history"
---   ByHistory       what calls in a row on lists begun empty leave: lists, which hold what is free by history
+--   lastOver        "the last accepted call over that byte made on that list"
+--   wasFree         that call "was a `free`"
+--   freeByHistory   "Free by history"
+--   ByHistory       what calls in a row on lists begun empty leave: lists, which hold what is free by history (the law `history`)
 use Prim.Native.Nat.{ℕ, _+_, _%_}
 use mathlib.Core.Path.{_≡_}
 use mathlib.Core.Logic.{_↔_}

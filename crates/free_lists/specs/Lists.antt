@@ -1,12 +1,13 @@
 -- The three lists of a file, and the refusals of lists that are given together. Assumes nothing.
+-- In quotes: document 01's words, from the refusal of that number or from the heading named.
 --   Lst, regionsOf   a list: its lent run and its record; its regions
 --   lst              the list of a run and a record
---   Which, Lists     the lists of metadata, raw data and unclassified space, and how each of them stands
+--   Which, Lists     "The save": "Three lists (metadata, raw, unclassified)", and how each of them stands
 --   index, same      the number of a list, 0 to 2; two lists are the same one
 --   listsOf, three   the same from three lists; by their runs and records
---   areLists         what refusal 3 tests, of all three
---   sharedByte       refusal 5: two of the lists share a byte
---   apart            these refusals, in their order
+--   areLists         `are_lists`: what refusal 3 tests, of all three
+--   sharedByte       refusal 5: "two lists (not runs of sections) given together share a byte"
+--   apart            refusals 3 and 5, in this order
 --   together         `check_lists`: the outcome of testing for these refusals alone
 use Prim.Native.Nat.{ℕ}
 use mathlib.Core.Bool.{Bool, _&&_, _||_, not}

@@ -1,9 +1,10 @@
 -- Where the run of free bytes that reaches the end of file begins. Assumes nothing.
---   falling      regions by falling address
+-- In quotes: document 01's words, from "The list".
+--   falling      regions by falling address ("walk regions by falling address")
 --   put          a region put into such a list
---   walk         from a start, down regions by falling address: stop at one that ends below the start reached, else lower the start to its address if less
+--   walk         from a start, down such regions: "stop at one that ends below the start reached, else lower the start to its address if less"
 --   allRegions   the regions of three lists
---   runStart     `trailing_run_start` over three lists, with refusals 3 and 5
+--   runStart     "`trailing_run_start` over three lists: from the end of file", with refusals 3 and 5
 use Prim.Native.Nat.{ℕ, min}
 use mathlib.Core.Bool.{cond}
 use mathlib.Core.List.{List, [], _∷_, _++_}

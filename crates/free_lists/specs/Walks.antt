@@ -1,4 +1,4 @@
--- What the contracts of the private functions say. No public contract cites this file. Assumes nothing.
+-- The walk of `trailing_run_start` on its way, for the contracts of private functions. No public contract cites this file. Assumes nothing.
 --   InOrder      the first n pairs of a run are regions in order, each after the end of the one before with a gap
 --   AllInOrder   the same of three runs
 --   counted      three lists of the first regions of each run

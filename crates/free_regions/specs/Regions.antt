@@ -1,21 +1,23 @@
 -- Regions of free bytes, and what the list calls make of a list of regions. Assumes nothing.
---   region     the region of an address and a length
---   end        one past a region's last byte
---   In, Free   a byte lies in a region; in some region of a list: document 01's "free"
---   fitsFrom   a region that begins at a place or later, is not empty and ends within 64 bits
---   okFrom     regions in order, each after the end of the one before with a gap of a byte or more
---   meets      two regions share a byte
---   shares     a region shares a byte with one of a list
---   shareBytes   two lists share a byte
+-- In quotes: document 01's words, from "The list", from the refusal of that number or from the heading named.
+--   region     the region of an address and a length ("address then length")
+--   end        one past a region's last byte ("FreeRegion answers its end")
+--   In, Free   a byte lies in a region; in some region of a list: the free bytes
+--   fitsFrom   a region that begins at a place or later, is not empty and ends within 64 bits (refusal 3: "length 0 or ends above 2^64−1")
+--   okFrom     regions in order, each after the end of the one before (refusal 3: "with a gap of at least one byte")
+--   meets      two regions share a byte (refusal 13: "meets the message")
+--   shares     a region shares a byte with one of a list (refusal 5: "freed bytes are already free")
+--   shareBytes   two lists share a byte (refusal 5: "given together share a byte")
 --   piece      a number of bytes from an address on, as regions: none where it is 0
 --   join       the region from the lower address to the higher end of two that touch
---   insert     a list with a region put in, touching regions folded into one (`free`)
+--   insert     a list with a region put in (`free`: "touching regions fold into one")
 --   cut        what is left of a region outside a range
 --   absorb     a region with those that it reaches folded into it
---   cutAll     a list without the bytes of a range (`take_range`)
---   around     what is left of a region on either side of a range within it (an allocation)
---   spliced    a list with the regions from a place up to another replaced
---   Found, best   the place of the region of which the fewest bytes suffice, the lowest place on a tie
+--   cutAll     a list without the bytes of a range (`take_range`: "removes the free bytes within the range")
+--   around     what is left of a region on either side of a range within it (an allocation: "served from its front", or "its leftovers")
+--   spliced    a list with the regions from a place up to another replaced ("Eight files": "`splice` a shift within them")
+--   Found, best   the place of the region of which the fewest bytes suffice ("smallest region that is long enough, lowest on a tie"; "The least
+--              interior that suffices serves, lowest on a tie")
 --   better     the region at a place against the best of those above it
 use Prim.Native.Nat.{ℕ, suc, _+_, _-_, _≤_, _<_, min, max}
 use mathlib.Core.Bool.{Bool, true, false, cond, _&&_, _||_}

@@ -1,10 +1,12 @@
 -- The aligned interior of a region: the whole units inside it. Assumes nothing.
+-- In quotes: document 01's words, from "The list" or from the heading named.
 --   lastMultiple      the last multiple of a unit at or before a number
---   interiorStart     the first multiple of the unit at or after the region's address
---   interiorSpan      the bytes from there to the last multiple at or before its end; 0 where there is no interior, as for unit 0
+--   interiorStart     "the first multiple of the unit at or after the address"
+--   interiorSpan      the bytes from there "to the last at or before the end"; 0 where there is no interior
 --   Whole             an interior's start and span
---   interior          `aligned_interior`: refusal 4 where the region ends above 2^64 - 1; Nothing where there is no interior
---   interiorOutcome   the outcome that an answer of the code stands for
+--   interior          `aligned_interior`: refusal 4 where the region ends above 2^64 - 1; Nothing where there is none ("An aligned start beyond
+--                     2^64−1, or unit 0, means no interior")
+--   interiorOutcome   the outcome that an answer of the code stands for ("Language forms": "interior answered as an enum")
 use Prim.Native.Nat.{ℕ, _-_, _*_, _/_}
 use mathlib.Core.Bool.{cond}
 use mathlib.Core.List.{[], _∷_}

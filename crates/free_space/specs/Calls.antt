@@ -1,18 +1,26 @@
 -- The five calls that change a list: what each answers, and the run that it leaves. A call is a decision on the regions, and then the
 -- run that holds the regions decided on. Assumes nothing.
+-- In quotes: document 01's words, from "The list", from the refusal of that number or from the heading named.
 --   Gave          the address that a call gives out, and the record after it
---   keptOutcome, givenOutcome   the outcome that an answer of the code stands for
---   notList       refusal 3: the run and the record are no list
---   overflows     refusal 4: address plus length exceeds 2^64 - 1
---   partUnit      refusal 6: a length that is no multiple of its nonzero unit
---   noRoom        refusal 14: the regions are more than the run's capacity
---   placed        the outcome of a call that leaves these regions
+--   keptOutcome, givenOutcome   the outcome that an answer of the code stands for ("Language forms": "for every case of the enum")
+--   notList       refusal 3, "Not a list": of the run and the record
+--   overflows     refusal 4: "address plus length"
+--   partUnit      refusal 6: "a length that is no multiple of its nonzero unit"
+--   noRoom        refusal 14: "the result has more regions"
+--   placed        the outcome of a call that leaves these regions; refusal 14 only where they do not fit ("a 14 while unused pairs suffice" is wrong)
 --   keeping, giving   the record alone; the record with an address given out
 --   freedRegions, leftRegions   the regions after `free`; after `take_range`
 --   taken         the regions after an allocation from the region at a place
---   serve         the outcome of an allocation, by the region that was found
---   lastEndsAt    the last region ends at the end of file
---   freed, allocated, allocatedUnits, rangeTaken, trailingTaken   `free`, `alloc`, `alloc_whole_units`, `take_range`, `take_trailing`
+--   serve         the outcome of an allocation, by the region that was found: "If its leftovers make a 14, no other region is tried"
+--   lastEndsAt    the last region "ends exactly at the given end of file"
+--   freed         `free`: "length 0 changes nothing. Otherwise touching regions fold into one"; refusals 3, 4, 5, 14
+--   rangeTaken    `take_range`: "removes the free bytes within the range; length 0 changes nothing"; refusals 3, 4, 14
+--   allocated     `alloc`: "smallest region that is long enough, lowest on a tie, served from its front. Length 0, or none long enough, gives
+--                 Nothing"; refusal 3
+--   allocatedUnits   `alloc_whole_units`: "length 0 or unit 0 gives Nothing"; "The least interior that suffices serves, lowest on a tie";
+--                 refusals 3, 6, 14
+--   trailingTaken   `take_trailing`: "drops the last region if it ends exactly at the given end of file, and gives its address; else Nothing";
+--                 refusal 3
 use Prim.Native.Nat.{ℕ, suc, _+_, _-_, _%_}
 use mathlib.Core.Bool.{cond, _&&_, not, Bool}
 use mathlib.Core.List.{List, [], _∷_}

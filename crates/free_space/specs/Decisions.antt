@@ -1,4 +1,5 @@
--- What a decision stands for: a call decides first, and then carries its decision out. No public contract cites this file. Assumes nothing.
+-- What a decision stands for: a call decides first, and then carries its decision out. No public contract cites this file; it serves the
+-- contracts of private functions. Assumes nothing.
 --   fitted     a change, where the run has room for the regions that it leaves; else refusal 14
 --   ifList     a decision, or refusal 3 where the test for it fails
 --   leave      the outcome of a call that leaves these regions

@@ -1,7 +1,8 @@
--- What is asked of a list without changing it. Assumes nothing.
+-- What is asked of a list without changing it (document 01, "The list": "`largest` and `largest_whole_units` give 0 for an empty list; the
+-- latter also for unit 0"). Assumes nothing.
 --   greatest         the greatest that a measure gives on the regions of a list, 0 on none
---   largestOf        `largest`: the longest region's length
---   largestUnitsOf   `largest_whole_units`: the longest aligned interior
+--   largestOf        `largest`: the longest region's length; refusal 3
+--   largestUnitsOf   `largest_whole_units`: the longest aligned interior; refusal 3
 use Prim.Native.Nat.{ℕ, max}
 use mathlib.Core.List.{List, [], _∷_}
 use Rattle.error.specs.Outcome.{Outcome, answer, firstOf}

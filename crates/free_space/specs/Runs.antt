@@ -1,11 +1,15 @@
--- A lent run of numbers as a list of regions, and the run that holds a list of regions. Assumes nothing.
+-- A lent run of numbers as a list of regions, and the run that holds a list of regions (document 01, "The list": "A list is a lent run of
+-- 64-bit numbers, address then length, and a count"). Assumes nothing.
+-- In quotes: document 01's words, from "The list" or from the refusal of that number.
 --   regionAt   the i-th pair of a run
 --   decode     the first n pairs of a run, as regions
 --   flat       regions as a run: address, length, address, length, ..
---   recordOf   the record of a list of regions
+--   recordOf   the record of a list of regions: its count
 --   regions    the regions of a run by its record
---   isList     the run and the record are a list: what refusal 3 tests
---   stored     the run after an accepted call that leaves regions where there were n: the regions, then 0 up to the old count, the rest as it was
+--   isList     the run and the record are a list: what refusal 3 tests ("a run of pairs has odd length, or a list's count passes its capacity",
+--              and the rest of it)
+--   stored     the run after an accepted call that leaves regions where there were n: "places between new and old count hold 0, later ones are
+--              unchanged"
 use Prim.Native.Nat.{ℕ, _-_, _*_}
 use mathlib.Core.Bool.{Bool, _&&_}
 use mathlib.Core.List.{List, _++_}

@@ -1,4 +1,5 @@
--- What a pass for the best fit finds on its way, and what its answer says. No public contract cites this file. Assumes nothing.
+-- What a pass for the best fit finds on its way, and what its answer says. No public contract cites this file; it serves the contracts of
+-- private functions. Assumes nothing.
 --   oneAt      what a region at a place finds by itself
 --   lower      the better of what was found lower and what was found above it, the lower on a tie
 --   soFar      what was found so far, as the pass keeps it: a place and the bytes left over

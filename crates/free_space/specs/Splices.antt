@@ -1,4 +1,5 @@
--- What the inner functions of the calls know of a run, and what a patch holds. No public contract cites this file. Assumes nothing.
+-- What the inner functions of the calls know of a run, and what a patch holds. No public contract cites this file; it serves the contracts
+-- of private functions. Assumes nothing.
 --   Stands     where a pass stands: at a region, with all up to it tested
 --   Begins     what is known where the room and the first region were tested
 --   Past       the first region that ends past a place

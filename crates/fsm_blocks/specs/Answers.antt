@@ -1,4 +1,4 @@
--- The outcome that each answer of this crate stands for. Assumes nothing.
+-- The outcome that each answer of this crate stands for (document 01, "Language forms": "for every case of the enum"). Assumes nothing.
 --   headerOutcome     of `FsmHeader::parse`
 --   sectionsOutcome   of a reading that counts the sections it put into the lent run
 use Prim.Native.Nat.{ℕ}

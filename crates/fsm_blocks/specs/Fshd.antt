@@ -1,15 +1,17 @@
 -- The Free-space Manager Header, FSHD, by the offset size O: its fields, bytes and reading. From the HDF5 File Format Specification,
 -- section III.H, with lengths of 8 bytes as document 01 has them. Assumes nothing.
+-- In quotes: document 01's words, from "Blocks on file".
 --   Header       all that stands in a header but its signature and its checksum
---   signature    four letters as a row of fields
---   fshdRow      the header as a row of fields: their widths give the offsets that document 01 lists
---   sealed       bytes with their checksum behind them; `sum` is the checksum of bytes
+--   signature    four letters as a row of fields: the specification's ASCII `FSHD` and `FSSE`
+--   fshdRow      the header as a row of fields; their widths give the offsets listed ("signature at 0; version 0 at 4; client 1 at 5", and so on)
+--   sealed       bytes with their checksum after them, over everything before it; `sum` is the checksum of bytes ("checksum at 70+O")
 --   fshdBytes    a header's bytes
---   fshdSize     their number, 74 + O
+--   fshdSize     their number: "FSHD, length 74+O"
 --   signed       bytes begin with a signature of four
---   headerAt     the header that stands in bytes, signature and checksum aside
---   taken        the six fields that the Rust keeps of a header
---   parseFshd    the reading behind the test of the offset size
+--   headerAt     the header that stands in bytes, signature and checksum aside ("FSSE address at 54 (O); used and allocated length at 54+O and
+--                62+O")
+--   taken        the six fields that the Rust keeps of a header, its `FsmHeader`
+--   parseFshd    the reading after the test of the offset size: "Parsing FSHD tests length, then signature"
 --   parsedFshd   `FsmHeader::parse`: refusals 1, 7, 10
 use Prim.Native.Nat.{ℕ, _+_}
 use mathlib.Core.Bool.{Bool, _&&_, not}

@@ -1,11 +1,14 @@
 -- The Free-space Section List, FSSE: its bytes, its length and its reading. From the HDF5 File Format Specification, section III.H.
 -- Assumes nothing.
+-- In quotes: document 01's words, from "Blocks on file".
 --   bitsWidth    address bits rounded up to bytes
---   widthsOf     the widths that a number of sections, a greatest size and address bits give: `enc_size` of the first two, and bitsWidth
---   fsseHead     signature, version 0 and the address of FSHD
+--   widthsOf     the widths that a number of sections, a greatest size and address bits give: `enc_size` of the first two ("`enc_size` of the total
+--                count"), and bitsWidth
+--   fsseHead     "signature, version 0, FSHD address (O)"
 --   fsseBytes    a section list's bytes: head, groups by size then address, checksum
---   fsseSize     their number, by document 01's formula
---   parseFsse    n sections by address bits and greatest size: length, signature, address bits 0 or above 64, groups
+--   fsseSize     their number: "9+O + distinct sizes × (count width+8) + sections × (O+1)"
+--   parseFsse    n sections by address bits and greatest size: "Parsing FSSE tests length 9+O, signature, then address bits 0 or above 64 (10),
+--                then groups"
 use Prim.Native.Nat.{ℕ, _+_, _-_, _*_, _/_}
 use mathlib.Core.Bool.{_||_, not}
 use mathlib.Core.List.{List, [], _∷_, _++_}

@@ -1,16 +1,20 @@
 -- The groups of an FSSE as bytes, and their reading, by the widths of a count, a size and an address. From the HDF5 File Format
--- Specification, section III.H: a set is the number of its records, the size of its sections, and for each record its offset and type. Assumes nothing.
+-- Specification, section III.H: a set is the number of its records, the size of its sections, and for each record its offset and type.
+-- Assumes nothing.
+-- In quotes: document 01's words, from "Blocks on file".
 --   Widths        the bytes that a group's count, its size and an address take
---   entryBytes    addresses with the class byte behind each
---   groupBytes    groups: count, size, entries
+--   entryBytes    addresses with the class byte after each ("address (O) and class byte for each")
+--   groupBytes    groups: count, size, entries ("A group is a count", "a size (8), then address (O) and class byte for each")
 --   entrySize, headSize   how many bytes an entry takes; a count with its size
 --   Entries       the addresses of some entries, how many sections are still to come, and the bytes left
---   behind        an entry's address before those of the entries behind it
---   readEntries   c entries where `left` sections are still to come: an entry that passes the payload or is beyond the total is refused
---   readMore      the sections of a group before those read behind it
---   readGroups    groups until `left` sections are read; zero-count groups are allowed, bytes left over are not looked at
+--   behind        an entry's address before those of the entries after it
+--   readEntries   c entries where `left` sections are still to come: "A group head or entry that passes the payload, or an entry beyond the
+--                 total, is 10"
+--   readMore      the sections of a group before those read after it
+--   readGroups    groups until `left` sections are read: "Reading ends at the total; total 0 reads no group. Zero-count groups are allowed";
+--                 bytes left over are not looked at
 --   parseGroups   the sections of a payload
---   SectionFits   a section's numbers fit the widths
+--   SectionFits   a section's numbers fit the widths: for the proof that what is written reads back
 use Prim.Native.Nat.{ℕ, zero, suc, _+_, _^_, _<_}
 use mathlib.Core.List.{List, [], _∷_, _++_}
 use lib.Dec.{ltb}

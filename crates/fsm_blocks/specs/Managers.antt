@@ -1,8 +1,10 @@
 -- The two blocks of one manager, by the writer's settings. Assumes nothing.
+-- In quotes: document 01's words, from "Blocks on file".
 --   Settings      what a writer may choose: address bits, greatest section size, shrink, expand, surplus of allocated over used length
---   startingSet   the settings that document 01 fixes at an offset size
+--   startingSet   the settings at an offset size: "shrink 80, expand 120, client 1 and greatest size 2^63−1. Address bits are 8O−1";
+--                 "allocated equals used", so surplus 0
 --   widthsFor     the widths that the settings give to a number of sections
---   headerFor     the header of sections whose list stands at an address
+--   headerFor     the header of sections whose list stands at an address: "three classes"; "Serialized equals total, ghost is 0"
 --   fsseFor       the section list whose header stands at an address
 --   fsseUsed      its length
 use Prim.Native.Nat.{ℕ, _+_, _-_, _*_, _^_}

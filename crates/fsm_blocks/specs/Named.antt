@@ -1,10 +1,11 @@
 -- Where a manager's section list stands, as the reader finds it. Assumes nothing.
+-- In quotes: document 01's words, from "Blocks on file". The first four serve contracts of private functions.
 --   full           a header of which only the six fields are known, the others 0
 --   namedOutcome   the sections of a section list that was found
 --   Inside         the list that was found lies within the bytes
 --   refusalIn      the refusal of a header's answer that is one
---   managerCount   `manager_count`: refusal 1, then the manager's own; how many sections it has
---   slotsCount     how many sections all slots have, at most 2^64 - 1
+--   managerCount   `manager_count`: refusal 1, then the manager's own; how many sections it has ("Each manager's answer is taken apart")
+--   slotsCount     how many sections all slots have, at most 2^64 - 1 ("the needed count covering all managers")
 use Prim.Native.Nat.{ℕ, _+_, _≤_}
 use mathlib.Core.Bool.{not}
 use mathlib.Core.List.{List, [], _∷_}

@@ -1,4 +1,4 @@
--- What the functions within the reader take and answer. Assumes nothing.
+-- What the functions within the reader take and answer, for the contracts of private functions. Assumes nothing.
 --   got          the list that an outcome answers; none where it is a refusal
 --   Accepted     the outcome is an answer
 --   counted      how many sections an outcome answers
@@ -6,7 +6,7 @@
 --   widthsIn     the widths that the code holds
 --   Narrow       they are at most 8, and a count takes a byte at least
 --   WidthsOf     they are those of a header
---   sectionsBy   the sections of a section list, by its header
+--   sectionsBy   the sections of a section list, by its header: `parseFsse` by the fields of an `FsmHeader`
 use Prim.Native.Nat.{ℕ, zero, suc, _≤_}
 use mathlib.Core.Path.{_≡_}
 use mathlib.Core.List.{List, [], _∷_}

@@ -1,12 +1,14 @@
 -- Managers read from the bytes of a file: `parse_fsse` and `read_persisted_sections`. Assumes nothing.
---   undefined8     an address of 64 one bits: no manager, no section list
---   readNamed      the section list that a header names
---   readManager    the sections of the manager whose header a slot names
---   readSlots      each slot's sections, in order; the first refusal ends the read
+-- In quotes: document 01's words, from "Blocks on file".
+--   undefined8     no manager, no section list: "an address of 64 one bits is skipped, in the slot and in the FSSE field"
+--   readNamed      the section list that a header names: "Adding the base past 2^64−1", "or an FSSE outside the data is 10"
+--   readManager    the sections of the manager whose header a slot names: "a header start past the data" is 10
+--   readSlots      each slot's sections: "slots in order"; "the first refusal ends the read"
 --   joined         the sections of all slots, in order
---   intoRun        the sections in the lent run, or refusal 14 with their number (at most 2^64 - 1) and its capacity
+--   intoRun        the sections in the lent run, or refusal 14 with their number (at most 2^64 - 1) and its capacity: "Only after all succeed is 14
+--                  considered, the needed count covering all managers"
 --   parsedFsse     `parse_fsse`: refusals 1, 3 (an odd run), then those of the list, 14 last
---   persisted      `read_persisted_sections`: refusals 1, 3, then slot by slot, 14 last
+--   persisted      "`read_persisted_sections`, the wrapper that refuses more": refusals 1, 3, then slot by slot, 14 last
 use Prim.Native.Nat.{ℕ, _+_, _/_, _%_}
 use mathlib.Core.Bool.{cond, not}
 use mathlib.Core.List.{List, [], _∷_, _++_}

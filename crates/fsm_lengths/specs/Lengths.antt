@@ -1,6 +1,7 @@
--- The length of a section list by the sizes of its sections: document 01, "Blocks on file". Assumes nothing.
+-- The length of a section list by the sizes of its sections. Assumes nothing.
 --   unplaced   sections of these sizes; the length does not depend on their addresses, so they stand at 0
---   fsseLen    `fsse_len`: the length of their section list by the starting settings; refusals 1, 4 (the sum of sizes)
+--   fsseLen    `fsse_len`: the length of their section list by the starting settings (document 01, "Blocks on file": "Length: 9+O + distinct
+--              sizes × (count width+8) + sections × (O+1)"); refusals 1, 4 ("a sum of section sizes")
 use Prim.Native.Nat.{ℕ}
 use mathlib.Core.Bool.{not}
 use mathlib.Core.List.{List, [], _∷_, map}

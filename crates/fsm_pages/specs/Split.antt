@@ -1,8 +1,9 @@
--- `split_at_pages` over lent runs of pairs. Assumes nothing.
---   splitTests     refusals 2, 3, 4
---   splitCount     those; then how many pieces there are, at most 2^64 - 1
---   splitInto      refusals 2, 3, 4, then 14 with the exact number of pieces (at most 2^64 - 1); the pieces in input order
---   splitOutcome   the outcome that an answer of the code stands for
+-- `split_at_pages` over lent runs of pairs (document 01, "Pages and slots": "`split_at_pages` cuts at every page multiple; empty sections
+-- vanish"). Assumes nothing.
+--   splitTests     refusals 2, 3, 4, in this order
+--   splitCount     `split_count`: those; then how many pieces there are, at most 2^64 - 1
+--   splitInto      `split_at_pages`: refusals 2, 3, 4, then 14 with the exact number of pieces (at most 2^64 - 1); the pieces in input order
+--   splitOutcome   the outcome that an answer of the code stands for (document 01, "Language forms": "for every case of the enum")
 use Prim.Native.Nat.{ℕ}
 use mathlib.Core.Bool.{not}
 use mathlib.Core.List.{List, [], _∷_}

@@ -1,13 +1,14 @@
 -- The managers of a paged file: which sections each slot has, the blocks they give and where these stand. Assumes nothing.
+-- In quotes: document 01's words, from "Pages and slots" or from the heading named.
 --   Manager        a slot's sections, and the class that its entries carry
 --   manager, unused   a manager of a class and sections; a slot that is not used
---   managersOf     the twelve slots of three runs of sections: metadata pieces below a page in slot 0, raw ones in slot 2, whole pages of either in slot 6 with the
---                  unclassified unsplit; class 1 for slots 0 and 2, class 2 for slot 6
+--   managersOf     the twelve slots of three runs of sections: "metadata pieces below a page go to slot 0, raw ones to slot 2, whole pages of
+--                  either to slot 6 with unclassified sections unsplit"; "Class 1 for slots 0 and 2, class 2 for slot 6"
 --   managerSize    how many bytes a manager's blocks occupy: FSHD, then FSSE at its allocated length; none without sections
---   managerBytes   a manager's blocks at an address
---   sizeOf         how many bytes the blocks of managers occupy
---   blocksFrom     the blocks of managers from an address on, slot by slot
---   slotsFrom      where each manager's FSHD then stands, the undefined address for one without sections
+--   managerBytes   a manager's blocks at an address: "Non-empty slots get FSHD then FSSE"
+--   sizeOf         how many bytes the blocks of managers occupy ("The save": "L block bytes")
+--   blocksFrom     the blocks of managers "from `start` on, in order 0, 2, 6"
+--   slotsFrom      where each manager's FSHD then stands; one without sections has the undefined address ("The save": "unused ones all one bits")
 use Prim.Native.Nat.{ℕ, _+_}
 use mathlib.Core.Bool.{cond}
 use mathlib.Core.List.{List, [], _∷_, _++_}

@@ -1,22 +1,26 @@
--- `plan_paged_managers`: the sections of slots 0, 2 and 6, and where their blocks stand: document 01, "Pages and slots". Assumes nothing.
+-- `plan_paged_managers`: the sections of slots 0, 2 and 6, and where their blocks stand. Assumes nothing.
+-- In quotes: document 01's words, from "Pages and slots", from the refusal of that number or from the heading named.
 --   addressIn       a block's address in a slot of n sections: the undefined one where it has none
 --   endAt           where the blocks of all slots end
---   planAt          the plan: each slot's FSHD from `start` on in slot order, its FSSE right behind, how many sections it has; and the end
---   wideBlock       a slot has blocks, and an address of one does not fit O bytes
+--   planAt          the plan: "Non-empty slots get FSHD then FSSE, from `start` on, in order 0, 2, 6"; how many sections each has; and the end
+--   wideBlock       a slot has blocks, and an address of one does not fit O bytes (refusal 12: "a written address doesn't fit the offset size")
 --   wideBlocks      one of the three has
---   Placed          the blocks end within 64 bits, and those of a slot with sections have room for its FSHD
+--   Placed          the blocks end within 64 bits, and those of a slot with sections have room for its FSHD: for contracts of private functions
 --   lengthsAre      the lengths of the blocks of the slots' sections
 --   countsAre       how many sections the slots have; planTotal all together
---   planBehind      refusals 4 (the end), 5, 12 (a block's or a section's address), 14; the plan, and the sections in the lent run: those of slots 0 and 2
---                   in input order, those of slot 6 by address
---   lengthsTests    refusals 1, 2, 3 and 4 of the runs, then 4 of each slot: the sizes add up above 2^64 - 1, or the blocks' length is above it
---   lengthsOf       the lengths behind these tests
---   planned         `plan_paged_managers`: refusals 1, 2, 3 (also an odd output run), then those
+--   planBehind      refusals 4 (the end: "a planned address"), 5, 12 (a block's or a section's address), 14; the plan, and the sections in the
+--                   lent run: those of slots 0 and 2 in input order, those of slot 6 "by address"
+--   lengthsTests    refusals 1, 2, 3 and 4 of the runs ("address plus length"), then 4 of each slot ("a sum of section sizes", or the blocks'
+--                   length)
+--   lengthsOf       the lengths after these tests
+--   planned         `plan_paged_managers`: refusals 1, 2, 3 (also an odd output run), then those; "Plan: metadata pieces below a page go to
+--                   slot 0, raw ones to slot 2"
 --   inSlot0, inSlot2, inLarge   the sections of slots 0, 2 and 6, by the runs and their counts
 --   planSections    the sections as the lent run holds them; planCount how many; wideSections an address of one does not fit O bytes
 --   planFor         planBehind for them
---   Ready           what holds behind the tests: the runs can be gone through, and the lengths are those of the slots
---   lengthsOutcome, plannedOutcome   the outcome that an answer of the code stands for
+--   Ready           what holds after the tests: the runs can be gone through, and the lengths are those of the slots; for contracts of private
+--                   functions
+--   lengthsOutcome, plannedOutcome   the outcome that an answer of the code stands for ("Language forms": "for every case of the enum")
 use mathlib.Core.Path.{_≡_}
 use Prim.Native.Nat.{ℕ, _+_, _/_, _≤_}
 use mathlib.Core.Bool.{Bool, true, false, cond, _&&_, _||_, not}

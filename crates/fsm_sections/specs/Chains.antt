@@ -1,4 +1,4 @@
--- Chains: equal sections side by side, which whole pages of a region are. Assumes nothing.
+-- Chains: equal sections side by side, which whole pages of a region are; so they are counted without a loop over pages. Assumes nothing.
 --   link         the chain of an address, a size and a count
 --   chain        its sections: c of size z from address a on, each where the one before ends
 --   starts       their addresses

@@ -1,14 +1,16 @@
--- Regions cut at every page multiple, and the sections of the slots: document 01, "Pages and slots". Assumes nothing.
+-- Regions cut at every page multiple, and the sections of the slots. Assumes nothing.
+-- In quotes: document 01's words, from "Pages and slots".
 --   end           one past a region's last byte
 --   pageEnd       the first page multiple above an address
 --   cutAt         where the piece that begins at a ends, of bytes up to e
 --   piecesFrom    the bytes from a up to e, cut at every page multiple
---   pieces        a region cut at every page multiple; an empty one vanishes
---   split         `split_at_pages`: the pieces of regions, in order
---   belowPage     the sections below a page; fromPage the others
---   slot0, slot2, slot6   the slots' sections; an FSSE puts them into its own order
+--   pieces        a region cut at every page multiple: "empty sections vanish"
+--   split         "`split_at_pages` cuts at every page multiple": the pieces of regions, in order
+--   belowPage     the "pieces below a page"; fromPage the others, "whole pages"
+--   slot0, slot2, slot6   "metadata pieces below a page go to slot 0, raw ones to slot 2, whole pages of either to slot 6 with unclassified
+--                 sections unsplit"; an FSSE puts them into its own order
 --   among         1 if the byte at b is among those from a up to e, else 0
---   holding       how many sections hold the byte at b
+--   holding       how many sections hold the byte at b: for `addresses` of demand 3
 use Prim.Native.Nat.{ℕ, zero, suc, _+_, _-_, _*_, _/_, min}
 use mathlib.Core.Bool.{cond, _&&_}
 use mathlib.Core.List.{List, [], _∷_, _++_}

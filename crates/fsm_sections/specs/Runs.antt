@@ -1,7 +1,8 @@
 -- Runs of pairs that are lent with sections in them, and what is tested of them. Assumes nothing.
---   isEven      a run of pairs has even length: document 01's refusal 3 for runs of sections, and for a lent output run
---   isRun       a run of pairs and a count: even, and no more than its capacity
---   endsAbove   some section ends above 2^64 - 1: refusal 4
+-- In quotes: document 01's words, from the refusal of that number.
+--   isEven      a run of pairs has even length, also a lent output run (refusal 3: "a run of pairs has odd length")
+--   isRun       a run of pairs and a count (refusal 3: "Runs of sections are tested for odd length and count alone")
+--   endsAbove   some section ends above 2^64 - 1 (refusal 4: "address plus length")
 use Prim.Native.Nat.{ℕ, _/_, _%_}
 use mathlib.Core.Bool.{Bool, false, _&&_, _||_}
 use mathlib.Core.List.{List, [], _∷_}

@@ -1,19 +1,21 @@
--- Sources: three lent runs of regions with a part for each, and the chains that they give. Assumes nothing.
+-- Sources: three lent runs of regions with a part for each, and the chains that they give: the writer's passes go over them. Assumes nothing.
+-- In quotes: document 01's words, from "Pages and slots".
 --   pad           from an address to the first page multiple at or after it
---   headSize      how much of a region stands before its first page multiple; bodySize what is left
+--   headSize      how much of a region stands before its first page multiple ("cuts at every page multiple"); bodySize what is left
 --   one           the chain of one section, or of none where it would be empty
---   partOf        a part of a region as a chain, in closed form
+--   partOf        a part of a region as a chain, in closed form: its head, its whole pages, its tail or all of it
 --   chainsIn      the chains of regions
 --   chainsOf      the chains of a source, run by run
 --   chainCount    how many
 --   rest          the sections that are left when the first i, j and k regions of the three runs are done
 --   Within        as many as there are at most
 --   partIn        the part that is meant of the regions of a run, 0, 1 or 2
---   Taking        a chain is taken of those that are left, whichever
+--   Taking        a chain is taken of those that are left, whichever: for contracts of private functions
 --   PartFits      what is cut ends within 64 bits
---   Given         a source that can be gone through: the page is not 0, each count is within its run, what is cut ends within 64 bits
---   smallSource   the pieces of a run's regions below a page: the run stands at a and at b
---   largeSource   the whole pages of two runs, and the regions of a third uncut
+--   Given         a source that can be gone through, as refusals 2, 3 and 4 leave it: the page is not 0, each count is within its run, what is
+--                 cut ends within 64 bits
+--   smallSource   the sections of slot 0 or 2, a run's "pieces below a page": the run stands at a and at b
+--   largeSource   the sections of slot 6: the whole pages of two runs, and the regions of a third uncut
 --   plainSource   a run of sections as they are
 use mathlib.Core.Path.{_≡_}
 use Prim.Native.Nat.{ℕ, suc, _+_, _-_, _*_, _/_, _%_, _^_, min, _≤_, _<_}

@@ -1,4 +1,4 @@
--- The measure of sections, which their blocks' length and their writing go by. Assumes nothing.
+-- The measure of sections, which their blocks' length and their writing go by: for the contracts of private functions. Assumes nothing.
 --   measureOf        the sum of the sizes, the number of the sections and the length of their blocks
 --   measured         the same, with the refusals of `sizeTests`
 --   measuredOutcome  the outcome that an answer of the code stands for

@@ -1,13 +1,15 @@
--- The writer's public entries over a run of sections: document 01, "Blocks on file". Assumes nothing.
---   writtenOutcome   the outcome that an answer of the code stands for
---   ofRun            a run of sections and its count: refusals 1, 3 (odd length, or a count above the capacity), 4 (the sum of sizes)
---   wide             an address does not fit O bytes
+-- The writer's public entries over a run of sections. Assumes nothing.
+-- In quotes: document 01's words, from "Blocks on file", from the refusal of that number or from the heading named.
+--   writtenOutcome   the outcome that an answer of the code stands for ("Language forms": "for every case of the enum")
+--   ofRun            a run of sections and its count: refusals 1, 3 ("Runs of sections are tested for odd length and count alone"), 4 ("a sum of
+--                    section sizes")
+--   wide             an address does not fit O bytes (refusal 12: "a written address doesn't fit the offset size")
 --   anyOf            a test holds of some section
 --   anyWide          some section's address does not
 --   blocksSize       both blocks' lengths, 0 without sections
---   blocksLen        `file_fsm_blocks_len`: that length
---   writtenFshd      `serialize_fshd`: the header at the front of the lent bytes; refusals 12, 14
---   writtenFsse      `serialize_fsse`: the section list at the front of the lent bytes; refusals 12, 14
+--   blocksLen        "`file_fsm_blocks_len` is 0 without sections, else both lengths added"
+--   writtenFshd      `serialize_fshd`: the header at the front of the lent bytes; refusals of ofRun, 12, 14
+--   writtenFsse      `serialize_fsse`: the section list at the front of the lent bytes ("Size 0 and duplicates are written"); the same refusals
 use Prim.Native.Nat.{ℕ, _+_, _/_, _%_, _^_}
 use mathlib.Core.Bool.{Bool, false, cond, not, _||_}
 use mathlib.Core.List.{List, [], _∷_}

@@ -1,14 +1,14 @@
--- A slot of a paged file's managers: the length of its two blocks, and their bytes, by three lent runs of regions. From document 01,
--- "Pages and slots" and "The save". Assumes nothing.
---   slotOf           the sections of a slot: Small has the pieces below a page of the first list's regions, Large the whole pages of the first two lists'
---                    and the third's unsplit
---   slotBytes        the blocks of sections at an address, at offset size 8 with the starting settings: FSHD, and its FSSE right behind it; none without sections
+-- A slot of a paged file's managers: the length of its two blocks, and their bytes, by three lent runs of regions. Assumes nothing.
+-- In quotes: document 01's words, from "Pages and slots", from the refusal of that number or from the heading named.
+--   slotOf           the sections of a slot: Small has the pieces below a page of the first list's regions (slots 0 and 2), Large the whole pages
+--                    of the first two lists' and the third's unsplit (slot 6)
+--   slotBytes        the blocks of sections at an address, at offset size 8 with the starting settings: "Non-empty slots get FSHD then FSSE"
 --   runTests         refusals 1, 2, 3, and 4 for a region that ends above top
---   sizeTests        refusal 4: the sizes add up above top, or the blocks' length is above it
+--   sizeTests        refusal 4: "a sum of section sizes", or the blocks' length, exceeds 2^64 - 1
 --   lenOf            the length of the blocks of sections, with those refusals
 --   slotLen          `slot_len`: the same for a slot
 --   writtenBlocks    the blocks of sections at the front of the lent bytes: refusals 4, 14
---   writtenSlot      `write_slot`: the same for a slot
+--   writtenSlot      `write_slot`: the same for a slot ("The save": "each block written into its part of the scratch from the middle on")
 use Prim.Native.Nat.{ℕ, _+_}
 use mathlib.Core.Bool.{cond, _&&_, _||_, not}
 use mathlib.Core.List.{List, [], _∷_, _++_}

@@ -1,9 +1,10 @@
 -- The text that the program `holes` prints for an image that begins with its message. Assumes nothing.
---   imageLimit     the bytes of the longest image that is read
---   sectionLimit   the sections that are listed at the most
+-- In quotes: document 01's words, from "Checked by hand".
+--   imageLimit     the bytes of the longest image that is read: "at most 65,536 bytes"
+--   sectionLimit   the sections that are listed: "at most 2,048 sections"
 --   textLimit      the bytes of the longest text: 18 of names and 45 for each section listed (the law `text-fits`)
 --   atMost         each slot's sections, if there are no more than that; else refusal 14
---   holesRead      each slot's sections: refusal 14 for a longer image first, then the refusals of its reading, then 14 for more sections
+--   holesRead      each slot's sections, with the refusals of their reading: "above either, 14, the image's length first"
 --   textOf         the text of an outcome: the listing, or the refusal; Nothing, which `read_image` cannot answer, has none
 --   holesText      the text for an image
 use Prim.Native.Nat.{ℕ, _+_, _*_}

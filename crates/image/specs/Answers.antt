@@ -1,7 +1,8 @@
--- The outcome that the answer of `read_image` stands for. Assumes nothing.
+-- The outcome that the answer of `read_image` stands for (document 01, "Language forms": "for every case of the enum"). Assumes nothing.
 --   outcomeWith    of an answer and the counts beside it
 --   imageOutcome   of both together: the twelve counts of slots, or the refusal
---   countsIn       the counts that stand beside it: all 0 where it is a refusal
+--   countsIn       the counts that stand beside it: all 0 where it is a refusal ("Fourteen ways to say no": "Each promise covers answer and lent
+--                  memory, refusals too")
 --   refusedRead    a refused reading with its counts
 use Prim.Native.Nat.{ℕ}
 use mathlib.Core.List.{List}

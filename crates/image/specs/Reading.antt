@@ -1,5 +1,6 @@
--- The reading of an image at a place: its message, at most 125 bytes of it, then its slots; offset and length size 8, base 0. Assumes nothing.
---   messageAt      the at most 125 bytes of message at a place
+-- The reading of an image at a place: its message, at most 125 bytes of it, then its slots; offset and length size 8, base 0 (document 01,
+-- "The save": "An image reads by this message, then its slots, with capacity for all"). Assumes nothing.
+--   messageAt      the at most 125 bytes of message at a place ("Checked by hand": "message first (up to 125 bytes), sizes 8, base 0")
 --   addressesIn    the addresses that stand in a message whose fixed part was read
 --   readImage      each slot's sections, in slot order: refusals 7, 8, 9 of the message, then those of the slots
 --   Listed         a section and the slot that it stands in
@@ -7,9 +8,10 @@
 --   listed         the sections of all slots from one on, in reading order
 --   readListed     the sections of an image with their slots
 --   countsOf       how many sections each of the twelve slots has
---   readInto       the sections of slots in a lent run: refusal 3 for an odd run first, then the slots' own, 14 last; they fill the run from its front, and the counts are answered
+--   readInto       the sections of slots in a lent run: refusal 3 for an odd run first, then the slots' own, 14 last; they fill the run from its
+--                  front, and the counts are answered
 --   imageInto      `read_image`: those of an image, so 3 comes before all others
---   sectionsIn     how many sections the manager has that a slot names, 0 where it is refused
+--   sectionsIn     how many sections the manager has that a slot names, 0 where it is refused: for a private function's contract
 use Prim.Native.Nat.{ℕ, suc, _-_, _%_}
 use mathlib.Core.Bool.{not}
 use mathlib.Core.List.{List, [], _∷_, _++_, map}

@@ -1,12 +1,13 @@
 -- The text that lists sections, and that of a refusal: numbers in decimal, single spaces, a newline at the end of every line. Assumes nothing.
---   header        the line of names: "slot address size"
---   rowText       the line of a section in a slot
+-- In quotes: document 01's words, from "Checked by hand".
+--   header        "A line of names": slot address size
+--   rowText       the line of a section in a slot: "values, single spaces, decimal"
 --   slotText      the lines of a slot's sections
 --   slotsText     the lines of slots, the first of which has number i
 --   listingText   the listing of each slot's sections: the line of names, then a line for each section, slot by slot from slot 0
 --   refusedLine   the line "refused"
---   refusedText   that line, and a line with the number
---   slotsOf       each slot's sections in a run: a slot has as many pairs as its count says, behind those of the slots before it
+--   refusedText   "A refusal prints only the line `refused` and a line with the number"
+--   slotsOf       each slot's sections in a run: a slot has as many pairs as its count says, after those of the slots before it
 use Prim.Native.Nat.{ℕ, suc, _*_}
 use mathlib.Core.List.{List, [], _∷_, _++_}
 use lib.ListN.{drop}

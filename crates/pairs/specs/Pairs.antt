@@ -1,5 +1,5 @@
 -- Lent runs of pairs of numbers, and the records of two numbers that they hold. Assumes nothing.
---   capacity   how many pairs a run has room for: half its length
+--   capacity   how many pairs a run has room for (document 01, "The list": "Capacity is half the run")
 --   isEven     a run of pairs has even length: document 01's refusal 3 for runs of sections, and for a lent output run
 --   isRun      a run of pairs and a count: even, and no more than its capacity
 --   pairAt     the i-th pair as a record, by the record's constructor; a number that the run does not have is 0

@@ -1,4 +1,4 @@
--- The calls of the checksum. Assumes nothing.
+-- The calls of the checksum, in the replay of recorded calls. Assumes nothing.
 --   lookup3Call      the line that answers `lookup3 bytes`: the checksum of the bytes
 --   hashlittleCall   that of `hashlittle initval bytes`: their hash, for an initval of 32 bits
 --   verifyCall       that of `verify bytes`: the test of a checksum at their end

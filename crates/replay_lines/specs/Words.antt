@@ -1,11 +1,11 @@
--- The words of calls and answers. Assumes nothing.
---   isCall        whether the first word of a line is a name: 32 is the space behind it
---   spelledBy     the number that decimal digits spell behind digits that spell v: 48 is the digit 0
+-- The words of calls and answers, for the replay of recorded calls (recorded/README.md). Assumes nothing.
+--   isCall        whether the first word of a line is a name: 32 is the space after it
+--   spelledBy     the number that decimal digits spell after digits that spell v: 48 is the digit 0
 --   halfDigit     the hexadecimal digit of a half byte: 48 is 0, 97 is a
 --   hexByte       the two digits of a byte
 --   numbersLine   numbers with single spaces between them, and a newline
 --   errWord       "err" and a space
---   refusalText   the line of a refusal: its number and its values
+--   refusalText   the line of a refusal (document 01, "Fourteen ways to say no": "its number and the values named")
 --   badLine       "bad", "ok" and "none", each with a newline: badLine, okLine, noneLine
 --   outcomeText   the line of an outcome, by the line of its answer
 --   checkedText   the line of a test

@@ -1,22 +1,26 @@
 -- DEMAND 3, one claim about all list calls in a row, the save of what they leave, and every cut of it. Assumes nothing.
+-- In quotes: document 01's words, from "The save".
 -- For any lent runs that begin as empty lists, any calls made on them in a row, and any save of the lists that they leave, if its
 -- beginning is accepted with a record and a scratch, then with L block bytes and T = L + 126:
---   begins, count, made, step-made, ended   the record begins at no store; each step makes exactly one store, the next of the save's T stores in their order,
---                  and says and counts so; after the last, and no earlier, each step says finished and changes nothing
+--   begins, count, made, step-made, ended   the record begins at no store; each step makes exactly one store, the next of the save's T stores
+--                  in their order, and says and counts so; after the last, and no earlier, each step says finished and changes nothing ("after k
+--                  steps the image is the one before the save with those k stores made"; a save that "counts stores it didn't make" or "says
+--                  finished early" breaks this)
 --   unchanged      nothing stored: the image reads as before, refusals too
 --   between        from the first store to the last but one: no sections
 --   finished       after the last store: exactly the plan's sections, slot by slot, by size and then address
 --   addresses      of the sections then read, exactly one holds each byte that is free by history, and none any other byte
---   unchanged-into, between-into, finished-into   and so answers the entry that reads an image, into any lent run with room
+--   unchanged-into, between-into, finished-into   and so answers the entry that reads an image, into any lent run with room ("An image reads by
+--                  this message, then its slots, with capacity for all")
 --   long, frame    nothing outside blocks and message changes
 --   anew           any save with its message there, also one of other lists, begins over what a cut left as over the image before the save
 --   again          so the same save begins again with any scratch that has room, and ends in the same record and image
 --   lists          the three lists after the calls
 --   blocks, all, T   the bytes of the plan's blocks; the stores of the save, in order; how many they are
---   cut            record and image after k steps
+--   cut            record and image after k steps ("A cut leaves the first k stores")
 --   recordAt       the record of the save after k stores
 --   S, R, G        the sections of slots 0, 2 and 6, by size and then address
---   Demand3, Demand   all this of one save; of every one
+--   Demand3, Demand   all this of one save; of every one ("Demand 3 is one claim about all its calls in a row and every k")
 use Prim.Native.Nat.{ℕ, suc, _+_, _/_, _%_, _^_, _≤_, _<_}
 use mathlib.Core.Path.{_≡_}
 use mathlib.Core.Logic.{_⊎_}

@@ -1,24 +1,25 @@
 -- The beginning of a save: the plan of three lists, the conditions under which it is refused, and what it puts into the scratch.
 -- Offset size 8 and the starting set of the writer's settings. Assumes nothing.
+-- In quotes: document 01's words, from "The save", from the refusal of that number or from the heading named.
 --   sectionsOf     a list's regions as sections
---   small, smallRaw, large   the sections of slots 0, 2 and 6
---   plan           the twelve managers of three lists
---   blockLen       document 01's L, how many bytes all blocks of the plan are
---   blockBytes     these bytes, from `start` on
---   slotAddrs      the twelve slots of the message
---   messageOf      the message: Page, persist, threshold 1, the page size, 0, `start`, the slots
---   tooLarge       refusal 4: a slot's sizes add up above 2^64 - 1, or the blocks end above it
---   messageIn      the 125 bytes at the place are in the image
+--   small, smallRaw, large   the sections of slots 0, 2 and 6 ("Pages and slots")
+--   plan           the twelve managers of "Three lists (metadata, raw, unclassified)"
+--   blockLen       "L block bytes": how many bytes all blocks of the plan are
+--   blockBytes     these bytes ("Pages and slots": "from `start` on, in order 0, 2, 6")
+--   slotAddrs      the twelve slots of the message: "unused ones all one bits"
+--   messageOf      "Message values: Page, persist, threshold 1, the page size, 0, `start`, slots"
+--   tooLarge       refusal 4: "a sum of section sizes" of a slot, or where the blocks end ("a planned address")
+--   messageIn      the message's bytes are in the image: "its 125 bytes, if in the image, must be an accepted message, else 8 or 9"
 --   blocksOut      there are blocks, and they leave the image or overlap the message
 --   endsPast       a region ends past an address
---   inTheWay, anyInTheWay   a free region of a list, of three, ends past `start` or meets the message
---   misplaced      refusal 13: message or blocks leave the image, they overlap each other, or a free region is in the way
+--   inTheWay, anyInTheWay   a free region of a list, of three, "ends past `start` or meets the message"
+--   misplaced      refusal 13: "message or blocks leave the image, they overlap each other", or a free region is in the way
 --   placeTests     refusals 8, 9, 13 and 14, by the length of the blocks; lateTests 5 before them
---   conditions     all refusals of a beginning, in their order
+--   conditions     all refusals of a beginning: 2, 3, 4, 5, 8, 9, 13, 14 ("Fourteen ways to say no": "the lowest number is given")
 --   fresh          the record of a save of which no store is made
---   filled         the scratch with all blocks and then the message, the rest as it was
---   begun          a beginning: the record and the scratch, where no condition holds
---   beginOutcome   the outcome that an answer of the code stands for
+--   filled         "Scratch receives all blocks of their plan and then the message"; the rest is as it was
+--   begun          `save_begin`: the record and the scratch, where no condition holds
+--   beginOutcome   the outcome that an answer of the code stands for ("Language forms": "for every case of the enum")
 use Prim.Native.Nat.{ℕ, _+_}
 use mathlib.Core.Bool.{Bool, false, _&&_, _||_, not}
 use mathlib.Core.List.{List, [], _∷_, _++_, map}

@@ -1,19 +1,23 @@
 -- A step of a save, which makes one store, and steps in a row. Assumes nothing.
+-- In quotes: document 01's words, from "The save" or from the heading named.
 --   Progress      what a step says: that it made a store, with the record after it, or finished
---   stepOutcome   the outcome that an answer of the code stands for
---   stores        how many stores a save with L block bytes has, L + 126
+--   stepOutcome   the outcome that an answer of the code stands for ("Language forms": "for every case of the enum")
+--   stores        how many stores a save with L block bytes has: "That is L+126"
 --   allMade       all stores of the record's save are made
---   leaves        message or blocks of the record leave an image of a length, or a scratch of a length lacks bytes of them
---   Inside        what it means that they do not
---   nextStore     the store that a step makes: number `done` of the save whose blocks are the first bytes of the scratch and whose message stands behind them
+--   leaves        message or blocks of the record leave an image of a length, or a scratch of a length lacks bytes of them: "an earlier step
+--                 whose places leave its image or scratch is 13"
+--   Inside        what it means that they do not, for proofs
+--   nextStore     the store that a step makes ("the stores are, one a step"): number `done` of the save whose blocks are the first bytes of the
+--                 scratch and whose message stands after them
 --   counted       the record with one store more
---   stepped       a step: after the last store it says finished and changes nothing; before, it is refusal 13 where places leave, and else makes one store
---   Saving        a save's record and image, as the beginning or the last step left them
+--   stepped       a step: "A step after the last changes nothing and says finished"; before, it is refusal 13 where places leave, and else makes
+--                 one store
+--   Saving        a save's record and image, "as the beginning or the last step left them"
 --   saving        the pair of a record and an image
 --   recordAfter   the record that a step leaves
 --   goOn          record and image that a step leaves; after a refusal they are as before
 --   stepOn        record and image after one step
---   steps         record and image after k steps in a row
+--   steps         record and image after k steps in a row: "the image is the one before the save with those k stores made"
 use Prim.Native.Nat.{ℕ, zero, suc, _+_, _≤_, _<_}
 use mathlib.Core.Bool.{Bool, cond, _&&_, _||_}
 use mathlib.Core.List.{List, [], _∷_}

@@ -1,13 +1,14 @@
 -- Stores of single bytes into an image, and the stores of a save in their order. Assumes nothing.
+-- In quotes: document 01's words, from "The save" or from the heading named.
 --   Store, store   a byte and the place in the image that it goes to; the store of a place and a byte
 --   noStore      what stands for a store where a list has none
---   make         the image with a store made
+--   make         the image with a store made ("a byte being stored is old or new, never junk")
 --   run          the image with stores made, one after another
---   after        what a cut leaves: the image with the first k stores made and nothing of the others
---   ascending    the stores of bytes one behind another, from a place up
+--   after        what a cut leaves: the image with "the first k stores" made "and nothing of the others"
+--   ascending    the stores of bytes one after another, from a place up
 --   but          stores without number i of them
---   messageLen   the bytes of a save's message, 125
---   persist      which of them is the persist byte: number 2, after version and strategy
+--   messageLen   the bytes of a save's message: "its 125 bytes"
+--   persist      which of them is the persist byte: number 2, after version and strategy ("The message")
 --   saveStores   the stores of a save: "0 to the persist byte; blocks ascending; message bytes but persist ascending; 1 to persist"
 use Prim.Native.Nat.{ℕ, suc, _+_}
 use mathlib.Core.List.{List, [], _∷_, _++_}

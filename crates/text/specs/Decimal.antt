@@ -1,4 +1,4 @@
--- Numbers in decimal, as text. Assumes nothing.
+-- Numbers in decimal, as text (document 01, "Checked by hand": "values, single spaces, decimal"). Assumes nothing.
 --   digit     the text of a digit: 48 is 0
 --   digits    the digits of a number, the last of them its rest by 10; f + 1 at the most
 --   decimal   the digits of a 64-bit number, with no zero in front but for 0 itself

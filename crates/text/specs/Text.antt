@@ -1,6 +1,6 @@
 -- Text in lent bytes. Assumes nothing.
---   written   a text written at a place of lent bytes: the place behind it, at most their end, and the bytes; what would pass the end is dropped
---   word      a number in decimal, and the byte behind it
+--   written   a text written at a place of lent bytes: the place after it, at most their end, and the bytes; what would pass the end is dropped
+--   word      a number in decimal, and the byte after it (document 01, "Checked by hand": "single spaces, decimal")
 use Prim.Native.Nat.{ℕ, _+_, min}
 use mathlib.Core.List.{List, [], _∷_, _++_}
 use lib.ListN.{length}

@@ -1,4 +1,4 @@
-//! What the Rust's files name and does not come with them. Nothing that is timed calls it.
+//! What the Rust's files name and does not come with them. No function that is called or timed uses it.
 
 pub mod message_type {
     #[derive(Debug)]
