@@ -1,9 +1,10 @@
 // The passes for the best fit, which test for refusal 3 as they go.
 ghost use mathlib.Core.Path.{_≡_};
 ghost use Prim.Native.Nat.{_-_, _^_, _<_, _≤_};
+ghost use Rattle.free_regions.specs.Regions.{oneAt, lower};
 ghost use Rattle.free_space.specs.Passes.{measureOf};
 ghost use Rattle.free_space.specs.Splices.{Stands};
-ghost use Rattle.free_space.specs.Searches.{oneAt, lower, soFar, answered, Finds};
+ghost use Rattle.free_space.specs.Searches.{soFar, answered, Finds};
 use crate::check::Head;
 use crate::check::first_region;
 use crate::check::follows;

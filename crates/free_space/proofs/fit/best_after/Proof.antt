@@ -4,10 +4,10 @@ use native.Mathlib.Omega.{arith}
 use borrow.Author.Needs.{needs}
 use lib.ListN.{drop}
 use denote.Ref.{now}
-use Rattle.free_regions.specs.Regions.{okFrom, best}
+use Rattle.free_regions.specs.Regions.{okFrom, oneAt, lower, best}
 use Rattle.free_space.specs.Runs.{decode}
 use Rattle.free_space.specs.Passes.{measureOf}
-use Rattle.free_space.specs.Searches.{oneAt, lower, soFar}
+use Rattle.free_space.specs.Searches.{soFar}
 use Rattle.free_space.proofs.CheckLaws.{pass-stops, pass-fits, pass-goes, pass-ends}
 use Rattle.free_space.proofs.FitLaws.{fit-first, fit-turn, fit-end, finds}
 use Rattle.free_space.proofs.fit.best_after.Statement.{statement}
