@@ -13,4 +13,3 @@ pub mod SlotsLaws
 pub mod ReadLaws
 pub mod WrittenLaws
 pub mod ImageLaws
-pub mod Cases

@@ -8,4 +8,3 @@ pub mod AllPiecesLaws
 pub mod LengthLaws
 pub mod PlanLaws
 pub mod PlannedLaws
-pub mod Cases

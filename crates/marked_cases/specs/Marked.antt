@@ -1,4 +1,6 @@
 -- Document 01's marked cases, M1 to M10, as one table over the definitions that the contracts cite. Assumes nothing.
+--   of        the record of a list of so many regions
+--   gives     the outcome of a call that gives an address and leaves so many regions and a run
 --   lent      lent runs of any numbers
 --   freeing   a `free` on the first list
 --   m4Lists   three lists begun empty after the calls of M4 on the first
@@ -10,12 +12,13 @@ use Prim.Native.Nat.{ℕ, _+_, _-_, _^_}
 use mathlib.Core.Path.{_≡_}
 use mathlib.Core.List.{List, [], _∷_, map}
 use lib.ListN.{take, replicate}
-use Rattle.error.specs.Outcome.{answer}
-use Rattle.error.specs.Lent.{with}
+use Rattle.error.specs.Outcome.{Outcome, answer}
+use Rattle.error.specs.Lent.{With, with}
 use Rattle.fields.specs.Ranges.{top}
 use Rattle.fields.specs.Width.{encSize, fshdLen}
 use Rattle.free_regions.specs.Regions.{region}
-use Rattle.free_space.specs.Calls.{allocated, allocatedUnits, rangeTaken}
+use Rattle.free_space.specs.declared.list.FreeList.{FreeList}
+use Rattle.free_space.specs.Calls.{Gave, giving, allocated, allocatedUnits, rangeTaken}
 use Rattle.free_lists.specs.Lists.{Which, metadata, raw, unclassified, Lists, regionsOf}
 use Rattle.free_lists.specs.History.{free, On, run, begun}
 use Rattle.fsm_sections.specs.Sections.{section}
@@ -25,9 +28,14 @@ use Rattle.file_space_info.specs.declared.FileSpaceStrategy.the-variants.{Page}
 use Rattle.file_space_info.specs.declared.WithSlots.{WithSlots}
 use Rattle.file_space_info.specs.Infos.{persistentSingleManager}
 use Rattle.file_space_info.specs.Message.{messageBytes, parsed}
-use Rattle.list_cases.specs.Cases.{of, gives}
 use Rattle.save_step.specs.Steps.{stores}
 use Rattle.save.specs.Saving.{small, smallRaw, large, blockLen, slotAddrs}
+
+abbrev pub of : ℕ → FreeList
+of n = record { count = n }
+
+abbrev pub gives : ℕ → ℕ → List ℕ → Outcome (With Gave (List ℕ))
+gives a n xs = answer (with (giving a (of n)) xs)
 
 -- any lent runs do, with room for what is freed
 abbrev pub lent : Which → List ℕ

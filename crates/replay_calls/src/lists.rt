@@ -1,12 +1,14 @@
-// The calls on the three lists. `lists` has their runs, one after the other, then their counts, and then how many bytes of scratch a
-// save is lent.
+// The calls on the three lists. `lists` has their runs, one after the other, then their counts, then how many bytes of scratch a save
+// is lent, and then how many numbers of its run each list is lent.
 ghost use mathlib.Core.Path.{_≡_};
 ghost use Prim.Native.Nat.{_≤_};
 ghost use lib.ListN.{length};
 ghost use Rattle.error.specs.Lent.{over};
 use crate::reply::Reply;
 use crate::reply::number_reply;
+use crate::reply::say_numbers;
 use crate::reply::say_pairs;
+use crate::text::least;
 use crate::words::few_of;
 use crate::words::line_numbers;
 use crate::words::name_in;
@@ -16,13 +18,16 @@ use free_space::list::Given;
 use free_space::list::Kept;
 
 // The numbers that the run of a list has.
-const RUN: usize = 8192;
+pub(crate) const RUN: usize = 8192;
 
 // The place of the first list's count.
 pub(crate) const COUNTS: usize = 24576;
 
 // The place of the length of a save's scratch.
 pub(crate) const SCRATCH: usize = 24579;
+
+// The place of how many numbers the first list is lent.
+const ROOMS: usize = 24580;
 
 // An answer, and the list's count after the call.
 struct Answered {
@@ -73,7 +78,8 @@ fn question(call: u64, run: &[u64], list: FreeList, first: u64) -> Reply {
         6 => number_reply(list.largest_whole_units(run, first)),
         7 => number_reply(list.largest(run)),
         8 => is_empty_call(list),
-        _ => say_pairs(b"", run, list.count as u64),
+        10 => say_pairs(b"", run, list.count as u64),
+        _ => say_numbers(run),
     }
 }
 
@@ -102,9 +108,17 @@ fn numbers_of(call: u64) -> usize {
     }
 }
 
+// How many numbers of its run a list is lent.
+pub(crate) fn room_of(lists: &[u64], i: usize) -> usize
+    requires { ⌜ (24583 ≤ length (now lists)) × (i ≤ 2) ⌝ }
+    ensures { λ r. ⌜ r ≤ 8192 ⌝ }
+{
+    least(RUN, lists[ROOMS + i])
+}
+
 // Answers a call on one list: the first number says on which of them.
 fn list_call(call: u64, line: &[u8], lists: &mut [u64]) -> Reply
-    requires { ⌜ 24580 ≤ length (now lists) ⌝ }
+    requires { ⌜ 24583 ≤ length (now lists) ⌝ }
 {
     let few = few_of(line);
     if few.count != numbers_of(call) {
@@ -119,14 +133,14 @@ fn list_call(call: u64, line: &[u8], lists: &mut [u64]) -> Reply
         count: lists[COUNTS + i] as usize,
     };
     let from = i * RUN;
-    let end = from + RUN;
+    let end = from + room_of(lists, i);
     let answered = one_list(call, &mut lists[from..end], list, few.second, few.third);
     lists[COUNTS + i] = answered.count as u64;
     answered.reply
 }
 
 // Puts numbers at the front of a run, as far as it reaches.
-fn put_front(run: &mut [u64], numbers: &[u64])
+pub(crate) fn put_front(run: &mut [u64], numbers: &[u64])
     ensures { λ _. ⌜ now (run .exit) ≡ over 0 (now (numbers .entry)) (now (run .entry)) ⌝ }
 {
     let mut i = 0;
@@ -148,7 +162,7 @@ fn lent_buffer() -> [u64; RUN + 3]
 
 // Puts any numbers into a list's run, and any count beside it: they need not be a list.
 fn lend(args: &[u64], lists: &mut [u64]) -> Reply
-    requires { ⌜ 24580 ≤ length (now lists) ⌝ }
+    requires { ⌜ 24583 ≤ length (now lists) ⌝ }
 {
     if args.len() < 3 {
         return Reply::Bad;
@@ -169,7 +183,7 @@ fn lend(args: &[u64], lists: &mut [u64]) -> Reply
 }
 
 fn lend_call(line: &[u8], lists: &mut [u64]) -> Reply
-    requires { ⌜ 24580 ≤ length (now lists) ⌝ }
+    requires { ⌜ 24583 ≤ length (now lists) ⌝ }
 {
     let mut numbers = lent_buffer();
     let read = line_numbers(line, &mut numbers);
@@ -181,7 +195,7 @@ fn lend_call(line: &[u8], lists: &mut [u64]) -> Reply
 }
 
 fn trailing_run_start_call(line: &[u8], lists: &[u64]) -> Reply
-    requires { ⌜ 24580 ≤ length (now lists) ⌝ }
+    requires { ⌜ 24583 ≤ length (now lists) ⌝ }
 {
     let few = few_of(line);
     if few.count != 1 {
@@ -196,12 +210,15 @@ fn trailing_run_start_call(line: &[u8], lists: &[u64]) -> Reply
     let unclassified = FreeList {
         count: lists[COUNTS + 2] as usize,
     };
+    let meta_end = room_of(lists, 0);
+    let raw_end = RUN + room_of(lists, 1);
+    let unclassified_end = 2 * RUN + room_of(lists, 2);
     let n = trailing_run_start(
-        &lists[0..8192],
+        &lists[0..meta_end],
         meta,
-        &lists[8192..16384],
+        &lists[RUN..raw_end],
         raw,
-        &lists[16384..24576],
+        &lists[2 * RUN..unclassified_end],
         unclassified,
         few.first,
     );
@@ -209,7 +226,7 @@ fn trailing_run_start_call(line: &[u8], lists: &[u64]) -> Reply
 }
 
 fn scratch_call(line: &[u8], lists: &mut [u64]) -> Reply
-    requires { ⌜ 24580 ≤ length (now lists) ⌝ }
+    requires { ⌜ 24583 ≤ length (now lists) ⌝ }
 {
     let few = few_of(line);
     if few.count != 1 {
@@ -223,21 +240,42 @@ fn scratch_call(line: &[u8], lists: &mut [u64]) -> Reply
     Reply::Done
 }
 
+// Lends a list the first numbers of its run from now on. Its count stays.
+fn room_call(line: &[u8], lists: &mut [u64]) -> Reply
+    requires { ⌜ 24583 ≤ length (now lists) ⌝ }
+{
+    let few = few_of(line);
+    if few.count != 2 {
+        return Reply::Bad;
+    }
+    let k = few.first;
+    if 2 < k {
+        return Reply::Bad;
+    }
+    let n = few.second;
+    if (RUN as u64) < n {
+        return Reply::Bad;
+    }
+    lists[ROOMS + k as usize] = n;
+    Reply::Done
+}
+
 pub(crate) fn lists_name(line: &[u8]) -> u64 {
     name_in(
-        b"free take allocw alloc trail largestw largest isempty new sections lend tstart scratch",
+        b"free take allocw alloc trail largestw largest isempty new sections run lend tstart scratch room",
         line,
     )
 }
 
 // Answers a call on the lists, by its place among the names of `lists_name`.
 pub(crate) fn lists_call(call: u64, line: &[u8], lists: &mut [u64]) -> Reply
-    requires { ⌜ 24580 ≤ length (now lists) ⌝ }
+    requires { ⌜ 24583 ≤ length (now lists) ⌝ }
 {
     match call {
-        11 => lend_call(line, lists),
-        12 => trailing_run_start_call(line, lists),
-        13 => scratch_call(line, lists),
+        12 => lend_call(line, lists),
+        13 => trailing_run_start_call(line, lists),
+        14 => scratch_call(line, lists),
+        15 => room_call(line, lists),
         _ => list_call(call, line, lists),
     }
 }

@@ -1,6 +1,8 @@
 // Short answers, and standard output.
 use crate::memory::bytes_memory;
+use crate::text::end_line;
 use crate::text::pairs_line;
+use crate::text::put_counted;
 use error::Number;
 use error::Refusal;
 use libc::STDOUT_FILENO;
@@ -62,6 +64,15 @@ pub(crate) fn say(reply: Reply) {
     let mut out = [0; 80];
     let len = reply_line(&mut out, reply);
     write_out(&out, len);
+}
+
+// Writes a run of numbers.
+pub(crate) fn say_numbers(run: &[u64]) -> Reply {
+    let mut out = bytes_memory();
+    let at = put_counted(&mut out, 0, run, run.len() as u64);
+    let len = end_line(&mut out, at);
+    write_out(&out, len);
+    Reply::Silent
 }
 
 // Writes a word, a count and as many pairs of a run.

@@ -1,8 +1,10 @@
-// The call of a save. `lists` has the three lists and the length of the scratch that a save is lent.
+// The call of a save. `lists` has the three lists and how much of each a save is lent, and of scratch.
 ghost use Prim.Native.Nat.{_≤_};
 ghost use lib.ListN.{length};
 use crate::lists::COUNTS;
+use crate::lists::RUN;
 use crate::lists::SCRATCH;
+use crate::lists::room_of;
 use crate::memory::bytes_memory;
 use crate::reply::Reply;
 use crate::reply::write_out;
@@ -34,7 +36,7 @@ fn steps(s: Save, k: u64, image: &mut [u8], scratch: &[u8]) -> Reply {
 }
 
 fn begin(args: &[u64], lists: &[u64], image: &[u8], scratch: &mut [u8]) -> Begin
-    requires { ⌜ (4 ≤ length (now args)) × (24580 ≤ length (now lists)) ⌝ }
+    requires { ⌜ (4 ≤ length (now args)) × (24583 ≤ length (now lists)) ⌝ }
 {
     let meta = FreeList {
         count: lists[COUNTS] as usize,
@@ -45,12 +47,15 @@ fn begin(args: &[u64], lists: &[u64], image: &[u8], scratch: &mut [u8]) -> Begin
     let unclassified = FreeList {
         count: lists[COUNTS + 2] as usize,
     };
+    let meta_end = room_of(lists, 0);
+    let raw_end = RUN + room_of(lists, 1);
+    let unclassified_end = 2 * RUN + room_of(lists, 2);
     save_begin(
-        &lists[0..8192],
+        &lists[0..meta_end],
         meta,
-        &lists[8192..16384],
+        &lists[RUN..raw_end],
         raw,
-        &lists[16384..24576],
+        &lists[2 * RUN..unclassified_end],
         unclassified,
         args[0],
         args[1],
@@ -62,7 +67,7 @@ fn begin(args: &[u64], lists: &[u64], image: &[u8], scratch: &mut [u8]) -> Begin
 
 // Saves the lists over an image, and makes as many steps as the fourth number says.
 fn save_lists(args: &[u64], lists: &[u64], image: &mut [u8], scratch: &mut [u8]) -> Reply
-    requires { ⌜ (4 ≤ length (now args)) × (24580 ≤ length (now lists)) ⌝ }
+    requires { ⌜ (4 ≤ length (now args)) × (24583 ≤ length (now lists)) ⌝ }
 {
     let begun = begin(args, lists, image, scratch);
     match begun {
@@ -72,7 +77,7 @@ fn save_lists(args: &[u64], lists: &[u64], image: &mut [u8], scratch: &mut [u8])
 }
 
 pub(crate) fn save_call(args: &[u64], image: &mut [u8], lists: &[u64]) -> Reply
-    requires { ⌜ 24580 ≤ length (now lists) ⌝ }
+    requires { ⌜ 24583 ≤ length (now lists) ⌝ }
 {
     if args.len() != 4 {
         return Reply::Bad;

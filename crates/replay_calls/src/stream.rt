@@ -4,6 +4,7 @@ ghost use Prim.Native.Nat.{_<_, _≤_};
 ghost use lib.ListN.{length};
 use crate::dispatch::answer_line;
 use crate::lists::SCRATCH;
+use crate::lists::put_front;
 use crate::reply::Reply;
 use crate::reply::say;
 use libc::STDIN_FILENO;
@@ -18,11 +19,11 @@ fn line_buffer() -> [u8; LINE_LIMIT + 1]
     [0; LINE_LIMIT + 1]
 }
 
-// Memory for three lists of 4,096 regions, their counts, and the length of a save's scratch.
-fn lists_buffer() -> [u64; 24580]
-    ensures { λ r. ⌜ 24580 ≡ length r ⌝ }
+// Memory for three lists of 4,096 regions, their counts, the length of a save's scratch, and how much of each run is lent.
+fn lists_buffer() -> [u64; 24583]
+    ensures { λ r. ⌜ 24583 ≡ length r ⌝ }
 {
-    [0; 24580]
+    [0; 24583]
 }
 
 // What is read: the bytes of the chunk from `at` up to `end` are not taken yet, and `have` bytes of the line are there. The line is
@@ -109,7 +110,7 @@ fn too_long(line: &[u8]) -> Reply {
 
 // The answer to a line of `n` bytes.
 fn answer(line: &[u8], n: usize, lists: &mut [u64]) -> Reply
-    requires { ⌜ 24580 ≤ length (now lists) ⌝ }
+    requires { ⌜ 24583 ≤ length (now lists) ⌝ }
 {
     if line.len() <= n {
         return too_long(line);
@@ -119,7 +120,7 @@ fn answer(line: &[u8], n: usize, lists: &mut [u64]) -> Reply
 
 // Reads on, and answers the line if it is whole.
 fn step(chunk: &mut [u8], line: &mut [u8], lists: &mut [u64], input: Input) -> Input
-    requires { ⌜ 24580 ≤ length (now lists) ⌝ }
+    requires { ⌜ 24583 ≤ length (now lists) ⌝ }
 {
     let after = read_on(chunk, line, input);
     if after.whole {
@@ -138,7 +139,7 @@ fn turns_left(turns: u64, more: bool) -> u64
 
 // Reads and answers up to 2^40 lines or chunks.
 fn replay(chunk: &mut [u8], line: &mut [u8], lists: &mut [u64])
-    requires { ⌜ 24580 ≤ length (now lists) ⌝ }
+    requires { ⌜ 24583 ≤ length (now lists) ⌝ }
 {
     let mut input = Input {
         at: 0,
@@ -154,11 +155,11 @@ fn replay(chunk: &mut [u8], line: &mut [u8], lists: &mut [u64])
     }
 }
 
-// A save is lent all its scratch at first.
-fn lend_scratch(lists: &mut [u64])
-    requires { ⌜ 24580 ≤ length (now lists) ⌝ }
+// A save is lent all its scratch at first, and each list all its run: their places stand behind each other.
+fn lend_all(lists: &mut [u64])
+    requires { ⌜ 24583 ≤ length (now lists) ⌝ }
 {
-    lists[SCRATCH] = 1048576;
+    put_front(&mut lists[SCRATCH..], &[1048576, 8192, 8192, 8192]);
 }
 
 // Answers standard input.
@@ -166,6 +167,6 @@ pub fn run() {
     let mut chunk = io::large_buffer();
     let mut line = line_buffer();
     let mut lists = lists_buffer();
-    lend_scratch(&mut lists);
+    lend_all(&mut lists);
     replay(&mut chunk, &mut line, &mut lists);
 }

@@ -62,7 +62,7 @@ pub(crate) fn end_line(out: &mut [u8], at: usize) -> usize {
 }
 
 // The lesser of a length and a count.
-fn least(len: usize, count: u64) -> usize
+pub(crate) fn least(len: usize, count: u64) -> usize
     ensures { λ r. ⌜ r ≤ len ⌝ }
 {
     if len as u64 <= count {

@@ -4,7 +4,7 @@ pub mod BeginLaws
 pub mod ReadLaws
 pub mod HoldingLaws
 pub mod Demand3
-pub mod Cases
+pub mod Instance
 pub mod TieLaws
 pub mod SumLaws
 pub mod PlaceLaws

@@ -1,5 +1,4 @@
 pub mod CutLaws
 pub mod RecordLaws
 pub mod PairLaws
-pub mod Cases
 pub mod WalkTypes

@@ -6,7 +6,7 @@ use Rattle.replay_calls.proofs.stream.replay.Statement.{statement}
 use Rattle.replay_calls.proofs.stream.replay.Tie as tie
 
 abbrev Inv-loop : tie.InvT-loop
-Inv-loop chunk₀ line₀ lists₀ input₀ turns₀ chunk line lists input turns = (24580 ≤ length lists) × (length lists ≡ length lists₀) × (length chunk ≡ length chunk₀) × (length line ≡ length line₀)
+Inv-loop chunk₀ line₀ lists₀ input₀ turns₀ chunk line lists input turns = (24583 ≤ length lists) × (length lists ≡ length lists₀) × (length chunk ≡ length chunk₀) × (length line ≡ length line₀)
 
 abbrev μ-loop : tie.MeasureT-loop
 μ-loop chunk₀ line₀ lists₀ input₀ turns₀ chunk line lists input turns = turns

@@ -1,0 +1,53 @@
+-- Demand 3's premises can be met: a `free` of (200, 50) on the metadata list, and a save at page 100 and `start` 260 with its message at 0, over an image
+-- of 377 bytes, are accepted. So the demand says something. Assumes nothing.
+use mathlib.Core.Path.{_≡_, refl}
+use Prim.Native.Nat.{ℕ}
+use mathlib.Core.List.{List, [], _∷_}
+use lib.Dec.{lit<}
+use lib.ListN.{replicate}
+use Rattle.error.specs.Outcome.{answer, firstOf}
+use Rattle.error.specs.Lent.{with}
+use Rattle.fields.specs.Width.{encSize, leastFrom}
+use Rattle.free_space.specs.Runs.{isList, stored}
+use Rattle.free_space.specs.Calls.{freed}
+use Rattle.free_lists.specs.Lists.{Which, metadata, raw, unclassified, Lists}
+use Rattle.free_lists.specs.History.{free, On, run, begun as begunEmpty}
+use Rattle.fsm_sections.specs.Sections.{space, ofSize, distinct}
+use Rattle.fsm_sections.specs.Pages.{piecesFrom, pieces, split, belowPage, fromPage}
+use Rattle.fsm_plan.specs.Managers.{sizeOf}
+use Rattle.save_step.specs.declared.Save.{Save}
+use Rattle.save.specs.Saving.{filled, begun}
+use Rattle.save.specs.Demand3.{Demand3}
+use Rattle.save.proofs.Demand3.{demand3}
+
+runs : Which → List ℕ
+runs metadata = 7 ∷ 7 ∷ []
+runs raw = []
+runs unclassified = []
+
+calls : List On
+calls = record { list = metadata; what = free 200 50 } ∷ []
+
+abbrev lists : Lists
+lists = run calls (begunEmpty runs)
+
+-- version 1 and strategy 1 of the old message
+abbrev image : List ℕ
+image = 1 ∷ 1 ∷ replicate 375 0
+
+abbrev scratch : List ℕ
+scratch = replicate 242 0
+
+-- a header of 82 bytes and a section list of 35
+abbrev save : Save
+save = record { start = 260; place = 0; len = 117; done = 0 }
+
+abbrev lent : List ℕ
+lent = filled lists 100 260 0 scratch
+
+accepted : begun lists 100 260 0 image scratch ≡ answer (with save lent)
+unfolding begun run calls runs freed firstOf isList stored piecesFrom pieces split belowPage fromPage sizeOf distinct ofSize encSize leastFrom space
+accepted = refl
+
+met : Demand3 runs calls 100 260 0 image save lent
+met = demand3 runs calls 100 260 0 image scratch save lent (lit< tt) (lit< tt) accepted
