@@ -20,7 +20,7 @@ use Rattle.text.specs.Text.{written}
 use Rattle.listing.specs.Listing.{header, slotText, slotsText, listingText}
 use Rattle.listing.proofs.SizeLaws.{slot-at-most, refused-at-most}
 use Rattle.holes_text.specs.Holes.{imageLimit, sectionLimit, textLimit, atMost, holesRead, textOf, holesText}
-use Rattle.holes_text.proofs.BackLaws.{over-is}
+use Rattle.error.proofs.OverLaws.{over-is}
 use Rattle.holes_text.proofs.HolesLaws.{Few, few}
 
 -- ---- at most twelve slots
