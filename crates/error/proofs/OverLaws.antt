@@ -20,6 +20,12 @@ over-nil i [] = refl
 over-nil zero (x ∷ xs) = refl
 over-nil (suc i) (x ∷ xs) = ap (λ (l : List ℕ). x ∷ l) (over-nil i xs)
 
+-- written at the front
+pub over-is : (vs xs : List ℕ) → length vs ≤ length xs → over 0 vs xs ≡ vs ++ drop (length vs) xs
+over-is [] xs h = over-nil 0 xs
+over-is (v ∷ vs) [] h = absurd (not-suc-le-zero h)
+over-is (v ∷ vs) (x ∷ xs) h = ap (λ (l : List ℕ). v ∷ l) (over-is vs xs (le-of-suc-le-suc h))
+
 pub set-over : (xs : List ℕ) (i v : ℕ) → set xs i v ≡ over i (v ∷ []) xs
 set-over [] i v = refl
 set-over (x ∷ xs) zero v = ap (λ (l : List ℕ). v ∷ l) (sym (over-nil zero xs))

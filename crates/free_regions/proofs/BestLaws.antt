@@ -12,7 +12,7 @@ use borrow.Author.Tests.{le-leb, lt-leb}
 use lib.ListN.{length, getD}
 use Rattle.error.proofs.TestLaws.{le-or-lt}
 use Rattle.free_regions.specs.declared.FreeRegion.{FreeRegion}
-use Rattle.free_regions.specs.Regions.{region, Found, none, at, better, best}
+use Rattle.free_regions.specs.Regions.{region, Found, none, at, oneAt, lower, best}
 
 abbrev pub nth : List FreeRegion → ℕ → FreeRegion
 nth rs i = getD rs i (region 0 0)
@@ -70,7 +70,7 @@ module _ (span : FreeRegion → ℕ) (len : ℕ) where
   none-too r rs h f zero l = h
   none-too r rs h f (suc j) l = f j (le-of-suc-le-suc l)
 
-  step : (i : ℕ) (r : FreeRegion) (rs : List FreeRegion) (f : Found) → Finds (suc i) rs f → Finds i (r ∷ rs) (better len i (span r) f)
+  step : (i : ℕ) (r : FreeRegion) (rs : List FreeRegion) (f : Found) → Finds (suc i) rs f → Finds i (r ∷ rs) (lower (oneAt len i (span r)) f)
   step i r rs none q =
       ⊎-elim
       (λ (h : len ≤ span r). rw le-leb (first i r rs h (λ j l k. absurd (omega (arith, q j l)))))

@@ -19,11 +19,11 @@ use Rattle.free_regions.proofs.SetLaws.{Between, Removes, piece-within,
 
 -- ---- the set
 
-piece-none : (a len : ℕ) → len ≡ 0 → piece a len ≡ []
+pub piece-none : (a len : ℕ) → len ≡ 0 → piece a len ≡ []
 piece-none a len e = rw (eq-eqb len 0 e)
 
-piece-some : (a len : ℕ) → 0 < len → piece a len ≡ region a len ∷ []
-piece-some a len h = rw (ne-eqb len 0 (omega arith))
+pub piece-some : (a len : ℕ) → (len ≡ 0 → ⊥) → piece a len ≡ region a len ∷ []
+piece-some a len h = rw (ne-eqb len 0 h)
 
 -- a region that lies above the range, or below it, stays
 cut-above : (a e : ℕ) (r : FreeRegion) → a ≤ e → 0 < r .len → e ≤ r .addr → cut a e r ≡ r ∷ []
@@ -32,13 +32,13 @@ cut-above a e r h s k =
     let m : max e (r .addr) ≡ r .addr = omega arith in
     let b : end r - r .addr ≡ r .len = omega arith in
     ap₂ (λ (p q : List FreeRegion). p ++ q) (piece-none (r .addr) (min (end r) a - r .addr) f)
-    (ap (λ (x : ℕ). piece x (end r - x)) m ∙ ap (piece (r .addr)) b ∙ piece-some (r .addr) (r .len) s)
+    (ap (λ (x : ℕ). piece x (end r - x)) m ∙ ap (piece (r .addr)) b ∙ piece-some (r .addr) (r .len) (λ z. absurd (omega arith)))
 
 cut-below : (a e : ℕ) (r : FreeRegion) → a ≤ e → 0 < r .len → end r ≤ a → cut a e r ≡ r ∷ []
 cut-below a e r h s k =
     let f : min (end r) a - r .addr ≡ r .len = omega arith in
     let b : end r - max e (r .addr) ≡ 0 = omega arith in
-    ap₂ (λ (p q : List FreeRegion). p ++ q) (ap (piece (r .addr)) f ∙ piece-some (r .addr) (r .len) s) (piece-none (max e (r .addr)) (end r - max e (r .addr)) b)
+    ap₂ (λ (p q : List FreeRegion). p ++ q) (ap (piece (r .addr)) f ∙ piece-some (r .addr) (r .len) (λ z. absurd (omega arith))) (piece-none (max e (r .addr)) (end r - max e (r .addr)) b)
 
 module _ (a e : ℕ) (h : a < e) where
   cut-within : (r : FreeRegion) → 0 < r .len → Within (r .addr) (end r) (cut a e r)

@@ -18,7 +18,8 @@
 --   spliced    a list with the regions from a place up to another replaced ("Eight files": "`splice` a shift within them")
 --   Found, best   the place of the region of which the fewest bytes suffice ("smallest region that is long enough, lowest on a tie"; "The least
 --              interior that suffices serves, lowest on a tie")
---   better     the region at a place against the best of those above it
+--   oneAt      what the region at a place finds by itself: nothing where it does not suffice
+--   lower      the better of what is found at a lower place and what is found above it ("lowest on a tie")
 use Prim.Native.Nat.{ℕ, suc, _+_, _-_, _≤_, _<_, min, max}
 use mathlib.Core.Bool.{Bool, true, false, cond, _&&_, _||_}
 use mathlib.Core.List.{List, [], _∷_, _++_}
@@ -101,12 +102,16 @@ pub data Found : Type 0 where
   none : Found
   at : ℕ → ℕ → Found
 
--- the region at i, of which span bytes can serve, against the best of those above it
-abbrev pub better : ℕ → ℕ → ℕ → Found → Found
-better len i span none = cond (leb len span) (at i span) none
-better len i span (at j s) = cond (leb len span && leb span s) (at i span) (at j s)
+-- the region at i, of which span bytes can serve
+abbrev pub oneAt : ℕ → ℕ → ℕ → Found
+oneAt len i span = cond (leb len span) (at i span) none
+
+abbrev pub lower : Found → Found → Found
+lower none g = g
+lower (at i s) none = at i s
+lower (at i s) (at j t) = cond (leb s t) (at i s) (at j t)
 
 -- span gives the bytes of a region that can serve; i is the place of the first
 abbrev pub best : (FreeRegion → ℕ) → ℕ → ℕ → List FreeRegion → Found
 best span len i [] = none
-best span len i (r ∷ rs) = better len i (span r) (best span len (suc i) rs)
+best span len i (r ∷ rs) = lower (oneAt len i (span r)) (best span len (suc i) rs)

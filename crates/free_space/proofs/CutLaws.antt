@@ -18,7 +18,7 @@ use Rattle.free_space.specs.Runs.{regionAt, regions, isList}
 use Rattle.free_space.specs.Splices.{Apart}
 use Rattle.free_space.proofs.ListLaws.{listed, region-fits}
 use Rattle.free_space.proofs.PlaceLaws.{rest-within, next-above, later, all-before}
-use Rattle.free_space.proofs.SpliceLaws.{piece-none, piece-some}
+use Rattle.free_regions.proofs.CutSets.{piece-none, piece-some}
 
 module _ (a e : ℕ) (h : a ≤ e) where
   -- ---- one region

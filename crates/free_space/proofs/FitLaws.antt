@@ -9,16 +9,17 @@ use native.Mathlib.Omega.{arith}
 use borrow.Author.Tests.{le-leb, lt-leb, lt-ltb, le-ltb, leb-true, leb-false}
 use lib.ListN.{length, getD, drop}
 use lib.Dec.{leb, ltb}
-use Rattle.error.proofs.TestLaws.{le-or-lt, and-true}
+use Rattle.error.proofs.TestLaws.{le-or-lt}
 use Rattle.free_regions.specs.declared.FreeRegion.{FreeRegion}
-use Rattle.free_regions.specs.Regions.{region, Found, none, at, better, best}
+use Rattle.free_regions.specs.Regions.{region, Found, none, at, oneAt, lower, best}
+use Rattle.free_regions.proofs.BestLaws.{nth, best-at}
 use Rattle.pairs.proofs.PairLaws.{length-decode, decode-at, decode-drop, decode-end}
 use Rattle.free_space.specs.declared.list.FreeList.{FreeList}
 use Rattle.free_space.specs.declared.fit.Search.{Search}
 use Rattle.free_space.specs.declared.fit.Search.the-variants.{Nothing, At}
 use Rattle.free_space.specs.declared.fit.Best.{Best}
 use Rattle.free_space.specs.Runs.{regionAt, decode, regions, isList}
-use Rattle.free_space.specs.Searches.{oneAt, lower, soFar, answered, Finds}
+use Rattle.free_space.specs.Searches.{soFar, answered, Finds}
 use Rattle.free_space.proofs.ListLaws.{listed}
 
 -- ---- what is found lower, and above it
@@ -26,14 +27,6 @@ use Rattle.free_space.proofs.ListLaws.{listed}
 pub lower-none : (f : Found) → lower f none ≡ f
 lower-none none = refl
 lower-none (at i s) = refl
-
-better-lower : (len i span : ℕ) (g : Found) → better len i span g ≡ lower (oneAt len i span) g
-better-lower len i span none = sym (lower-none (oneAt len i span))
-better-lower len i span (at j s) = go (leb len span)
-  where
-    go : (t : Bool) → cond (t && leb span s) (at i span) (at j s) ≡ lower (cond t (at i span) none) (at j s)
-    go true = refl
-    go false = refl
 
 lower-assoc : (f g h : Found) → lower (lower f g) h ≡ lower f (lower g h)
 lower-assoc none g h = refl
@@ -67,7 +60,6 @@ best-turn : (span : FreeRegion → ℕ) (len i n : ℕ) (xs : List ℕ) → i < 
     → best span len i (drop i (decode n xs)) ≡ lower (oneAt len i (span (regionAt xs i))) (best span len (i + 1) (drop (i + 1) (decode n xs)))
 best-turn span len i n xs l room =
     ap (best span len i) (decode-drop region n i xs l room)
-    ∙ better-lower len i (span (regionAt xs i)) (best span len (suc i) (drop (i + 1) (decode n xs)))
     ∙ ap (λ (j : ℕ). lower (oneAt len i (span (regionAt xs i))) (best span len j (drop (i + 1) (decode n xs)))) (sym (add-one i))
 
 -- b is kept before the region r at i, and b′ after it
@@ -132,46 +124,7 @@ found-at len b h = rw (lt-ltb (b .slack) (2 ^ 64 - len) h)
 pub found-none : (len : ℕ) (b : Best) → 2 ^ 64 - len ≤ b .slack → Nothing ≡ answered len b
 found-none len b h = rw (le-ltb (b .slack) (2 ^ 64 - len) h)
 
--- ---- what is found suffices, and is the span of the region at that place
-
-record Sufficient (span : FreeRegion → ℕ) (len i j s : ℕ) (rs : List FreeRegion) (d : FreeRegion) : Type 0 where
-  rel : ℕ
-  place : j ≡ i + rel
-  below : rel < length rs
-  spans : s ≡ span (getD rs rel d)
-  suffices : len ≤ s
-
-never : (j s : ℕ) → none ≡ at j s → ⊥
-never j s e = let z : _≡_ {A = ℕ} 0 1 = cc in omega arith
-
-module _ (span : FreeRegion → ℕ) (len j s : ℕ) (d : FreeRegion) where
-  here : (i : ℕ) (r : FreeRegion) (rs : List FreeRegion) → len ≤ span r → at i (span r) ≡ at j s → Sufficient span len i j s (r ∷ rs) d
-  here i r rs h e =
-      let p : i ≡ j = cc in
-      let q : s ≡ span r = cc in
-      record { rel = 0; place = omega arith; below = omega arith; spans = q; suffices = omega arith }
-
-  there : (i : ℕ) (r : FreeRegion) (rs : List FreeRegion) → Sufficient span len (suc i) j s rs d → Sufficient span len i j s (r ∷ rs) d
-  there i r rs t = record { rel = suc (t .rel); place = omega (arith, t .place); below = omega (arith, t .below); spans = t .spans; suffices = t .suffices }
-
-  alone : (i : ℕ) (r : FreeRegion) (rs : List FreeRegion) (b : Bool) → leb len (span r) ≡ b
-      → cond b (at i (span r)) none ≡ at j s → Sufficient span len i j s (r ∷ rs) d
-  alone i r rs true t e = here i r rs (leb-true len (span r) t) e
-  alone i r rs false t e = absurd (never j s e)
-
-  against : (i : ℕ) (r : FreeRegion) (rs : List FreeRegion) (j′ s′ : ℕ) → (at j′ s′ ≡ at j s → Sufficient span len (suc i) j s rs d)
-      → (b : Bool) → (leb len (span r) && leb (span r) s′) ≡ b → cond b (at i (span r)) (at j′ s′) ≡ at j s → Sufficient span len i j s (r ∷ rs) d
-  against i r rs j′ s′ ih true t e = here i r rs (leb-true len (span r) (and-true (leb len (span r)) (leb (span r) s′) t .0)) e
-  against i r rs j′ s′ ih false t e = there i r rs (ih e)
-
-  step : (i : ℕ) (r : FreeRegion) (rs : List FreeRegion) (f : Found) → (f ≡ at j s → Sufficient span len (suc i) j s rs d)
-      → better len i (span r) f ≡ at j s → Sufficient span len i j s (r ∷ rs) d
-  step i r rs none ih e = alone i r rs (leb len (span r)) refl e
-  step i r rs (at j′ s′) ih e = against i r rs j′ s′ ih (leb len (span r) && leb (span r) s′) refl e
-
-  best-at : (i : ℕ) (rs : List FreeRegion) → best span len i rs ≡ at j s → Sufficient span len i j s rs d
-  best-at i [] e = absurd (never j s e)
-  best-at i (r ∷ rs) e = step i r rs (best span len (suc i) rs) (best-at (suc i) rs) e
+-- ---- what is found suffices
 
 -- the answer, where the pass came to the end of a list
 pub finds : (measure : FreeRegion → ℕ) (xs : List ℕ) (l : FreeList) (len : ℕ) (b : Best) (s : Search) → isList xs l ≡ true
@@ -184,13 +137,11 @@ finds measure xs l len b s ok e is = ⊎-elim none-left served (le-or-lt (2 ^ 64
     served : b .slack < 2 ^ 64 - len → Finds measure xs l len s
     served h =
         let n = l .count in
-        let d = region 0 0 in
         let i = b .index in
         let room = listed xs l ok .room in
         let found = e ∙ so-far-at len b h in
-        let t = best-at measure len i (b .slack + len) d 0 (decode n xs) found in
-        let below : i < n = omega (arith, t .place, t .below, length-decode region n xs room) in
-        let q : t .rel ≡ i = omega (arith, t .place) in
-        let g : getD (decode n xs) (t .rel) d ≡ regionAt xs i = ap (λ (k : ℕ). getD (decode n xs) k d) q ∙ decode-at region n i xs d below room in
+        let t = best-at measure len (decode n xs) i (b .slack + len) found in
+        let below : i < n = omega (arith, t .there, length-decode region n xs room) in
+        let g : nth (decode n xs) i ≡ regionAt xs i = decode-at region n i xs (region 0 0) below room in
         subst⁻¹ (Finds measure xs l len) (is ∙ sym (found-at len b h))
-        (record { list = ok; room = room; below = below; suffices = omega (arith, t .suffices, t .spans, ap measure g); span = b .slack + len; is = found })
+        (record { list = ok; room = room; below = below; suffices = omega (arith, t .suffices, ap measure g); span = b .slack + len; is = found })

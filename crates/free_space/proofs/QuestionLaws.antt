@@ -18,7 +18,7 @@ use Rattle.free_regions.specs.declared.FreeRegion.{FreeRegion}
 use Rattle.free_regions.specs.Regions.{end, fitsFrom, okFrom, region}
 use Rattle.pairs.proofs.PairLaws.{decode-drop, decode-end}
 use Rattle.free_space.specs.declared.list.FreeList.{FreeList}
-use Rattle.free_space.specs.declared.questions.Measure.{Measure}
+use Rattle.free_space.specs.declared.units.Measure.{Measure}
 use Rattle.free_space.specs.Runs.{regionAt, decode, regions, isList}
 use Rattle.free_space.specs.Questions.{greatest}
 use Rattle.free_space.specs.Passes.{measureOf, greatestOf}

@@ -16,23 +16,18 @@ use Rattle.free_regions.specs.declared.FreeRegion.{FreeRegion}
 use Rattle.free_regions.specs.Regions.{region, piece, spliced}
 use Rattle.pairs.proofs.PairLaws.{length-decode, length-flat, flat-decode, length-spliced}
 use Rattle.pairs.specs.Pairs.{capacity}
+use Rattle.free_regions.proofs.CutSets.{piece-none, piece-some}
 use Rattle.free_space.specs.declared.list.FreeList.{FreeList}
 use Rattle.free_space.specs.declared.run.Patch.{Patch}
 use Rattle.free_space.specs.declared.decide.Decision.the-variants.{Refused, Nothing, Change}
 use Rattle.free_space.specs.Runs.{recordOf, decode, flat, regions, isList, stored}
-use Rattle.free_space.specs.Calls.{placed, giving, keeping}
+use Rattle.free_space.specs.Calls.{leave, placed, giving, keeping}
 use Rattle.free_space.specs.Splices.{patch}
-use Rattle.free_space.specs.Decisions.{fitted, leave, givenBy, keptBy}
+use Rattle.free_space.specs.Decisions.{fitted, givenBy, keptBy}
 use Rattle.free_space.proofs.ListLaws.{listed}
 use Rattle.free_space.proofs.DecodeLaws.{region-form}
 
 -- ---- what is left of a region on either side of a range
-
-pub piece-none : (a len : ℕ) → len ≡ 0 → piece a len ≡ []
-piece-none a len e = rw (eq-eqb len 0 e)
-
-pub piece-some : (a len : ℕ) → (len ≡ 0 → ⊥) → piece a len ≡ region a len ∷ []
-piece-some a len h = rw (ne-eqb len 0 h)
 
 -- f and b are the lengths x and y of the pieces, as the code has them
 module _ (a x e y f b : ℕ) (p : f ≡ x) (q : b ≡ y) where

@@ -7,7 +7,8 @@
 --   overflows     refusal 4: "address plus length"
 --   partUnit      refusal 6: "a length that is no multiple of its nonzero unit"
 --   noRoom        refusal 14: "the result has more regions"
---   placed        the outcome of a call that leaves these regions; refusal 14 only where they do not fit ("a 14 while unused pairs suffice" is wrong)
+--   leave         the outcome of a call that leaves these regions
+--   placed        the same with its refusal 14, which is given only where they do not fit ("a 14 while unused pairs suffice" is wrong)
 --   keeping, giving   the record alone; the record with an address given out
 --   freedRegions, leftRegions   the regions after `free`; after `take_range`
 --   taken         the regions after an allocation from the region at a place
@@ -68,8 +69,11 @@ partUnit len unit = not (eqb unit 0) && not (eqb (len % unit) 0)
 abbrev pub noRoom : List ℕ → List FreeRegion → Condition
 noRoom xs rs = when (ltb (capacity xs) (length rs)) (OverCapacity (length rs) (capacity xs))
 
+abbrev pub leave : {A : Type 0} → (FreeList → A) → List ℕ → FreeList → List FreeRegion → Outcome (With A (List ℕ))
+leave give xs l rs = answer (with (give (recordOf rs)) (stored xs (l .count) rs))
+
 abbrev pub placed : {A : Type 0} → (FreeList → A) → List ℕ → FreeList → List FreeRegion → Outcome (With A (List ℕ))
-placed give xs l rs = firstOf (noRoom xs rs ∷ []) (answer (with (give (recordOf rs)) (stored xs (l .count) rs)))
+placed give xs l rs = firstOf (noRoom xs rs ∷ []) (leave give xs l rs)
 
 abbrev pub keeping : FreeList → FreeList
 keeping l = l

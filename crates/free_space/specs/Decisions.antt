@@ -2,7 +2,6 @@
 -- contracts of private functions. Assumes nothing.
 --   fitted     a change, where the run has room for the regions that it leaves; else refusal 14
 --   ifList     a decision, or refusal 3 where the test for it fails
---   leave      the outcome of a call that leaves these regions
 --   givenBy    the outcome of a decision, for a call that gives an address out
 --   keptBy     the same for one that gives nothing out
 --   Apt        a decision that can be carried out
@@ -23,8 +22,8 @@ use Rattle.free_space.specs.declared.list.FreeList.{FreeList}
 use Rattle.free_space.specs.declared.run.Patch.{Patch}
 use Rattle.free_space.specs.declared.decide.Decision.{Decision}
 use Rattle.free_space.specs.declared.decide.Decision.the-variants.{Refused, Nothing, Change}
-use Rattle.free_space.specs.Runs.{recordOf, regions, stored}
-use Rattle.free_space.specs.Calls.{Gave, giving, keeping}
+use Rattle.free_space.specs.Runs.{regions}
+use Rattle.free_space.specs.Calls.{Gave, giving, keeping, leave}
 use Rattle.free_space.specs.Splices.{patch}
 
 abbrev pub fitted : ℕ → ℕ → ℕ → ℕ → ℕ → Patch → Decision
@@ -34,10 +33,6 @@ fitted given n a lo hi p =
 
 abbrev pub ifList : Bool → Decision → Decision
 ifList isList d = cond isList d (Refused NotAList)
-
--- these regions are left
-abbrev pub leave : {A : Type 0} → (FreeList → A) → List ℕ → FreeList → List FreeRegion → Outcome (With A (List ℕ))
-leave give xs l rs = answer (with (give (recordOf rs)) (stored xs (l .count) rs))
 
 abbrev pub givenBy : List ℕ → FreeList → Decision → Outcome (With Gave (List ℕ))
 givenBy xs l (Refused r) = refused r

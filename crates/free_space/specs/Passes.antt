@@ -7,8 +7,8 @@ use Rattle.error.specs.Outcome.{Outcome, answer, firstOf}
 use Rattle.free_regions.specs.declared.FreeRegion.{FreeRegion}
 use Rattle.free_regions.specs.Units.{interiorSpan}
 use Rattle.free_space.specs.declared.list.FreeList.{FreeList}
-use Rattle.free_space.specs.declared.questions.Measure.{Measure}
-use Rattle.free_space.specs.declared.questions.Measure.the-variants.{Length, Units}
+use Rattle.free_space.specs.declared.units.Measure.{Measure}
+use Rattle.free_space.specs.declared.units.Measure.the-variants.{Length, Units}
 use Rattle.free_space.specs.Runs.{regions}
 use Rattle.free_space.specs.Calls.{notList}
 use Rattle.free_space.specs.Questions.{greatest}

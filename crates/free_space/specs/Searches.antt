@@ -1,7 +1,5 @@
 -- What a pass for the best fit finds on its way, and what its answer says. No public contract cites this file; it serves the contracts of
 -- private functions. Assumes nothing.
---   oneAt      what a region at a place finds by itself
---   lower      the better of what was found lower and what was found above it, the lower on a tie
 --   soFar      what was found so far, as the pass keeps it: a place and the bytes left over
 --   answered   the answer from what is kept at the end
 --   Serves     a place of a list at which the best fit lies
@@ -10,7 +8,7 @@ use Prim.Native.Nat.{ℕ, _+_, _-_, _*_, _^_, _≤_, _<_}
 use mathlib.Core.Path.{_≡_}
 use mathlib.Core.Bool.{true, false, cond}
 use mathlib.Core.List.{List}
-use lib.Dec.{leb, ltb}
+use lib.Dec.{ltb}
 use lib.ListN.{length}
 use Rattle.free_regions.specs.declared.FreeRegion.{FreeRegion}
 use Rattle.free_regions.specs.Regions.{Found, none, at, best}
@@ -19,14 +17,6 @@ use Rattle.free_space.specs.declared.fit.Search.{Search}
 use Rattle.free_space.specs.declared.fit.Search.the-variants.{Bad, Nothing, At}
 use Rattle.free_space.specs.declared.fit.Best.{Best}
 use Rattle.free_space.specs.Runs.{regionAt, regions, isList}
-
-abbrev pub oneAt : ℕ → ℕ → ℕ → Found
-oneAt len i span = cond (leb len span) (at i span) none
-
-abbrev pub lower : Found → Found → Found
-lower none g = g
-lower (at i s) none = at i s
-lower (at i s) (at j t) = cond (leb s t) (at i s) (at j t)
 
 abbrev pub soFar : ℕ → Best → Found
 soFar len b = cond (ltb (b .slack) (2 ^ 64 - len)) (at (b .index) (b .slack + len)) none

@@ -21,7 +21,7 @@ use crate::meet::meeting;
 use crate::run::Patch;
 use crate::run::patch_len;
 use crate::run::region_at;
-use crate::units::best_units;
+use crate::units::Measure;
 use crate::units::whole_units;
 use error::Refusal;
 use free_regions::FreeRegion;
@@ -144,7 +144,7 @@ pub(crate) fn decide_alloc(run: &[u64], list: FreeList, len: u64) -> Decision
     if len == 0 {
         return if_list(run, list, Decision::Nothing);
     }
-    let s = best_fit(run, list, len);
+    let s = best_fit(run, list, len, Measure::Length);
     match s {
         Search::Bad => Decision::Refused(Refusal::NotAList),
         Search::Nothing => Decision::Nothing,
@@ -175,7 +175,7 @@ pub(crate) fn decide_whole_units(run: &[u64], list: FreeList, len: u64, unit: u6
     if len == 0 {
         return if_list(run, list, Decision::Nothing);
     }
-    let s = best_units(run, list, len, unit);
+    let s = best_fit(run, list, len, Measure::Units(unit));
     match s {
         Search::Bad => Decision::Refused(Refusal::NotAList),
         Search::Nothing => Decision::Nothing,

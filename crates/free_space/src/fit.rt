@@ -1,13 +1,17 @@
 // The passes for the best fit, which test for refusal 3 as they go.
 ghost use mathlib.Core.Path.{_≡_};
 ghost use Prim.Native.Nat.{_-_, _^_, _<_, _≤_};
+ghost use Rattle.free_regions.specs.Regions.{oneAt, lower};
+ghost use Rattle.free_space.specs.Passes.{measureOf};
 ghost use Rattle.free_space.specs.Splices.{Stands};
-ghost use Rattle.free_space.specs.Searches.{oneAt, lower, soFar, answered, Finds};
+ghost use Rattle.free_space.specs.Searches.{soFar, answered, Finds};
 use crate::check::Head;
 use crate::check::first_region;
 use crate::check::follows;
 use crate::list::FreeList;
 use crate::run::region_at;
+use crate::units::Measure;
+use crate::units::measured;
 use free_regions::FreeRegion;
 
 // How a pass ends: no list, no region that suffices, or the place of the one that serves.
@@ -24,7 +28,7 @@ pub(crate) struct Best {
     pub(crate) slack: u64,
 }
 
-pub(crate) fn none_yet(len: u64) -> Best
+fn none_yet(len: u64) -> Best
     requires { ⌜ 0 < len ⌝ }
     ensures { λ r. ⌜ 2 ^ 64 - len ≤ r .slack ⌝ }
 {
@@ -35,7 +39,7 @@ pub(crate) fn none_yet(len: u64) -> Best
 }
 
 // The better of `b` and the region at `i`, above it, of which `span` bytes can serve.
-pub(crate) fn better_of(b: Best, i: usize, span: u64, len: u64) -> Best
+fn better_of(b: Best, i: usize, span: u64, len: u64) -> Best
     requires { ⌜ 0 < len ⌝ }
     ensures { λ r. ⌜ soFar len r ≡ lower (soFar len b) (oneAt len i span) ⌝ }
 {
@@ -49,7 +53,7 @@ pub(crate) fn better_of(b: Best, i: usize, span: u64, len: u64) -> Best
     b
 }
 
-pub(crate) fn found(b: Best, len: u64) -> Search
+fn found(b: Best, len: u64) -> Search
     requires { ⌜ 0 < len ⌝ }
     ensures { λ s. ⌜ s ≡ answered len b ⌝ }
 {
@@ -60,12 +64,12 @@ pub(crate) fn found(b: Best, len: u64) -> Search
     }
 }
 
-fn best_after(run: &[u64], list: FreeList, first: FreeRegion, len: u64) -> Search
+fn best_after(run: &[u64], list: FreeList, first: FreeRegion, len: u64, what: Measure) -> Search
     requires { ⌜ Stands (now run) list 0 first × (0 < len) ⌝ }
-    ensures { λ s. ⌜ Finds (λ r. r .len) (now (run .entry)) list len s ⌝ }
+    ensures { λ s. ⌜ Finds (measureOf what) (now (run .entry)) list len s ⌝ }
 {
     let count = list.count;
-    let mut b = better_of(none_yet(len), 0, first.len, len);
+    let mut b = better_of(none_yet(len), 0, measured(what, first), len);
     let mut prev = first.addr + first.len;
     let mut i = 1;
     while i < count {
@@ -73,22 +77,22 @@ fn best_after(run: &[u64], list: FreeList, first: FreeRegion, len: u64) -> Searc
         if !follows(prev, r) {
             return Search::Bad;
         }
-        b = better_of(b, i, r.len, len);
+        b = better_of(b, i, measured(what, r), len);
         prev = r.addr + r.len;
         i += 1;
     }
     found(b, len)
 }
 
-// The smallest region that is long enough, the lowest on a tie.
-pub(crate) fn best_fit(run: &[u64], list: FreeList, len: u64) -> Search
+// The region with the least measure that suffices, the lowest on a tie.
+pub(crate) fn best_fit(run: &[u64], list: FreeList, len: u64, what: Measure) -> Search
     requires { ⌜ 0 < len ⌝ }
-    ensures { λ s. ⌜ Finds (λ r. r .len) (now (run .entry)) list len s ⌝ }
+    ensures { λ s. ⌜ Finds (measureOf what) (now (run .entry)) list len s ⌝ }
 {
     let h = first_region(run, list);
     match h {
         Head::Bad => Search::Bad,
         Head::Empty => Search::Nothing,
-        Head::First(r) => best_after(run, list, r, len),
+        Head::First(r) => best_after(run, list, r, len, what),
     }
 }

@@ -1,40 +1,17 @@
 // What is asked of a list without changing it.
 ghost use mathlib.Core.Path.{_≡_};
-ghost use Prim.Native.Nat.{_≤_};
 ghost use Rattle.error.specs.Answers.{numberOutcome};
-ghost use Rattle.fields.specs.Ranges.{top};
-ghost use Rattle.free_regions.specs.Regions.{end};
 ghost use Rattle.free_space.specs.Questions.{largestOf, largestUnitsOf};
-ghost use Rattle.free_space.specs.Passes.{measureOf, greatestOf};
+ghost use Rattle.free_space.specs.Passes.{greatestOf};
 use crate::check::follows;
 use crate::check::stands;
 use crate::list::FreeList;
 use crate::run::region_at;
-use crate::units::whole_units;
+use crate::units::Measure;
+use crate::units::measured;
 use error::Number;
 use error::Refusal;
-use free_regions::FreeRegion;
 use pairs::is_run;
-
-// What counts of a region: its length, or the length of its aligned interior.
-enum Measure {
-    Length,
-    Units(u64),
-}
-
-// The measure of a region that ends within 64 bits.
-fn measured(what: Measure, r: FreeRegion) -> u64
-    requires { ⌜ end r ≤ top ⌝ }
-    ensures { λ m. ⌜ m ≡ measureOf what r ⌝ }
-{
-    match what {
-        Measure::Length => r.len,
-        Measure::Units(unit) => {
-            let w = whole_units(r, unit);
-            w.span
-        }
-    }
-}
 
 // The greatest measure of the regions of a list. The test for refusal 3 goes with it, so that each pair is read once.
 fn greatest_of(run: &[u64], list: FreeList, what: Measure) -> Number

@@ -1,20 +1,10 @@
-// The whole units inside a region that ends within 64 bits, and the pass for the least of them that suffice.
+// The whole units inside a region that ends within 64 bits, and what counts of a region.
 ghost use mathlib.Core.Path.{_≡_};
 ghost use Prim.Native.Nat.{_≤_, _<_};
 ghost use Rattle.fields.specs.Ranges.{top};
 ghost use Rattle.free_regions.specs.Regions.{end};
 ghost use Rattle.free_regions.specs.Units.{interiorStart, interiorSpan};
-ghost use Rattle.free_space.specs.Splices.{Stands};
-ghost use Rattle.free_space.specs.Searches.{Finds};
-use crate::check::Head;
-use crate::check::first_region;
-use crate::check::follows;
-use crate::fit::Search;
-use crate::fit::better_of;
-use crate::fit::found;
-use crate::fit::none_yet;
-use crate::list::FreeList;
-use crate::run::region_at;
+ghost use Rattle.free_space.specs.Passes.{measureOf};
 use free_regions::FreeRegion;
 use free_regions::Interior;
 
@@ -39,37 +29,22 @@ pub(crate) fn whole_units(r: FreeRegion, unit: u64) -> WholeUnits
     }
 }
 
-fn units_after(run: &[u64], list: FreeList, first: FreeRegion, len: u64, unit: u64) -> Search
-    requires { ⌜ Stands (now run) list 0 first × (0 < len) ⌝ }
-    ensures { λ s. ⌜ Finds (interiorSpan unit) (now (run .entry)) list len s ⌝ }
-{
-    let count = list.count;
-    let w = whole_units(first, unit);
-    let mut b = better_of(none_yet(len), 0, w.span, len);
-    let mut prev = first.addr + first.len;
-    let mut i = 1;
-    while i < count {
-        let r = region_at(run, i);
-        if !follows(prev, r) {
-            return Search::Bad;
-        }
-        let w = whole_units(r, unit);
-        b = better_of(b, i, w.span, len);
-        prev = r.addr + r.len;
-        i += 1;
-    }
-    found(b, len)
+// What counts of a region: its length, or the length of its aligned interior.
+pub(crate) enum Measure {
+    Length,
+    Units(u64),
 }
 
-// The region with the least whole units that suffice, the lowest on a tie.
-pub(crate) fn best_units(run: &[u64], list: FreeList, len: u64, unit: u64) -> Search
-    requires { ⌜ 0 < len ⌝ }
-    ensures { λ s. ⌜ Finds (interiorSpan unit) (now (run .entry)) list len s ⌝ }
+// The measure of a region that ends within 64 bits.
+pub(crate) fn measured(what: Measure, r: FreeRegion) -> u64
+    requires { ⌜ end r ≤ top ⌝ }
+    ensures { λ m. ⌜ m ≡ measureOf what r ⌝ }
 {
-    let h = first_region(run, list);
-    match h {
-        Head::Bad => Search::Bad,
-        Head::Empty => Search::Nothing,
-        Head::First(r) => units_after(run, list, r, len, unit),
+    match what {
+        Measure::Length => r.len,
+        Measure::Units(unit) => {
+            let w = whole_units(r, unit);
+            w.span
+        }
     }
 }

@@ -22,8 +22,8 @@ use Rattle.pairs.proofs.PairLaws.{over-flat}
 use Rattle.fsm_sections.specs.declared.FreeSection.{FreeSection}
 use Rattle.fsm_sections.specs.Sections.{flat}
 use Rattle.fsm_blocks.specs.declared.header.FsmHeader.{FsmHeader}
-use Rattle.fsm_blocks.specs.declared.persisted.Named.{Named}
-use Rattle.fsm_blocks.specs.declared.persisted.Named.the-variants.{Nowhere, At, Refused}
+use Rattle.fsm_blocks.specs.declared.manager.Named.{Named}
+use Rattle.fsm_blocks.specs.declared.manager.Named.the-variants.{Nowhere, At, Refused}
 use Rattle.fsm_blocks.specs.Reading.{readManager, readSlots, joined}
 use Rattle.fsm_blocks.specs.Parts.{got, Accepted, counted, sectionsBy}
 use Rattle.fsm_blocks.specs.Named.{namedOutcome, Inside, managerCount, slotsCount}

@@ -4,7 +4,7 @@
 --   startingSet   the settings at an offset size: "shrink 80, expand 120, client 1 and greatest size 2^63−1. Address bits are 8O−1";
 --                 "allocated equals used", so surplus 0
 --   widthsFor     the widths that the settings give to a number of sections
---   headerFor     the header of sections whose list stands at an address: "three classes"; "Serialized equals total, ghost is 0"
+--   headerOf, headerFor   the header of sections whose list stands at an address: "three classes"; "Serialized equals total, ghost is 0"
 --   fsseFor       the section list whose header stands at an address
 --   fsseUsed      its length
 use Prim.Native.Nat.{ℕ, _+_, _-_, _*_, _^_}
@@ -26,6 +26,25 @@ pub record Settings : Type 0 where
 abbrev pub startingSet : ℕ → Settings
 startingSet O = record { bits = 8 * O - 1; greatest = 2 ^ 63 - 1; shrink = 80; expand = 120; surplus = 0 }
 
+-- by the sum of their sizes, their number, and their list's address and length
+abbrev pub headerOf : Settings → ℕ → ℕ → ℕ → ℕ → Header
+headerOf set space n fsse used = record {
+  version = 0;
+  client = 1;
+  space = space;
+  total = n;
+  serialized = n;
+  ghost = 0;
+  classes = 3;
+  shrink = set .shrink;
+  expand = set .expand;
+  bits = set .bits;
+  greatest = set .greatest;
+  fsse = fsse;
+  used = used;
+  allocated = used + set .surplus;
+}
+
 module _ (O : ℕ) (set : Settings) where
   abbrev pub widthsFor : ℕ → Widths
   widthsFor n = widthsOf n (set .greatest) (set .bits)
@@ -34,22 +53,7 @@ module _ (O : ℕ) (set : Settings) where
   fsseUsed l = fsseSize (widthsFor (length l)) O l
 
   abbrev pub headerFor : ℕ → List FreeSection → Header
-  headerFor fsse l = record {
-    version = 0;
-    client = 1;
-    space = space l;
-    total = length l;
-    serialized = length l;
-    ghost = 0;
-    classes = 3;
-    shrink = set .shrink;
-    expand = set .expand;
-    bits = set .bits;
-    greatest = set .greatest;
-    fsse = fsse;
-    used = fsseUsed l;
-    allocated = fsseUsed l + set .surplus;
-  }
+  headerFor fsse l = headerOf set (space l) (length l) fsse (fsseUsed l)
 
   abbrev pub fsseFor : (List ℕ → ℕ) → ℕ → ℕ → List FreeSection → List ℕ
   fsseFor sum fshd class l = fsseBytes sum (widthsFor (length l)) O fshd class l

@@ -19,8 +19,8 @@ use Rattle.fsm_sections.specs.declared.FreeSection.{FreeSection}
 use Rattle.fsm_blocks.specs.declared.header.FsmHeader.{FsmHeader}
 use Rattle.fsm_blocks.specs.declared.header.HeaderAnswer.{HeaderAnswer}
 use Rattle.fsm_blocks.specs.declared.header.HeaderAnswer.the-variants as header
-use Rattle.fsm_blocks.specs.declared.persisted.Named.{Named}
-use Rattle.fsm_blocks.specs.declared.persisted.Named.the-variants.{Nowhere, At, Refused}
+use Rattle.fsm_blocks.specs.declared.manager.Named.{Named}
+use Rattle.fsm_blocks.specs.declared.manager.Named.the-variants.{Nowhere, At, Refused}
 use Rattle.fsm_blocks.specs.Fshd.{Header}
 use Rattle.fsm_blocks.specs.Reading.{readManager, readSlots, joined}
 use Rattle.fsm_blocks.specs.Parts.{counted, sectionsBy}

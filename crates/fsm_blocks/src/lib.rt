@@ -2,4 +2,5 @@
 pub mod fsse;
 mod groups;
 pub mod header;
+pub mod manager;
 pub mod persisted;

@@ -1,110 +1,25 @@
 // The sections of all managers that a file names.
 ghost use mathlib.Core.Path.{_≡_};
 ghost use mathlib.Core.Bool.{false, not};
-ghost use Prim.Native.Nat.{ℕ, _+_, _*_, _≤_};
+ghost use Prim.Native.Nat.{_*_, _≤_};
 ghost use lib.ListN.{length};
 ghost use Rattle.error.specs.Answers.{numberOutcome};
 ghost use Rattle.error.specs.Lent.{left, leaving, over};
 ghost use Rattle.fields.specs.Width.{validWidth};
 ghost use Rattle.fsm_sections.specs.Sections.{flat};
 ghost use Rattle.fsm_blocks.specs.Answers.{sectionsOutcome};
-ghost use Rattle.fsm_blocks.specs.Reading.{readNamed, readManager, readSlots, joined, persisted};
+ghost use Rattle.fsm_blocks.specs.Reading.{readSlots, joined, persisted};
 ghost use Rattle.fsm_blocks.specs.Parts.{got, Accepted};
-ghost use Rattle.fsm_blocks.specs.Named.{full, namedOutcome, Inside, refusalIn, managerCount, slotsCount};
+ghost use Rattle.fsm_blocks.specs.Named.{slotsCount};
 use crate::fsse::SectionsAnswer;
 use crate::fsse::answer_of;
-use crate::fsse::fsse_count;
-use crate::fsse::put_fsse;
-use crate::header::FsmHeader;
-use crate::header::HeaderAnswer;
+use crate::manager::manager_count;
+use crate::manager::put_manager;
 use error::Number;
 use error::Refusal;
 use fields::address::BaseAddress;
 use fields::number::sum_of;
 use fields::width::is_width;
-
-// Where a manager's section list stands, with the header that names it.
-pub(crate) enum Named {
-    Nowhere,
-    At { start: u64, header: FsmHeader },
-    Refused(Refusal),
-}
-
-fn refusal_in(answer: HeaderAnswer) -> Refusal
-    ensures { λ r. ⌜ r ≡ refusalIn answer ⌝ }
-{
-    match answer {
-        HeaderAnswer::Header(_) => Refusal::InvalidManager,
-        HeaderAnswer::Refused(r) => r,
-    }
-}
-
-// The section list that a header names.
-fn list_of(bytes: &[u8], header: FsmHeader, base: BaseAddress) -> Named
-    ensures named { λ r. ⌜ ((O : ℕ) → namedOutcome O (now (bytes .entry)) r ≡ readNamed O (base .0) (full header) (now (bytes .entry))) ⌝ }
-    ensures inside { λ r. ⌜ Inside (length (now (bytes .entry))) r ⌝ }
-{
-    let fsse = header.fsse_addr;
-    if fsse == 0xffff_ffff_ffff_ffff {
-        return Named::Nowhere;
-    }
-    let Number::Is(start) = base.absolute(fsse) else {
-        return Named::Refused(Refusal::InvalidManager);
-    };
-    let len = bytes.len() as u64;
-    if len < start {
-        return Named::Refused(Refusal::InvalidManager);
-    }
-    if len - start < header.fsse_used {
-        return Named::Refused(Refusal::InvalidManager);
-    }
-    Named::At {
-        start: start,
-        header: header,
-    }
-}
-
-// The section list of the manager whose header a slot names. The base is added to both addresses.
-fn locate(bytes: &[u8], slot: u64, base: BaseAddress, offset_size: u8) -> Named
-    requires { ⌜ not (validWidth «offset_size») ≡ false ⌝ }
-    ensures named { λ r. ⌜ namedOutcome «offset_size» (now (bytes .entry)) r ≡ readManager «offset_size» (base .0) slot (now (bytes .entry)) ⌝ }
-    ensures inside { λ r. ⌜ Inside (length (now (bytes .entry))) r ⌝ }
-{
-    if slot == 0xffff_ffff_ffff_ffff {
-        return Named::Nowhere;
-    }
-    let Number::Is(start) = base.absolute(slot) else {
-        return Named::Refused(Refusal::InvalidManager);
-    };
-    if (bytes.len() as u64) < start {
-        return Named::Refused(Refusal::InvalidManager);
-    }
-    let first = start as usize;
-    let answer = FsmHeader::parse(&bytes[first..], offset_size);
-    let HeaderAnswer::Header(header) = answer else {
-        return Named::Refused(refusal_in(answer));
-    };
-    list_of(bytes, header, base)
-}
-
-// How many sections the manager has whose header `slot` names.
-pub fn manager_count(bytes: &[u8], slot: u64, base: BaseAddress, offset_size: u8) -> Number
-    ensures { λ r. ⌜ numberOutcome r ≡ managerCount «offset_size» (base .0) slot (now (bytes .entry)) ⌝ }
-{
-    if !is_width(offset_size) {
-        return Number::Refused(Refusal::Width);
-    }
-    let found = locate(bytes, slot, base, offset_size);
-    match found {
-        Named::Nowhere => Number::Is(0),
-        Named::Refused(r) => Number::Refused(r),
-        Named::At { start, header } => {
-            let first = start as usize;
-            let end = first + header.fsse_used as usize;
-            fsse_count(&bytes[first..end], header, offset_size)
-        }
-    }
-}
 
 // How many sections all managers have, at most 2^64 - 1.
 fn slots_count(bytes: &[u8], slots: &[u64], base: BaseAddress, offset_size: u8) -> Number
@@ -122,34 +37,6 @@ fn slots_count(bytes: &[u8], slots: &[u64], base: BaseAddress, offset_size: u8) 
         i += 1;
     }
     Number::Is(needed)
-}
-
-// Puts the sections of an accepted manager into the run, and gives the place behind them.
-fn put_manager(
-    bytes: &[u8],
-    slot: u64,
-    base: BaseAddress,
-    offset_size: u8,
-    out: &mut [u64],
-    from: usize,
-) -> usize
-    requires width { ⌜ not (validWidth «offset_size») ≡ false ⌝ }
-    requires accepted { ⌜ Accepted (readManager «offset_size» (base .0) slot (now bytes)) ⌝ }
-    requires room { ⌜ from + 2 * length (got (readManager «offset_size» (base .0) slot (now bytes))) ≤ length (now out) ⌝ }
-    ensures put { λ _. ⌜ now (out .exit) ≡ over from (flat (got (readManager «offset_size» (base .0) slot (now (bytes .entry))))) (now (out .entry)) ⌝ }
-    ensures next { λ r. ⌜ r ≡ from + 2 * length (got (readManager «offset_size» (base .0) slot (now (bytes .entry)))) ⌝ }
-{
-    let found = locate(bytes, slot, base, offset_size);
-    match found {
-        Named::Nowhere => from,
-        Named::Refused(_) => from,
-        Named::At { start, header } => {
-            let first = start as usize;
-            let end = first + header.fsse_used as usize;
-            put_fsse(&bytes[first..end], header, offset_size, out, from);
-            from + 2 * header.total_sections as usize
-        }
-    }
 }
 
 // Puts the sections of accepted managers into the run.

@@ -1,4 +1,3 @@
 pub mod RunLaws
 pub mod PieceLaws
 pub mod SplitLaws
-pub mod DivisorLaws

@@ -11,7 +11,6 @@ ghost use Rattle.error.specs.Outcome.{answer, when, firstOf, sat};
 ghost use Rattle.fsm_sections.specs.Sections.{section, decode, flat};
 ghost use Rattle.fsm_sections.specs.Pages.{pieces, split};
 ghost use Rattle.fsm_sections.specs.Runs.{endsAbove};
-ghost use Rattle.fsm_pages.specs.Divisors.{Exact};
 ghost use Rattle.fsm_pages.specs.Split.{splitCount, splitInto, splitOutcome};
 use error::Number;
 use error::Refusal;
@@ -26,61 +25,12 @@ pub enum Split {
     Refused(Refusal),
 }
 
-// By what an address below 2^31 is multiplied to divide it by a page, and how many bits the product then loses. The multiplier is 0 for a
-// page that is a power of two, which divides by a shift, and for one that has no such multiplier.
-struct Divisor {
-    multiplier: u64,
-    bits: u32,
-}
-
-// No multiplier.
-fn plain_divisor() -> Divisor
-    ensures { λ r. ⌜ r .multiplier ≡ 0 ⌝ }
-{
-    Divisor {
-        multiplier: 0,
-        bits: 0,
-    }
-}
-
-fn divisor_of(page: u64) -> Divisor
-    requires { ⌜ 0 < page ⌝ }
-    ensures { λ r. ⌜ (0 < r .multiplier → Exact page (r .multiplier) (r .bits)) ⌝ }
-{
-    if page & (page - 1) == 0 {
-        return plain_divisor();
-    }
-    let zeros = u64::leading_zeros(page);
-    if zeros < 32 {
-        return plain_divisor();
-    }
-    let bits = 95 - zeros;
-    let power = 1u64 << bits;
-    let multiplier = (power - 1) / page + 1;
-    if power >> 31 < multiplier * page - power {
-        return plain_divisor();
-    }
-    if 8589934592 < multiplier {
-        return plain_divisor();
-    }
-    Divisor {
-        multiplier: multiplier,
-        bits: bits,
-    }
-}
-
 // How many bytes there are from an address up to the next page multiple.
-fn room_in(page: u64, by: Divisor, addr: u64) -> u64
-    requires { ⌜ (0 < page) × (0 < by .multiplier → Exact page (by .multiplier) (by .bits)) ⌝ }
+fn room_in(page: u64, addr: u64) -> u64
+    requires { ⌜ 0 < page ⌝ }
     ensures { λ r. ⌜ r ≡ page - addr % page ⌝ }
 {
-    if by.multiplier == 0 {
-        return page - remainder(addr, page);
-    }
-    if 2147483648 <= addr {
-        return page - addr % page;
-    }
-    page - (addr - ((addr * by.multiplier) >> by.bits) * page)
+    page - remainder(addr, page)
 }
 
 // How many pieces all sections have, at most 2^64 - 1: one of each that is not empty, and those behind the first page multiple.
@@ -89,7 +39,6 @@ fn pieces_in(sections: &[u64], count: usize, page: u64) -> Number
     requires room { ⌜ 2 * count ≤ length (now sections) ⌝ }
     ensures { λ r. ⌜ numberOutcome r ≡ firstOf (when (endsAbove (decode count (now (sections .entry)))) Overflow ∷ []) (answer (sat (length (split page (decode count (now (sections .entry))))))) ⌝ }
 {
-    let by = divisor_of(page);
     let mut some: u64 = 0;
     let mut more: u64 = 0;
     let mut i = 0;
@@ -99,7 +48,7 @@ fn pieces_in(sections: &[u64], count: usize, page: u64) -> Number
         if 18446744073709551615 - size < addr {
             return Number::Refused(Refusal::Overflow);
         }
-        let room = room_in(page, by, addr);
+        let room = room_in(page, addr);
         if room < size {
             more = sum_of(more, 1 + quotient(size - room - 1, page));
         }
@@ -125,15 +74,15 @@ pub fn split_count(sections: &[u64], count: usize, page: u64) -> Number
 }
 
 // Puts the pieces of a section into the run, and gives the place behind them.
-fn put_pieces(page: u64, by: Divisor, addr: u64, size: u64, out: &mut [u64], from: usize) -> usize
-    requires fits { ⌜ (0 < page) × (0 < by .multiplier → Exact page (by .multiplier) (by .bits)) × (addr + size < 2 ^ 64) ⌝ }
+fn put_pieces(page: u64, addr: u64, size: u64, out: &mut [u64], from: usize) -> usize
+    requires fits { ⌜ (0 < page) × (addr + size < 2 ^ 64) ⌝ }
     requires room { ⌜ from + 2 * length (pieces page (section addr size)) ≤ length (now out) ⌝ }
     ensures put { λ _. ⌜ now (out .exit) ≡ over from (flat (pieces page (section addr size))) (now (out .entry)) ⌝ }
     ensures next { λ r. ⌜ r ≡ from + 2 * length (pieces page (section addr size)) ⌝ }
 {
     let mut a = addr;
     let mut left = size;
-    let mut room = room_in(page, by, addr);
+    let mut room = room_in(page, addr);
     let mut k = from;
     while room < left {
         out[k] = a;
@@ -159,11 +108,10 @@ fn put_split(sections: &[u64], count: usize, page: u64, out: &mut [u64])
     requires room { ⌜ 2 * length (split page (decode count (now sections))) ≤ length (now out) ⌝ }
     ensures { λ _. ⌜ now (out .exit) ≡ over 0 (flat (split page (decode count (now (sections .entry))))) (now (out .entry)) ⌝ }
 {
-    let by = divisor_of(page);
     let mut k = 0;
     let mut i = 0;
     while i < count {
-        k = put_pieces(page, by, sections[2 * i], sections[2 * i + 1], out, k);
+        k = put_pieces(page, sections[2 * i], sections[2 * i + 1], out, k);
         i += 1;
     }
 }

@@ -35,7 +35,7 @@ use Rattle.fsm_sections.proofs.TakeLaws.{space-sorted}
 use Rattle.fsm_blocks.specs.Fshd.{Header, fshdRow, fshdBytes, fshdSize}
 use Rattle.fsm_blocks.specs.Groups.{Widths}
 use Rattle.fsm_blocks.specs.Fsse.{fsseBytes, fsseSize}
-use Rattle.fsm_blocks.specs.Managers.{startingSet, headerFor, fsseFor, fsseUsed}
+use Rattle.fsm_blocks.specs.Managers.{startingSet, headerOf, headerFor, fsseFor, fsseUsed}
 use Rattle.fsm_writer.specs.declared.slots.Measure.{Measure}
 use Rattle.fsm_writer.specs.declared.slots.Measured.{Measured}
 use Rattle.fsm_writer.specs.declared.slots.Measured.the-variants as code
@@ -43,7 +43,6 @@ use Rattle.fsm_writer.specs.Serializing.{blocksSize}
 use Rattle.fsm_writer.specs.Slots.{slotBytes, sizeTests, lenOf, writtenBlocks}
 use Rattle.fsm_writer.specs.Counting.{storable}
 use Rattle.fsm_writer.specs.Measuring.{measureOf, measured, measuredOutcome}
-use Rattle.fsm_writer.specs.Writing.{headerOf}
 use Rattle.fsm_writer.proofs.StoredLaws.{too-great}
 use Rattle.fsm_writer.proofs.RowLaws.{over-behind, widths-are}
 use Rattle.fsm_writer.proofs.SerializeLaws.{left-refused, left-answer}
@@ -221,12 +220,12 @@ module _ (l : List FreeSection) (m : Measure) (me : m ≡ measureOf 8 l) (h : 0 
     pub list-long : used ≡ fsseUsed 8 (startingSet 8) l
     list-long = omega (arith, used-of)
 
-    header-is : headerOf 8 (startingSet 8) (m .space) (m .count) (address + 82) used ≡ headerFor 8 (startingSet 8) (address + 82) l
+    header-is : headerOf (startingSet 8) (m .space) (m .count) (address + 82) used ≡ headerFor 8 (startingSet 8) (address + 82) l
     header-is =
-        ap (λ (x : ℕ). headerOf 8 (startingSet 8) x (m .count) (address + 82) used) (ap (λ (x : Measure). x .space) me)
-        ∙ ap₂ (λ (x y : ℕ). headerOf 8 (startingSet 8) (space l) x (address + 82) y) count-of list-long
+        ap (λ (x : ℕ). headerOf (startingSet 8) x (m .count) (address + 82) used) (ap (λ (x : Measure). x .space) me)
+        ∙ ap₂ (λ (x y : ℕ). headerOf (startingSet 8) (space l) x (address + 82) y) count-of list-long
 
-    module _ (d x : List ℕ) (xe : x ≡ over 0 (fshdBytes lookup3 8 (headerOf 8 (startingSet 8) (m .space) (m .count) (address + 82) used)) d) (room : m .len ≤ length d) where
+    module _ (d x : List ℕ) (xe : x ≡ over 0 (fshdBytes lookup3 8 (headerOf (startingSet 8) (m .space) (m .count) (address + 82) used)) d) (room : m .len ≤ length d) where
       long : length x ≡ length d
       long = ap length xe ∙ length-over 0 _ d
 

@@ -19,8 +19,8 @@ use Rattle.fsm_sections.specs.Sections.{bySizeThenAddr, groupsOf}
 use Rattle.fsm_blocks.specs.Fshd.{fshdRow, fshdBytes, sealed}
 use Rattle.fsm_blocks.specs.Groups.{Widths, groupBytes}
 use Rattle.fsm_blocks.specs.Fsse.{fsseHead, fsseBytes, fsseSize}
-use Rattle.fsm_blocks.specs.Managers.{startingSet, widthsFor, fsseUsed, fsseFor}
-use Rattle.fsm_writer.specs.Writing.{written, headerOf}
+use Rattle.fsm_blocks.specs.Managers.{startingSet, headerOf, widthsFor, fsseUsed, fsseFor}
+use Rattle.fsm_writer.specs.Writing.{written}
 use Rattle.fsm_writer.proofs.WriterLaws.{groups-length}
 
 -- what is put behind what stands at the front
@@ -107,15 +107,15 @@ fshdValues o space n fsse used allocated =
     1145590598 ∷ 0 ∷ 1 ∷ space ∷ n ∷ n ∷ 0 ∷ 3 ∷ 80 ∷ 120 ∷ (8 * o - 1) ∷ 9223372036854775807 ∷ fsse ∷ used ∷ allocated ∷ []
 
 module _ (o space n fsse used : ℕ) where
-  row-is : layout (row (fshdWidths o) (fshdValues o space n fsse used used)) ≡ layout (fshdRow o (headerOf o (startingSet o) space n fsse used))
+  row-is : layout (row (fshdWidths o) (fshdValues o space n fsse used used)) ≡ layout (fshdRow o (headerOf (startingSet o) space n fsse used))
   unfolding layout leBytes
   row-is = let e : used ≡ used + 0 = omega arith in ap (λ (m : ℕ). layout (row (fshdWidths o) (fshdValues o space n fsse used m))) e
 
   pub fshd-put : (sum : List ℕ → ℕ) (d m x : List ℕ) → 74 + o ≤ length d → m ≡ over 0 (layout (row (fshdWidths o) (fshdValues o space n fsse used used))) d
-      → x ≡ over (70 + o) (leBytes 4 (sum (take (70 + o) m))) m → x ≡ over 0 (fshdBytes sum o (headerOf o (startingSet o) space n fsse used)) d
+      → x ≡ over (70 + o) (leBytes 4 (sum (take (70 + o) m))) m → x ≡ over 0 (fshdBytes sum o (headerOf (startingSet o) space n fsse used)) d
   unfolding fshdBytes
   fshd-put sum d m x h f g =
-      let fs = fshdRow o (headerOf o (startingSet o) space n fsse used) in
+      let fs = fshdRow o (headerOf (startingSet o) space n fsse used) in
       sealed-put sum (layout fs) d m x (70 + o) (omega (arith, length-layout fs)) (omega arith) (f ∙ ap (λ (u : List ℕ). over 0 u d) row-is) g
 
 -- ---- the section list

@@ -33,9 +33,8 @@ use Rattle.fsm_sections.proofs.SlotLaws.{plain-runs}
 use Rattle.fsm_blocks.specs.Fshd.{Header, fshdBytes, fshdSize}
 use Rattle.fsm_blocks.specs.Fsse.{fsseSize}
 use Rattle.fsm_blocks.specs.Groups.{Widths}
-use Rattle.fsm_blocks.specs.Managers.{startingSet, headerFor, fsseUsed, fsseFor}
+use Rattle.fsm_blocks.specs.Managers.{startingSet, headerOf, headerFor, fsseUsed, fsseFor}
 use Rattle.fsm_writer.specs.Serializing.{ofRun, wide, anyOf, anyWide, blocksSize, blocksLen, writtenFshd, writtenFsse}
-use Rattle.fsm_writer.specs.Writing.{headerOf}
 use Rattle.fsm_writer.proofs.SizeCountLaws.{run-numbers, distinct-few}
 use Rattle.fsm_writer.proofs.RowLaws.{widths-are, width-small}
 
@@ -262,13 +261,13 @@ module _ (O : ℕ) (run : List ℕ) (n sum : ℕ) (h : Accepted O run n sum) (fs
       (two-second O run n sum h (λ l. wide O fsse) (λ l. ltb (length out) (fshdSize O)) WideAddress fshdLent (λ l. fshdSize O) (length out) e (lt-ltb (length out) (74 + O) k) (74 + O) refl)
 
   pub fshd-done : wide O fsse ≡ false → 74 + O ≤ length out → (used : ℕ) → used ≡ fsseUsed O (startingSet O) (decode n run) → (y : List ℕ)
-      → y ≡ over 0 (fshdBytes lookup3 O (headerOf O (startingSet O) sum n fsse used)) out → left (answer (74 + O)) y ≡ leaving out (writtenFshd O run n fsse out)
+      → y ≡ over 0 (fshdBytes lookup3 O (headerOf (startingSet O) sum n fsse used)) out → left (answer (74 + O)) y ≡ leaving out (writtenFshd O run n fsse out)
   unfolding writtenFshd
   fshd-done e k used u y p =
-      let q : headerOf O (startingSet O) sum n fsse used ≡ headerFor O (startingSet O) fsse (decode n run) =
-      ap (λ (m : ℕ). headerOf O (startingSet O) m n fsse used) (h .is-sum)
-      ∙ ap (λ (m : ℕ). headerOf O (startingSet O) (space (decode n run)) m fsse used) (sym (length-decode section n run (h .room)))
-      ∙ ap (λ (m : ℕ). headerOf O (startingSet O) (space (decode n run)) (length (decode n run)) fsse m) u in
+      let q : headerOf (startingSet O) sum n fsse used ≡ headerFor O (startingSet O) fsse (decode n run) =
+      ap (λ (m : ℕ). headerOf (startingSet O) m n fsse used) (h .is-sum)
+      ∙ ap (λ (m : ℕ). headerOf (startingSet O) (space (decode n run)) m fsse used) (sym (length-decode section n run (h .room)))
+      ∙ ap (λ (m : ℕ). headerOf (startingSet O) (space (decode n run)) (length (decode n run)) fsse m) u in
       let z : y ≡ over 0 (fshdBytes lookup3 O (headerFor O (startingSet O) fsse (decode n run))) out = p ∙ ap (λ (m : Header). over 0 (fshdBytes lookup3 O m) out) q in
       ap (λ (m : List ℕ). left (answer (74 + O)) m) z
       ∙ left-answer out _ (74 + O) _

@@ -2,12 +2,11 @@
 use mathlib.Core.Path.{_≡_, refl, ap, ap₂, _∙_}
 use mathlib.Core.List.{List, [], _∷_, _++_, map, append-assoc}
 use Prim.Native.Nat.{ℕ, zero, suc, _-_, _*_, _≤_}
-use native.Mathlib.Nat.{le-of-suc-le-suc, not-suc-le-zero}
 use native.Mathlib.Omega.{arith}
 use lib.ListN.{length, drop, replicate}
 use lib.Seq.{drop-at}
 use Rattle.error.specs.Lent.{over}
-use Rattle.error.proofs.OverLaws.{over-nil}
+use Rattle.error.proofs.OverLaws.{over-is}
 use Rattle.pairs.proofs.PairLaws.{length-flat, flat-append, decode-flat}
 use Rattle.fsm_sections.specs.declared.FreeSection.{FreeSection}
 use Rattle.fsm_sections.specs.Sections.{flat}
@@ -15,12 +14,6 @@ use Rattle.fsm_blocks.specs.Reading.{joined}
 use Rattle.image.specs.Reading.{countsOf}
 use Rattle.listing.specs.Listing.{header, slotText, slotsText, slotsOf, listingText}
 use Rattle.fsm_sections.proofs.SectionsLaws.{section-form}
-
--- what is written from the front on, where it fits
-pub over-is : (vs xs : List ℕ) → length vs ≤ length xs → over 0 vs xs ≡ vs ++ drop (length vs) xs
-over-is [] xs h = over-nil 0 xs
-over-is (v ∷ vs) [] h = absurd (not-suc-le-zero h)
-over-is (v ∷ vs) (x ∷ xs) h = ap (λ (l : List ℕ). v ∷ l) (over-is vs xs (le-of-suc-le-suc h))
 
 -- a slot with no section has no line
 no-lines : (i k : ℕ) (run : List ℕ) → slotsText i (slotsOf (replicate k 0) run) ≡ []

@@ -16,11 +16,11 @@ use Rattle.file_space_info.specs.Message.{fixedLen, fixedRead, present}
 use Rattle.file_space_info.proofs.ReadLaws.{length-numbers}
 use Rattle.image.specs.Reading.{messageAt, addressesIn, readImage}
 use Rattle.image.proofs.PlaceLaws.{message-few}
-use Rattle.listing.specs.Text.{written}
+use Rattle.text.specs.Text.{written}
 use Rattle.listing.specs.Listing.{header, slotText, slotsText, listingText}
 use Rattle.listing.proofs.SizeLaws.{slot-at-most, refused-at-most}
 use Rattle.holes_text.specs.Holes.{imageLimit, sectionLimit, textLimit, atMost, holesRead, textOf, holesText}
-use Rattle.holes_text.proofs.BackLaws.{over-is}
+use Rattle.error.proofs.OverLaws.{over-is}
 use Rattle.holes_text.proofs.HolesLaws.{Few, few}
 
 -- ---- at most twelve slots

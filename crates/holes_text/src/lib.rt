@@ -3,7 +3,7 @@ ghost use mathlib.Core.Path.{_≡_};
 ghost use Prim.Native.Nat.{_*_};
 ghost use lib.ListN.{length};
 ghost use Rattle.error.specs.Lent.{with};
-ghost use Rattle.listing.specs.Text.{written};
+ghost use Rattle.text.specs.Text.{written};
 ghost use Rattle.holes_text.specs.Holes.{sectionLimit, holesText};
 use error::Refusal;
 use image::ImageAnswer;

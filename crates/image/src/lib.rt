@@ -15,7 +15,7 @@ use file_space_info::FileSpaceInfo;
 use file_space_info::NUM_FILE_FSM_MANAGERS;
 use file_space_info::Parsed;
 use fsm_blocks::fsse::SectionsAnswer;
-use fsm_blocks::persisted::manager_count;
+use fsm_blocks::manager::manager_count;
 use fsm_blocks::persisted::read_persisted_sections;
 
 pub enum ImageAnswer {

@@ -1,3 +1,2 @@
-pub mod TextLaws
 pub mod ListingLaws
 pub mod SizeLaws

@@ -14,9 +14,9 @@ use Rattle.error.proofs.TestLaws.{le-or-lt}
 use Rattle.pairs.proofs.PairLaws.{decode-drop, decode-end}
 use Rattle.fsm_sections.specs.declared.FreeSection.{FreeSection}
 use Rattle.fsm_sections.specs.Sections.{section, decode, sectionAt}
-use Rattle.listing.specs.Text.{written}
+use Rattle.text.specs.Text.{written}
 use Rattle.listing.specs.Listing.{rowText, slotText, slotsText, slotsOf}
-use Rattle.listing.proofs.TextLaws.{Printing, piece, printed}
+use Rattle.text.proofs.TextLaws.{Printing, piece, printed}
 
 -- ---- pairs
 

@@ -7,10 +7,10 @@ use native.Mathlib.Omega.{arith}
 use lib.Dec.{ltb}
 use lib.ListN.{length, length-append}
 use Rattle.error.proofs.TestLaws.{le-or-lt}
-use Rattle.decimal.specs.Decimal.{digit, digits, decimal}
-use Rattle.decimal.proofs.DecimalLaws.{length-one, length-more}
+use Rattle.text.specs.Decimal.{digit, digits, decimal}
+use Rattle.text.proofs.DecimalLaws.{length-one, length-more}
 use Rattle.fsm_sections.specs.declared.FreeSection.{FreeSection}
-use Rattle.listing.specs.Text.{word}
+use Rattle.text.specs.Text.{word}
 use Rattle.listing.specs.Listing.{rowText, slotText, refusedLine, refusedText}
 
 -- ---- numbers

@@ -13,7 +13,7 @@ use mathlib.Core.List.{List, [], _∷_, _++_}
 use lib.ListN.{drop}
 use Rattle.fsm_sections.specs.declared.FreeSection.{FreeSection}
 use Rattle.fsm_sections.specs.Sections.{decode}
-use Rattle.listing.specs.Text.{word}
+use Rattle.text.specs.Text.{word}
 
 abbrev space : ℕ
 space = 32

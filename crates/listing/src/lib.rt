@@ -1,15 +1,13 @@
 // The text of a listing of sections, and of a refusal.
-pub mod text;
-
 ghost use mathlib.Core.Path.{_≡_};
 ghost use Prim.Native.Nat.{_+_, _*_, _≤_, min};
 ghost use lib.ListN.{length};
 ghost use Rattle.error.specs.Lent.{with};
 ghost use Rattle.fsm_sections.specs.Sections.{section, decode};
-ghost use Rattle.listing.specs.Text.{written};
+ghost use Rattle.text.specs.Text.{written};
 ghost use Rattle.listing.specs.Listing.{rowText, slotText, slotsOf, listingText, refusedText};
-use crate::text::write_bytes;
-use crate::text::write_word;
+use text::words::write_bytes;
+use text::words::write_word;
 
 // Writes a section's line.
 fn write_row(out: &mut [u8], at: usize, slot: u64, addr: u64, size: u64) -> usize

@@ -11,7 +11,7 @@ use Rattle.error.specs.declared.Checked.{Checked}
 use Rattle.error.specs.Answers.{checkedOutcome}
 use Rattle.checksum.specs.Lookup3.{lookup3, hashOf}
 use Rattle.checksum.specs.Trailing.{trailing}
-use Rattle.listing.specs.Text.{written, word}
+use Rattle.text.specs.Text.{written, word}
 use Rattle.replay_lines.specs.Words.{badLine, checkedText}
 use Rattle.replay_calls.specs.Sums.{lookup3Call, hashlittleCall, verifyCall}
 

@@ -9,7 +9,7 @@ use lib.Dec.{ltb, eqb}
 use lib.ListN.{length, getD}
 use Rattle.checksum.specs.Lookup3.{lookup3, hashOf}
 use Rattle.checksum.specs.Trailing.{trailing}
-use Rattle.listing.specs.Text.{word}
+use Rattle.text.specs.Text.{word}
 use Rattle.replay_lines.specs.Words.{badLine, checkedText}
 
 abbrev pub lookup3Call : List ℕ → List ℕ → List ℕ

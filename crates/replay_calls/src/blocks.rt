@@ -19,7 +19,7 @@ use fsm_pages::pages::split_at_pages;
 use fsm_writer::writer::Written;
 use fsm_writer::writer::serialize_fshd;
 use fsm_writer::writer::serialize_fsse;
-use listing::text::write_bytes;
+use text::words::write_bytes;
 
 pub(crate) fn split_call(args: &[u64]) -> Reply {
     if args.len() < 2 {

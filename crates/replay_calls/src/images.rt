@@ -7,7 +7,7 @@ use crate::text::pairs_line;
 use crate::text::put_numbers;
 use image::ImageAnswer;
 use image::read_image;
-use listing::text::write_bytes;
+use text::words::write_bytes;
 
 // The sum of the slots' counts, modulo 2^64: no run has as many sections.
 fn total(counts: &[u64]) -> u64 {

@@ -12,7 +12,7 @@ use file_space_info::FileSpaceInfo;
 use file_space_info::FileSpaceStrategy;
 use file_space_info::Parsed;
 use file_space_info::StrategyAnswer;
-use listing::text::write_bytes;
+use text::words::write_bytes;
 
 fn bit(b: bool) -> u64 {
     if b { 1 } else { 0 }

@@ -11,7 +11,7 @@ use crate::text::put_pairs;
 use fsm_plan::plan::PagedManagerPlan;
 use fsm_plan::plan::Planned;
 use fsm_plan::plan::plan_paged_managers;
-use listing::text::write_bytes;
+use text::words::write_bytes;
 use replay_lines::answer::put_number;
 
 const UNDEF: u64 = 18446744073709551615;

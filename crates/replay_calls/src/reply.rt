@@ -6,7 +6,7 @@ use crate::text::put_counted;
 use error::Number;
 use error::Refusal;
 use libc::STDOUT_FILENO;
-use listing::text::write_bytes;
+use text::words::write_bytes;
 use replay_lines::answer::bad;
 use replay_lines::answer::done;
 use replay_lines::answer::nothing;

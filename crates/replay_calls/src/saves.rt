@@ -10,7 +10,7 @@ use crate::reply::Reply;
 use crate::reply::write_out;
 use crate::text::end_line;
 use crate::text::put_bytes;
-use listing::text::write_bytes;
+use text::words::write_bytes;
 use replay_lines::answer::put_number;
 use save::Begin;
 use save::Target;

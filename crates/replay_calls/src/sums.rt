@@ -1,7 +1,7 @@
 // The calls of the checksum.
 ghost use mathlib.Core.Path.{_≡_};
 ghost use Rattle.error.specs.Lent.{with};
-ghost use Rattle.listing.specs.Text.{written};
+ghost use Rattle.text.specs.Text.{written};
 ghost use Rattle.replay_calls.specs.Sums.{lookup3Call, hashlittleCall, verifyCall};
 use crate::reply::Reply;
 use crate::reply::write_out;

@@ -3,10 +3,10 @@
 ghost use mathlib.Core.Path.{_≡_};
 ghost use Prim.Native.Nat.{_<_, _≤_};
 ghost use Rattle.error.specs.Lent.{with};
-ghost use Rattle.listing.specs.Text.{written};
+ghost use Rattle.text.specs.Text.{written};
 ghost use Rattle.replay_lines.specs.Words.{halfDigit, hexByte};
-use listing::text::write_bytes;
-use listing::text::write_word;
+use text::words::write_bytes;
+use text::words::write_word;
 use replay_lines::answer::put_number;
 
 // Puts the numbers of a run.

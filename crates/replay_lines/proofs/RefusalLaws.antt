@@ -9,7 +9,7 @@ use Rattle.error.specs.declared.Refusal.{Refusal}
 use Rattle.error.specs.declared.Refusal.the-variants as refusal
 use Rattle.error.specs.Refusals.{numberOf, valuesOf}
 use Rattle.error.proofs.Refusal.{the-type}
-use Rattle.listing.specs.Text.{written}
+use Rattle.text.specs.Text.{written}
 use Rattle.replay_lines.specs.Words.{numbersLine, errWord, refusalText}
 
 -- the tags of the refusals without values

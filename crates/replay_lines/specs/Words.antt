@@ -16,7 +16,7 @@ use lib.Dec.{ltb, eqb}
 use Rattle.error.specs.declared.Refusal.{Refusal}
 use Rattle.error.specs.Outcome.{Outcome, answer, nothing, refuse}
 use Rattle.error.specs.Refusals.{numberOf, valuesOf}
-use Rattle.listing.specs.Text.{word}
+use Rattle.text.specs.Text.{word}
 
 unfoldable pub isCall : List ℕ → List ℕ → Bool
 isCall [] [] = true

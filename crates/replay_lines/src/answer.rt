@@ -3,12 +3,12 @@ ghost use mathlib.Core.Path.{_≡_};
 ghost use mathlib.Core.List.{[], _∷_, _++_};
 ghost use Rattle.error.specs.Lent.{with};
 ghost use Rattle.error.specs.Answers.{checkedOutcome};
-ghost use Rattle.listing.specs.Text.{written, word};
+ghost use Rattle.text.specs.Text.{written, word};
 ghost use Rattle.replay_lines.specs.Words.{numbersLine, errWord, refusalText, badLine, okLine, noneLine, checkedText};
 use error::Checked;
 use error::Refusal;
-use listing::text::write_bytes;
-use listing::text::write_word;
+use text::words::write_bytes;
+use text::words::write_word;
 
 // Puts a number and a space.
 pub fn put_number(out: &mut [u8], at: usize, n: u64) -> usize

@@ -6,7 +6,6 @@
 use mathlib.Core.Path.{_≡_, sym, ap, _∙_}
 use mathlib.Core.Logic.{_⊎_, inl, inr, ⊎-elim}
 use Prim.Native.Nat.{ℕ, _+_, _≤_, _<_, min, max}
-use native.Mathlib.Nat.{not-suc-le-zero, le-of-suc-le-suc}
 use native.Mathlib.Omega.{arith}
 use mathlib.Core.Bool.{true, false, _&&_, _||_, not}
 use mathlib.Core.List.{List, [], _∷_, _++_, append-assoc}
@@ -17,7 +16,7 @@ use Rattle.error.specs.Outcome.{answer, firstOf}
 use Rattle.error.specs.Lent.{With, with, over}
 use Rattle.error.proofs.TestLaws.{le-or-lt, and-true, and-false, or-false}
 use Rattle.error.proofs.OutcomeLaws.{NoneHolds, first-pass, first-answers, first-append}
-use Rattle.error.proofs.OverLaws.{over-nil}
+use Rattle.error.proofs.OverLaws.{over-is}
 use Rattle.fields.specs.Ranges.{top}
 use Rattle.free_regions.specs.Regions.{region, okFrom, meets, shareBytes}
 use Rattle.free_space.specs.Runs.{isList}
@@ -134,15 +133,9 @@ accepted rs page start place image scratch save lent some valid e =
       begins = begun-again rs page start place image (length scratch) some valid (q .0);
     }
 
--- a scratch with room gets blocks and message at its front
-filled-front : (vs xs : List ℕ) → length vs ≤ length xs → over 0 vs xs ≡ vs ++ drop (length vs) xs
-filled-front [] xs h = over-nil 0 xs
-filled-front (v ∷ vs) [] h = absurd (not-suc-le-zero h)
-filled-front (v ∷ vs) (x ∷ xs) h = ap (λ (l : List ℕ). v ∷ l) (filled-front vs xs (le-of-suc-le-suc h))
-
 pub filled-is : (blocks message scratch : List ℕ) → length blocks + length message ≤ length scratch
     → over 0 (blocks ++ message) scratch ≡ blocks ++ (message ++ drop (length (blocks ++ message)) scratch)
-filled-is blocks message scratch h = filled-front (blocks ++ message) scratch (rw length-append h) ∙ append-assoc blocks message _
+filled-is blocks message scratch h = over-is (blocks ++ message) scratch (rw length-append h) ∙ append-assoc blocks message _
 
 -- ---- another image of the same length that has an accepted message at the place too
 

@@ -3,7 +3,7 @@ use mathlib.Core.Path.{sym}
 use Prim.Native.Nat.{_≤_}
 use lib.ListN.{length, take}
 use lib.Seq.{length-take-le}
-use Rattle.listing.proofs.TextLaws.{behind-inside}
+use Rattle.text.proofs.TextLaws.{behind-inside}
 use Rattle.holes_text.specs.Holes.{holesText}
 use Rattle.holes.proofs.main.Statement.{statement}
 use Rattle.holes.proofs.main.Tie as tie

@@ -4,9 +4,9 @@ use native.Mathlib.Omega.{arith}
 use borrow.Author.Needs.{needs}
 use denote.Ref.{now}
 use lib.ListN.{length}
-use Rattle.listing.specs.Text.{written}
+use Rattle.text.specs.Text.{written}
 use Rattle.listing.specs.Listing.{header, listingText}
-use Rattle.listing.proofs.TextLaws.{Printing, whole-left, behind-inside, printing-length, then}
+use Rattle.text.proofs.TextLaws.{Printing, whole-left, behind-inside, printing-length, then}
 use Rattle.listing.proofs.ListingLaws.{slotsFrom, slots-turn, slots-end}
 use Rattle.listing.proofs.write_listing.Statement.{statement}
 use Rattle.listing.proofs.write_listing.Tie as tie

@@ -1,8 +1,8 @@
 use borrow.Author.Needs.{needs}
 use denote.Ref.{now}
-use Rattle.listing.specs.Text.{word}
+use Rattle.text.specs.Text.{word}
 use Rattle.listing.specs.Listing.{refusedLine, refusedText}
-use Rattle.listing.proofs.TextLaws.{then}
+use Rattle.text.proofs.TextLaws.{then}
 use Rattle.listing.proofs.write_refusal.Statement.{statement}
 use Rattle.listing.proofs.write_refusal.Tie as tie
 

@@ -1,8 +1,8 @@
 use mathlib.Core.List.{_++_}
 use borrow.Author.Needs.{needs}
 use denote.Ref.{now}
-use Rattle.listing.specs.Text.{word}
-use Rattle.listing.proofs.TextLaws.{then}
+use Rattle.text.specs.Text.{word}
+use Rattle.text.proofs.TextLaws.{then}
 use Rattle.listing.proofs.write_row.Statement.{statement}
 use Rattle.listing.proofs.write_row.Tie as tie
 

@@ -3,9 +3,9 @@ use native.Mathlib.Omega.{arith}
 use borrow.Author.Needs.{needs}
 use denote.Ref.{now}
 use Rattle.fsm_sections.specs.Sections.{decode}
-use Rattle.listing.specs.Text.{written}
+use Rattle.text.specs.Text.{written}
 use Rattle.listing.specs.Listing.{slotText}
-use Rattle.listing.proofs.TextLaws.{Printing, printing-length}
+use Rattle.text.proofs.TextLaws.{Printing, printing-length}
 use Rattle.listing.proofs.ListingLaws.{linesFrom, lines-start, lines-turn, lines-end}
 use Rattle.listing.proofs.write_slot.Statement.{statement}
 use Rattle.listing.proofs.write_slot.Tie as tie

@@ -36,8 +36,8 @@ returns-2 c =
       c .if-list2 .ensures .1,
     )
 
-best-units-requires : tie.Need-best-units-requires
-best-units-requires c κs = search needs
+best-fit-requires : tie.Need-best-fit-requires
+best-fit-requires c κs = search needs
 
 enum-told : tie.Need-enum-told
 enum-told c = search needs
@@ -58,20 +58,20 @@ take-units-requires : tie.Need-take-units-requires
 take-units-requires c κs =
     let a = c .before .before .before .before .before .before .before .before .before .args in
     let g = c .region-at in
-    let f = subst (Finds (interiorSpan (a .unit)) (now (a .run)) (a .list) (a .len)) (c .before .before .s .given .1) (c .before .before .before .before .best-units .ensures) in
+    let f = subst (Finds (interiorSpan (a .unit)) (now (a .run)) (a .list) (a .len)) (c .before .before .s .given .1) (c .before .before .before .before .best-fit .ensures) in
     (f .list, f .below, g .ensures, omega (arith, c .before .before .before .before .before .if2 .left), omega (arith, f .suffices, ap (interiorSpan (a .unit)) (g .ensures)))
 
 returns-3 : tie.Need-returns-3
 returns-3 c =
     let a = c .before .before .before .before .before .before .before .args in
     let xs = now (a .run) in
-    (units-bad xs (a .list) (a .len) (a .unit) (subst (Finds (interiorSpan (a .unit)) xs (a .list) (a .len)) (c .enum-told .given .1) (c .before .before .best-units .ensures)), tt)
+    (units-bad xs (a .list) (a .len) (a .unit) (subst (Finds (interiorSpan (a .unit)) xs (a .list) (a .len)) (c .enum-told .given .1) (c .before .before .best-fit .ensures)), tt)
 
 returns-4 : tie.Need-returns-4
 returns-4 c =
     let a = c .before .before .before .before .before .before .before .args in
     let xs = now (a .run) in
-    let f = subst (Finds (interiorSpan (a .unit)) xs (a .list) (a .len)) (c .enum-told2 .given .1) (c .before .before .best-units .ensures) in (
+    let f = subst (Finds (interiorSpan (a .unit)) xs (a .list) (a .len)) (c .enum-told2 .given .1) (c .before .before .best-fit .ensures) in (
       sym (ap (serve (interiorStart (a .unit)) xs (a .list) (a .len)) (f .1))
           ∙ units-else xs (a .list) (a .len) (a .unit) (sym (c .before .before .before .before .before .is-part .ensures) ∙ c .before .before .before .before .if1 .left) (f .0) (c .before .before .before .if2 .left),
       tt,
@@ -82,7 +82,7 @@ returns-5 c =
     let a = c .before .before .before .before .before .before .before .before .before .before .args in
     let xs = now (a .run) in
     let g = c .before .region-at in
-    let f = subst (Finds (interiorSpan (a .unit)) xs (a .list) (a .len)) (c .before .before .before .s .given .1) (c .before .before .before .before .before .best-units .ensures) in (
+    let f = subst (Finds (interiorSpan (a .unit)) xs (a .list) (a .len)) (c .before .before .before .s .given .1) (c .before .before .before .before .before .best-fit .ensures) in (
       c .take-units .ensures .0
           ∙ serve-at (interiorStart (a .unit)) xs (a .list) (a .len) _ (f .span) _ (g .result) (f .below) (f .room) (g .ensures) (f .is)
           ∙ units-else xs (a .list) (a .len) (a .unit) (sym (c .before .before .before .before .before .before .before .before .is-part .ensures) ∙ c .before .before .before .before .before .before .before .if1 .left) (f .list) (c .before .before .before .before .before .before .if2 .left),
@@ -98,7 +98,7 @@ decide-whole-units-spec =
     returns
     if-list-requires-2
     returns-2
-    best-units-requires
+    best-fit-requires
     enum-told
     enum-told-2
     enum-known-s

@@ -5,6 +5,7 @@ use denote.Ref.{now}
 use Rattle.free_regions.specs.Regions.{best}
 use Rattle.free_space.specs.declared.check.Head.{Head}
 use Rattle.free_space.specs.Runs.{decode}
+use Rattle.free_space.specs.Passes.{measureOf}
 use Rattle.free_space.specs.Splices.{Begins}
 use Rattle.free_space.proofs.fit.best_fit.Statement.{statement}
 use Rattle.free_space.proofs.fit.best_fit.Tie as tie
@@ -35,7 +36,7 @@ returns-2 : tie.Need-returns-2
 returns-2 c =
     let a = c .before .before .before .before .args in
     let h = begins (c .before .before) _ (c .enum-told2 .given .1) in
-    (h .0, ap (λ (n : ℕ). best (λ r. r .len) (a .len) 0 (decode n (now (a .run)))) (h .1))
+    (h .0, ap (λ (n : ℕ). best (measureOf (a .what)) (a .len) 0 (decode n (now (a .run)))) (h .1))
 
 returns-3 : tie.Need-returns-3
 returns-3 c = c .best-after .ensures

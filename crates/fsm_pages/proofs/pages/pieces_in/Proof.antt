@@ -13,16 +13,13 @@ use Rattle.fsm_pages.proofs.pages.pieces_in.Statement.{statement}
 use Rattle.fsm_pages.proofs.pages.pieces_in.Tie as tie
 
 abbrev Inv-loop : tie.InvT-loop
-Inv-loop sections count page by some₀ more₀ i₀ some more i = Counting page count sections some more i
+Inv-loop sections count page some₀ more₀ i₀ some more i = Counting page count sections some more i
 
 abbrev μ-loop : tie.MeasureT-loop
-μ-loop sections count page by some₀ more₀ i₀ some more i = count - i
-
-divisor-of-requires : tie.Need-divisor-of-requires Inv-loop μ-loop
-divisor-of-requires c κs = search needs
+μ-loop sections count page some₀ more₀ i₀ some more i = count - i
 
 loop-holds : tie.Need-loop-holds Inv-loop μ-loop
-loop-holds c = let s = c .before .before in count-start (s .args .page) (s .args .count) (now (s .args .sections)) (s .pre .1)
+loop-holds c = let s = c .before in count-start (s .args .page) (s .args .count) (now (s .args .sections)) (s .pre .1)
 
 mul-addr : tie.Need-mul-addr Inv-loop μ-loop
 mul-addr c = search needs
@@ -50,12 +47,12 @@ sub-if1 c = omega (arith, c .shared-slice-known3 .given (2 * c .before .before .
 
 returns : tie.Need-returns Inv-loop μ-loop
 returns c =
-    let s = c .before .before .before .before .before .before .before in
+    let s = c .before .before .before .before .before .before in
     let l = c .before .before .before .before .loop in
     count-above (s .args .page) (s .args .count) (now (s .args .sections)) (s .pre .1) (l .some) (l .more) (l .i) (l .inv) (c .before .before .before .loop-test .taken) (c .if1 .taken)
 
 room-in-requires : tie.Need-room-in-requires Inv-loop μ-loop
-room-in-requires c κs = let s = c .before .before .before .before .before .before .before in (s .pre .0, c .before .before .before .before .before .divisor-of .ensures)
+room-in-requires c κs = search needs
 
 sub-quotient : tie.Need-sub-quotient Inv-loop μ-loop
 sub-quotient c = search needs
@@ -68,7 +65,7 @@ quotient-requires c κs = search needs
 
 add-sum-of : tie.Need-add-sum-of Inv-loop μ-loop
 add-sum-of c =
-    let s = c .before .before .before .before .before .before .before .before .before .before in
+    let s = c .before .before .before .before .before .before .before .before .before in
     let i = c .before .before .before .before .before .before .before .loop .i in
     let size = getD (now (s .args .sections)) (2 * i + 1) 0 in
     omega (arith, c .quotient .ensures, div-le-self (size - c .before .before .room-in .result - 1) (s .args .page), c .before .before .before .before .shared-slice-known3 .given (2 * i + 1))
@@ -88,12 +85,12 @@ loop-less c = search needs
 -- the pieces behind the first of the section
 more-is : (c : tie.Joined3 Inv-loop μ-loop)
     → let p = c .before .before .before .before .before .before .before in
-    let a = p .before .before .before .args in
+    let a = p .before .before .args in
     c .before .if2 .more ≡ sat (p .loop .more + behind (a .page) (getD (now (a .sections)) (2 * p .loop .i) 0) (getD (now (a .sections)) (2 * p .loop .i + 1) 0))
 more-is c =
     let d = c .before .before in
     let p = d .before .before .before .before .before in
-    let s = p .before .before .before in
+    let s = p .before .before in
     let l = p .loop in
     let t = d .before .before .before .before .loop-test .taken in
     ⊎-elim
@@ -103,14 +100,14 @@ more-is c =
 
 some-is : (c : tie.Joined3 Inv-loop μ-loop)
     → let p = c .before .before .before .before .before .before .before in
-    let a = p .before .before .before .args in
+    let a = p .before .before .args in
     c .if3 .some ≡ p .loop .some + min (getD (now (a .sections)) (2 * p .loop .i + 1) 0) 1
 some-is c = ⊎-elim (λ w. omega (arith, w .0 .taken, w .1)) (λ w. omega (arith, w .0 .left, w .1)) (c .if3 .came)
 
 loop-again : tie.Need-loop-again Inv-loop μ-loop
 loop-again c =
     let p = c .before .before .before .before .before .before .before in
-    let s = p .before .before .before in
+    let s = p .before .before in
     let l = p .loop in
     count-step (s .args .page) (s .args .count) (now (s .args .sections)) (s .pre .1) (l .some) (l .more) (l .i) (l .inv) (s .pre .0) (c .before .before .before .before .before .before .loop-test .taken)
     _ _ (some-is c) (more-is c) (c .before .before .before .if1 .left) (omega (arith, c .before .before .before .before .shared-slice-known3 .given (2 * l .i + 1)))
@@ -120,7 +117,7 @@ sum-of-requires-2 c κs = search needs
 
 returns-2 : tie.Need-returns-2 Inv-loop μ-loop
 returns-2 c =
-    let s = c .before .before .before .before .before in
+    let s = c .before .before .before .before in
     let l = c .before .before .loop in
     count-end (s .args .page) (s .args .count) (now (s .args .sections)) (s .pre .1) (l .some) (l .more) (l .i) (l .inv) (c .before .loop-test .left) _ (c .sum-of2 .ensures)
 
@@ -130,7 +127,6 @@ pieces-in-spec =
     (tie.spec
     Inv-loop
     μ-loop
-    divisor-of-requires
     loop-holds
     mul-addr
     mul-addr-2

@@ -7,16 +7,13 @@ use Rattle.fsm_pages.proofs.pages.put_split.Statement.{statement}
 use Rattle.fsm_pages.proofs.pages.put_split.Tie as tie
 
 abbrev Inv-loop : tie.InvT-loop
-Inv-loop sections count page out₀ by k₀ i₀ out k i = Putting page count sections out₀ out k i
+Inv-loop sections count page out₀ k₀ i₀ out k i = Putting page count sections out₀ out k i
 
 abbrev μ-loop : tie.MeasureT-loop
-μ-loop sections count page out₀ by k₀ i₀ out k i = count - i
-
-divisor-of-requires : tie.Need-divisor-of-requires Inv-loop μ-loop
-divisor-of-requires c κs = search needs
+μ-loop sections count page out₀ k₀ i₀ out k i = count - i
 
 loop-holds : tie.Need-loop-holds Inv-loop μ-loop
-loop-holds c = let s = c .before .before .before in put-start (s .args .page) (s .args .count) (now (s .args .sections)) (s .pre .1 .0) (now (s .args .out)) (s .pre .1 .1 .0) (s .pre .1 .1 .1)
+loop-holds c = let s = c .before .before in put-start (s .args .page) (s .args .count) (now (s .args .sections)) (s .pre .1 .0) (now (s .args .out)) (s .pre .1 .1 .0) (s .pre .1 .1 .1)
 
 mul-put-pieces : tie.Need-mul-put-pieces Inv-loop μ-loop
 mul-put-pieces c = search needs
@@ -42,10 +39,10 @@ shared-slice-read-put-pieces-2 c = search needs
 put-pieces-requires : tie.Need-put-pieces-requires Inv-loop μ-loop
 put-pieces-requires c κs =
     let b = c .before .before .before .before .before in
-    let s = b .before .before .before in
+    let s = b .before .before in
     let l = c .before .before .before .before .loop in
     let h = c .before .before .before .loop-test .taken in (
-      (s .pre .0, b .divisor-of .ensures, fits-at (s .args .count) (now (s .args .sections)) (s .pre .1 .0) (l .i) h (l .inv .fits) .0),
+      (s .pre .0, fits-at (s .args .count) (now (s .args .sections)) (s .pre .1 .0) (l .i) h (l .inv .fits) .0),
       put-room (s .args .page) (s .args .count) (now (s .args .sections)) (s .pre .1 .0) (now (s .args .out)) (l .out) (l .k) (l .i) (l .inv) h,
     )
 
@@ -58,7 +55,7 @@ loop-less c = search needs
 loop-again : tie.Need-loop-again Inv-loop μ-loop
 loop-again c =
     let p = c .before .before in
-    let s = p .before .before .before .before .before .before .before .before .before in
+    let s = p .before .before .before .before .before .before .before .before in
     let l = p .before .before .before .before .before .loop in
     put-step (s .args .page) (s .args .count) (now (s .args .sections)) (s .pre .1 .0) (now (s .args .out)) (l .out) (l .k) (l .i) (l .inv) (p .before .before .before .before .loop-test .taken)
     _ _ (p .put-pieces .ensures .0) (p .put-pieces .ensures .1)
@@ -68,7 +65,7 @@ same-length c = c .before .loop .inv .same-length
 
 returns : tie.Need-returns Inv-loop μ-loop
 returns c =
-    let s = c .before .before .before .before .before in
+    let s = c .before .before .before .before in
     let l = c .before .loop in
     put-end (s .args .page) (s .args .count) (now (s .args .sections)) (s .pre .1 .0) (now (s .args .out)) (l .out) (l .k) (l .i) (l .inv) (c .loop-test .left)
 
@@ -78,7 +75,6 @@ put-split-spec =
     (tie.spec
     Inv-loop
     μ-loop
-    divisor-of-requires
     loop-holds
     mul-put-pieces
     mul-put-pieces-2

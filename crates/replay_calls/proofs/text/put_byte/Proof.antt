@@ -2,7 +2,7 @@ use mathlib.Core.Path.{ap₂, _∙_}
 use mathlib.Core.List.{[], _∷_}
 use Prim.Native.Nat.{ℕ}
 use denote.Ref.{now}
-use Rattle.listing.specs.Text.{written}
+use Rattle.text.specs.Text.{written}
 use borrow.Author.Needs.{needs}
 use Rattle.replay_calls.proofs.text.put_byte.Statement.{statement}
 use Rattle.replay_calls.proofs.text.put_byte.Tie as tie

@@ -1,7 +1,7 @@
 use mathlib.Core.List.{_++_}
 use denote.Ref.{now}
-use Rattle.listing.specs.Text.{word}
-use Rattle.listing.proofs.TextLaws.{then}
+use Rattle.text.specs.Text.{word}
+use Rattle.text.proofs.TextLaws.{then}
 use borrow.Author.Needs.{needs}
 use Rattle.replay_lines.proofs.answer.pair_line.Statement.{statement}
 use Rattle.replay_lines.proofs.answer.pair_line.Tie as tie

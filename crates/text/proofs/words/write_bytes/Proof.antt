@@ -1,0 +1,76 @@
+use mathlib.Core.Path.{_≡_, refl, ap, _∙_}
+use Prim.Native.Nat.{_-_, _≤_, _<_}
+use native.Mathlib.Omega.{arith}
+use borrow.Author.Needs.{needs}
+use denote.Ref.{now}
+use lib.ListN.{length, take}
+use Rattle.error.specs.Lent.{over}
+use Rattle.error.proofs.OverLaws.{length-over}
+use Rattle.text.proofs.TextLaws.{copy-start, copy-turn, copy-end}
+use Rattle.text.proofs.words.write_bytes.Statement.{statement}
+use Rattle.text.proofs.words.write_bytes.Tie as tie
+
+abbrev Inv-loop : tie.InvT-loop
+Inv-loop out₀ at bytes end to₀ out to =
+    (at ≤ to) × (to - at ≤ length bytes) × (length out ≡ length out₀) × (out ≡ over at (take (to - at) bytes) out₀)
+
+abbrev μ-loop : tie.MeasureT-loop
+μ-loop out₀ at bytes end to₀ out to = end - to
+
+behind-requires : tie.Need-behind-requires Inv-loop μ-loop
+behind-requires c κs = search needs
+
+loop-holds : tie.Need-loop-holds Inv-loop μ-loop
+loop-holds c =
+    let a = c .before .before .before .args in
+    (omega arith, omega arith, refl, copy-start (a .at) (now (a .bytes)) (now (a .out)))
+
+sub-out : tie.Need-sub-out Inv-loop μ-loop
+sub-out c = omega arith
+
+shared-slice-read-out : tie.Need-shared-slice-read-out Inv-loop μ-loop
+shared-slice-read-out c = omega arith
+
+slice-write-out : tie.Need-slice-write-out Inv-loop μ-loop
+slice-write-out c = omega arith
+
+add-to : tie.Need-add-to Inv-loop μ-loop
+add-to c = omega arith
+
+loop-less : tie.Need-loop-less Inv-loop μ-loop
+loop-less c = omega arith
+
+loop-again : tie.Need-loop-again Inv-loop μ-loop
+loop-again c =
+    let l = c .before .before .loop in
+    let a = c .before .before .before .before .before .before .args in
+    let n : l .to - a .at < length (now (a .bytes)) = omega arith in
+    let t = copy-turn (a .at) (now (a .bytes)) (now (a .out)) (l .to) (l .inv .0) n (l .inv .3) in
+    (omega arith, omega arith, ap length t ∙ length-over (a .at) _ (now (a .out)), t)
+
+same-length : tie.Need-same-length Inv-loop μ-loop
+same-length c = c .before .loop .inv .2
+
+returns : tie.Need-returns Inv-loop μ-loop
+returns c =
+    let l = c .before .loop in
+    let a = c .before .before .before .before .before .args in
+    copy-end (a .at) (now (a .bytes)) (now (a .out)) (l .to) (c .before .before .behind .result) (l .inv .0) (c .loop-test .left) (l .inv .1)
+    (c .before .before .behind .ensures) (l .inv .3)
+
+pub write-bytes-spec : {M : Type 1} → statement M
+write-bytes-spec =
+    tie.close
+    (tie.spec
+    Inv-loop
+    μ-loop
+    behind-requires
+    loop-holds
+    sub-out
+    shared-slice-read-out
+    slice-write-out
+    add-to
+    loop-less
+    loop-again
+    same-length
+    returns)
