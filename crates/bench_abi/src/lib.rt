@@ -5,6 +5,7 @@ ghost use Rattle.error.specs.Lent.{with, leaving};
 ghost use Rattle.free_space.specs.Calls.{freed, allocated, allocatedUnits, rangeTaken, trailingTaken};
 ghost use Rattle.free_space.specs.Calls.{keptOutcome, givenOutcome};
 ghost use Rattle.bench_abi.specs.Counts.{listOf, keptCount, givenCount, keptLeft, givenLeft};
+use fields::number::MAX;
 use free_space::list::FreeList;
 use free_space::list::Given;
 use free_space::list::Kept;
@@ -14,7 +15,7 @@ fn kept_count(k: Kept) -> usize
 {
     match k {
         Kept::Done(list) => list.count,
-        Kept::Refused(_) => 18446744073709551615,
+        Kept::Refused(_) => MAX,
     }
 }
 
@@ -23,8 +24,8 @@ fn given_count(g: Given) -> usize
 {
     match g {
         Given::At { addr: _, list } => list.count,
-        Given::Nothing => 18446744073709551615,
-        Given::Refused(_) => 18446744073709551615,
+        Given::Nothing => MAX,
+        Given::Refused(_) => MAX,
     }
 }
 

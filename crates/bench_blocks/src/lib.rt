@@ -8,6 +8,7 @@ ghost use Rattle.fsm_writer.specs.Serializing.{writtenOutcome, writtenFshd, wri
 ghost use Rattle.fsm_pages.specs.Split.{splitOutcome, splitInto};
 ghost use Rattle.fields.specs.Ranges.{orTop, leftOrTop};
 use fields::address::BaseAddress;
+use fields::number::MAX;
 use fsm_blocks::fsse::SectionsAnswer;
 use fsm_blocks::persisted::read_persisted_sections;
 use fsm_pages::pages::Split;
@@ -21,7 +22,7 @@ fn byte_count(w: Written) -> u64
 {
     match w {
         Written::Bytes(n) => n,
-        Written::Refused(_) => 18446744073709551615,
+        Written::Refused(_) => MAX,
     }
 }
 
@@ -30,7 +31,7 @@ fn read_count(s: SectionsAnswer) -> u64
 {
     match s {
         SectionsAnswer::Read(n) => n,
-        SectionsAnswer::Refused(_) => 18446744073709551615,
+        SectionsAnswer::Refused(_) => MAX,
     }
 }
 
@@ -39,7 +40,7 @@ fn piece_count(s: Split) -> usize
 {
     match s {
         Split::Pieces(n) => n,
-        Split::Refused(_) => 18446744073709551615,
+        Split::Refused(_) => MAX,
     }
 }
 

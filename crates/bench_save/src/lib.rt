@@ -8,6 +8,7 @@ ghost use Rattle.fsm_plan.specs.Plan.{plannedOutcome, planned};
 ghost use Rattle.free_lists.specs.Lists.{listsIn};
 ghost use Rattle.save.specs.Saving.{begun, beginOutcome};
 ghost use Rattle.bench_save.specs.Lengths.{wholeLists, endOrTop, lenOrTop, planLeft, saveLeft};
+use fields::number::MAX;
 use free_lists::FileLists;
 use free_space::list::FreeList;
 use fsm_plan::plan::Planned;
@@ -21,7 +22,7 @@ fn end_of(p: Planned) -> u64
 {
     match p {
         Planned::Plan(plan) => plan.end_of_managers,
-        Planned::Refused(_) => 18446744073709551615,
+        Planned::Refused(_) => MAX,
     }
 }
 
@@ -30,7 +31,7 @@ fn len_of(b: Begin) -> u64
 {
     match b {
         Begin::Begun(s) => s.len,
-        Begin::Refused(_) => 18446744073709551615,
+        Begin::Refused(_) => MAX,
     }
 }
 

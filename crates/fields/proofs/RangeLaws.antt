@@ -136,7 +136,7 @@ module _ (value page : ℕ) where
       pub aligned-is : value + (page - value % page) ≤ top → answer (value + (page - value % page)) ≡ alignedUp value page
       aligned-is h = ap answer (sym after) ∙ below-top (omega (arith, after))
 
--- ---- `sum_of`
+-- ---- `saturating_add`
 
 pub sat-over : (a b : ℕ) → top - a < b → a ≤ top → top ≡ sat (a + b)
 unfolding sat

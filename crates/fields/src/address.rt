@@ -2,6 +2,7 @@
 ghost use mathlib.Core.Path.{_≡_};
 ghost use Rattle.error.specs.Answers.{numberOutcome};
 ghost use Rattle.fields.specs.Ranges.{sum};
+use crate::number::MAX;
 use error::Number;
 use error::Refusal;
 
@@ -13,7 +14,7 @@ impl BaseAddress {
         ensures { λ r. ⌜ numberOutcome r ≡ sum stored (self .0) ⌝ }
     {
         let base = self.0;
-        if 18446744073709551615 - base < stored {
+        if MAX - base < stored {
             return Number::Refused(Refusal::Overflow);
         }
         Number::Is(stored + base)

@@ -6,6 +6,8 @@ ghost use Rattle.error.specs.Lent.{over};
 ghost use Rattle.error.specs.Answers.{checkedOutcome};
 ghost use Rattle.fields.specs.Le.{leBytes, leValue};
 ghost use Rattle.fields.specs.Ranges.{enough};
+use crate::index::min;
+use crate::number::MAX;
 use error::Checked;
 use error::Refusal;
 
@@ -14,9 +16,9 @@ pub fn ensure_len(data: &[u8], offset: usize, needed: usize) -> Checked
     ensures { λ r. ⌜ checkedOutcome r ≡ enough (length (now («data» .entry))) offset needed ⌝ }
 {
     let available = data.len();
-    if 18446744073709551615 - needed < offset {
+    if MAX as usize - needed < offset {
         return Checked::Refused(Refusal::Short {
-            expected: 18446744073709551615,
+            expected: MAX,
             available: available as u64,
         });
     }
@@ -36,20 +38,14 @@ fn wide(x: u8) -> u64
     x as u64
 }
 
-pub fn lesser(a: usize, b: usize) -> usize
-    ensures { λ r. ⌜ r ≡ min a b ⌝ }
-{
-    if a <= b { a } else { b }
-}
-
 // How many of `width` places from `at` on a slice of `len` has.
 fn places(len: usize, at: usize, width: usize) -> usize
     ensures { λ r. ⌜ r ≡ min width (len - at) ⌝ }
 {
     if len <= at {
-        lesser(width, 0)
+        min(width, 0)
     } else {
-        lesser(width, len - at)
+        min(width, len - at)
     }
 }
 
@@ -57,7 +53,7 @@ fn places(len: usize, at: usize, width: usize) -> usize
 pub fn read_uint_le(bytes: &[u8], at: usize, width: usize) -> u64
     ensures { λ r. ⌜ r ≡ leValue (take (min width 8) (drop at (now (bytes .entry)))) ⌝ }
 {
-    let n = places(bytes.len(), at, lesser(width, 8));
+    let n = places(bytes.len(), at, min(width, 8));
     let mut v: u64 = 0;
     let mut i = n;
     while 0 < i {

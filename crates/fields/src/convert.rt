@@ -2,6 +2,7 @@
 ghost use mathlib.Core.Path.{_≡_};
 ghost use Rattle.error.specs.Answers.{numberOutcome};
 ghost use Rattle.fields.specs.Ranges.{rangeOutcome, range, undefinedOutcome, undefinedAt, alignedUp};
+use crate::number::MAX;
 use error::Number;
 use error::Refusal;
 
@@ -21,7 +22,7 @@ pub enum Undefined {
 pub fn slice_range(offset: u64, len: u64) -> SliceRange
     ensures { λ r. ⌜ rangeOutcome r ≡ range offset len ⌝ }
 {
-    if 18446744073709551615 - len < offset {
+    if MAX - len < offset {
         return SliceRange::Refused(Refusal::Overflow);
     }
     SliceRange::Range {
@@ -60,7 +61,7 @@ pub fn align_up(value: u64, page: u64) -> Number
         return Number::Is(value);
     }
     let pad = page - rest;
-    if 18446744073709551615 - pad < value {
+    if MAX - pad < value {
         return Number::Refused(Refusal::Overflow);
     }
     Number::Is(value + pad)

@@ -3,5 +3,6 @@
 pub mod address;
 pub mod bytes;
 pub mod convert;
+pub mod index;
 pub mod number;
 pub mod width;

@@ -1,22 +1,38 @@
-// The lesser of two numbers, their sum at most 2^64 - 1, and division with a shift.
+// Small arithmetic on 64-bit numbers: the lesser and the greater of two, sums and differences that stop at the ends, and division with a shift.
 ghost use mathlib.Core.Path.{_≡_};
-ghost use Prim.Native.Nat.{_+_, _/_, _%_, _^_, _<_, min};
+ghost use Prim.Native.Nat.{_+_, _-_, _/_, _%_, _^_, _<_, min, max};
 ghost use Rattle.error.specs.Outcome.{sat};
 
-pub fn lesser(a: u64, b: u64) -> u64
+// The greatest 64-bit number.
+pub const MAX: u64 = 18446744073709551615;
+
+pub fn min(a: u64, b: u64) -> u64
     ensures { λ r. ⌜ r ≡ min a b ⌝ }
 {
     if a <= b { a } else { b }
 }
 
-// The sum of two counts, at most 2^64 - 1.
-pub fn sum_of(a: u64, b: u64) -> u64
+pub fn max(a: u64, b: u64) -> u64
+    ensures { λ r. ⌜ r ≡ max a b ⌝ }
+{
+    if a <= b { b } else { a }
+}
+
+// The sum of two numbers, at most 2^64 - 1.
+pub fn saturating_add(a: u64, b: u64) -> u64
     ensures { λ r. ⌜ r ≡ sat (a + b) ⌝ }
 {
-    if 18446744073709551615 - a < b {
-        return 18446744073709551615;
+    if MAX - a < b {
+        return MAX;
     }
     a + b
+}
+
+// What is left of a number less another, 0 where that is more.
+pub fn saturating_sub(a: u64, b: u64) -> u64
+    ensures { λ r. ⌜ r ≡ a - b ⌝ }
+{
+    if a < b { 0 } else { a - b }
 }
 
 // By how many bits a power of two shifts; 64 for any other number.

@@ -12,6 +12,7 @@ ghost use Rattle.free_lists.specs.Walks.{InOrder, AllInOrder, listsTo, r
 use error::Checked;
 use error::Number;
 use error::Refusal;
+use fields::number::max;
 use free_regions::FreeRegion;
 use free_space::check::is_list;
 use free_space::list::FreeList;
@@ -130,12 +131,6 @@ fn height_of(run: &[u64], n: usize) -> u64
     last.addr + 1
 }
 
-fn greater(a: u64, b: u64) -> u64
-    ensures { λ r. ⌜ r ≡ max a b ⌝ }
-{
-    if a < b { b } else { a }
-}
-
 // The last region of the list that reaches highest; on a tie the first such list's.
 fn highest(meta: &[u64], raw: &[u64], unclassified: &[u64], at: Cursors) -> Reached
     requires { ⌜ AllInOrder (now meta) (now raw) (now unclassified) at ⌝ }
@@ -144,7 +139,7 @@ fn highest(meta: &[u64], raw: &[u64], unclassified: &[u64], at: Cursors) -> Reac
     let a = height_of(meta, at.meta);
     let b = height_of(raw, at.raw);
     let c = height_of(unclassified, at.unclassified);
-    if greater(b, c) <= a {
+    if max(b, c) <= a {
         if a == 0 {
             return Reached::Nothing;
         }

@@ -5,6 +5,7 @@ ghost use Rattle.fields.specs.Ranges.{sum};
 ghost use Rattle.free_regions.specs.Units.{interior, interiorOutcome};
 use error::Number;
 use error::Refusal;
+use fields::number::MAX;
 
 // The bytes from `addr` up to `addr + len`.
 pub struct FreeRegion {
@@ -25,7 +26,7 @@ impl FreeRegion {
         ensures { λ r. ⌜ numberOutcome r ≡ sum (self .addr) (self .len) ⌝ }
     {
         let len = self.len;
-        if 18446744073709551615 - len < self.addr {
+        if MAX - len < self.addr {
             return Number::Refused(Refusal::Overflow);
         }
         Number::Is(self.addr + len)

@@ -24,6 +24,8 @@ use crate::run::region_at;
 use crate::units::Measure;
 use crate::units::whole_units;
 use error::Refusal;
+use fields::number::MAX;
+use fields::number::saturating_sub;
 use free_regions::FreeRegion;
 
 // What is known before anything changes. The calls carry it out, or several of them together.
@@ -80,23 +82,17 @@ fn if_list(run: &[u64], list: FreeList, d: Decision) -> Decision
     }
 }
 
-fn minus(a: u64, b: u64) -> u64
-    ensures { λ r. ⌜ r ≡ a - b ⌝ }
-{
-    if b <= a { a - b } else { 0 }
-}
-
 // What is left below `a` from `addr` on, and above `e` up to `last`.
 fn edges(addr: u64, a: u64, e: u64, last: u64) -> Patch
     ensures { λ p. ⌜ patch p ≡ piece addr (a - addr) ++ piece e (last - e) ⌝ }
 {
     let front = FreeRegion {
         addr: addr,
-        len: minus(a, addr),
+        len: saturating_sub(a, addr),
     };
     let back = FreeRegion {
         addr: e,
-        len: minus(last, e),
+        len: saturating_sub(last, e),
     };
     if front.len == 0 {
         if back.len == 0 {
@@ -210,7 +206,7 @@ fn cut_between(run: &[u64], list: FreeList, lo: usize, hi: usize, a: u64, e: u64
 pub(crate) fn decide_free(run: &[u64], list: FreeList, addr: u64, len: u64) -> Decision
     ensures { λ d. ⌜ Keeps (now (run .entry)) list (freed (now (run .entry)) list addr len) d ⌝ }
 {
-    if 18446744073709551615 - len < addr {
+    if MAX - len < addr {
         return if_list(run, list, Decision::Refused(Refusal::Overflow));
     }
     if len == 0 {
@@ -240,7 +236,7 @@ pub(crate) fn decide_free(run: &[u64], list: FreeList, addr: u64, len: u64) -> D
 pub(crate) fn decide_range(run: &[u64], list: FreeList, addr: u64, len: u64) -> Decision
     ensures { λ d. ⌜ Keeps (now (run .entry)) list (rangeTaken (now (run .entry)) list addr len) d ⌝ }
 {
-    if 18446744073709551615 - len < addr {
+    if MAX - len < addr {
         return if_list(run, list, Decision::Refused(Refusal::Overflow));
     }
     if len == 0 {

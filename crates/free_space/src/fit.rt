@@ -12,6 +12,7 @@ use crate::list::FreeList;
 use crate::run::region_at;
 use crate::units::Measure;
 use crate::units::measured;
+use fields::number::MAX;
 use free_regions::FreeRegion;
 
 // How a pass ends: no list, no region that suffices, or the place of the one that serves.
@@ -34,7 +35,7 @@ fn none_yet(len: u64) -> Best
 {
     Best {
         index: 0,
-        slack: 18446744073709551615 - (len - 1),
+        slack: MAX - (len - 1),
     }
 }
 
@@ -57,7 +58,7 @@ fn found(b: Best, len: u64) -> Search
     requires { ⌜ 0 < len ⌝ }
     ensures { λ s. ⌜ s ≡ answered len b ⌝ }
 {
-    if b.slack <= 18446744073709551615 - len {
+    if b.slack <= MAX - len {
         Search::At(b.index)
     } else {
         Search::Nothing

@@ -18,7 +18,7 @@ use crate::manager::put_manager;
 use error::Number;
 use error::Refusal;
 use fields::address::BaseAddress;
-use fields::number::sum_of;
+use fields::number::saturating_add;
 use fields::width::is_width;
 
 // How many sections all managers have, at most 2^64 - 1.
@@ -33,7 +33,7 @@ fn slots_count(bytes: &[u8], slots: &[u64], base: BaseAddress, offset_size: u8) 
         let Number::Is(n) = sections else {
             return sections;
         };
-        needed = sum_of(needed, n);
+        needed = saturating_add(needed, n);
         i += 1;
     }
     Number::Is(needed)

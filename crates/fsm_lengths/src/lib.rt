@@ -11,6 +11,7 @@ ghost use Rattle.fsm_blocks.specs.Managers.{startingSet, fsseUsed};
 ghost use Rattle.fsm_lengths.specs.Lengths.{unplaced, fsseLen};
 use error::Number;
 use error::Refusal;
+use fields::number::MAX;
 use fields::width::enc_size;
 use fields::width::is_width;
 
@@ -21,7 +22,7 @@ fn sum_overflows(sizes: &[u64]) -> bool
     let mut n: u64 = 0;
     let mut i = 0;
     while i < sizes.len() {
-        if 18446744073709551615 - n < sizes[i] {
+        if MAX - n < sizes[i] {
             return true;
         }
         n = n + sizes[i];

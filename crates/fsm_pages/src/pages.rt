@@ -14,9 +14,10 @@ ghost use Rattle.fsm_sections.specs.Runs.{endsAbove};
 ghost use Rattle.fsm_pages.specs.Split.{splitCount, splitInto, splitOutcome};
 use error::Number;
 use error::Refusal;
+use fields::number::MAX;
 use fields::number::quotient;
 use fields::number::remainder;
-use fields::number::sum_of;
+use fields::number::saturating_add;
 use pairs::is_run;
 
 // How many pieces a run of sections was cut into.
@@ -45,19 +46,19 @@ fn pieces_in(sections: &[u64], count: usize, page: u64) -> Number
     while i < count {
         let addr = sections[2 * i];
         let size = sections[2 * i + 1];
-        if 18446744073709551615 - size < addr {
+        if MAX - size < addr {
             return Number::Refused(Refusal::Overflow);
         }
         let room = room_in(page, addr);
         if room < size {
-            more = sum_of(more, 1 + quotient(size - room - 1, page));
+            more = saturating_add(more, 1 + quotient(size - room - 1, page));
         }
         if size != 0 {
             some += 1;
         }
         i += 1;
     }
-    Number::Is(sum_of(some, more))
+    Number::Is(saturating_add(some, more))
 }
 
 // How many pieces sections have, at most 2^64 - 1: counted in closed form, section by section.

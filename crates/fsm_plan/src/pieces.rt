@@ -12,7 +12,7 @@ ghost use Rattle.fsm_sections.specs.Runs.{endsAbove};
 use crate::chains::pages_of;
 use error::Number;
 use fields::number::quotient;
-use fields::number::sum_of;
+use fields::number::saturating_add;
 use fields::width::enc_size;
 use fsm_pages::pages::split_count;
 
@@ -40,7 +40,7 @@ pub(crate) fn page_count(sections: &[u64], count: usize, page: u64) -> u64
     let mut i = 0;
     while i < count {
         let pages = pages_of(page, sections[2 * i], sections[2 * i + 1]);
-        n = sum_of(n, pages.count);
+        n = saturating_add(n, pages.count);
         i += 1;
     }
     n

@@ -26,6 +26,7 @@ use crate::put::put_small;
 use crate::sharing::is_shared;
 use error::Number;
 use error::Refusal;
+use fields::number::MAX;
 use fsm_writer::slots::Slot;
 use fsm_writer::slots::slot_len;
 
@@ -141,15 +142,15 @@ fn slot_lengths(
 fn ends_late(start: u64, l: Lengths) -> bool
     ensures { λ r. ⌜ r ≡ ltb top (endAt start l) ⌝ }
 {
-    if 18446744073709551615 - l.l0 < start {
+    if MAX - l.l0 < start {
         return true;
     }
     let at2 = start + l.l0;
-    if 18446744073709551615 - l.l2 < at2 {
+    if MAX - l.l2 < at2 {
         return true;
     }
     let at6 = at2 + l.l2;
-    18446744073709551615 - l.l6 < at6
+    MAX - l.l6 < at6
 }
 
 // How many sections each slot has, in closed form.
@@ -178,7 +179,7 @@ fn address_in(n: u64, addr: u64) -> u64
     ensures { λ r. ⌜ r ≡ addressIn n addr ⌝ }
 {
     if n == 0 {
-        return 18446744073709551615;
+        return MAX;
     }
     addr
 }
@@ -189,7 +190,7 @@ fn fsse_in(n: u64, addr: u64, o: usize) -> u64
     ensures { λ r. ⌜ r ≡ addressIn n (addr + fshdSize o) ⌝ }
 {
     if n == 0 {
-        return 18446744073709551615;
+        return MAX;
     }
     addr + (74 + o as u64)
 }

@@ -8,6 +8,7 @@ ghost use Rattle.fsm_sections.specs.Sources.{rest, Given, Within};
 ghost use Rattle.fsm_plan.specs.Order.{atAddr, repeats, Meet, chainOf, Stepped, Alike, Raised, sourceOf, inSlot6};
 use crate::chains::Counts;
 use crate::chains::next_chain;
+use fields::number::MAX;
 use fsm_sections::Taken;
 
 // One above the addresses that were seen, if that is known.
@@ -112,7 +113,7 @@ fn raised(floor: u64, t: Taken) -> Floor
         return Floor::Unknown;
     }
     let last = t.addr + (t.count - 1) * t.size;
-    if last == 18446744073709551615 {
+    if last == MAX {
         return Floor::Unknown;
     }
     Floor::To(last + 1)

@@ -5,7 +5,8 @@ ghost use Rattle.fields.specs.Ranges.{sum};
 ghost use Rattle.fsm_sections.specs.Sources.{headSize};
 use error::Number;
 use error::Refusal;
-use fields::number::lesser;
+use fields::number::MAX;
+use fields::number::min;
 use fields::number::remainder;
 
 pub mod next;
@@ -23,7 +24,7 @@ impl FreeSection {
         ensures { λ r. ⌜ numberOutcome r ≡ sum (self .addr) (self .size) ⌝ }
     {
         let size = self.size;
-        if 18446744073709551615 - size < self.addr {
+        if MAX - size < self.addr {
             return Number::Refused(Refusal::Overflow);
         }
         Number::Is(self.addr + size)
@@ -40,7 +41,7 @@ impl FreeSection {
         if over == 0 {
             return 0;
         }
-        lesser(self.size, page - over)
+        min(self.size, page - over)
     }
 }
 

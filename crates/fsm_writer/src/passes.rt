@@ -10,7 +10,8 @@ ghost use Rattle.fsm_sections.specs.Passes.{leastAddr, spaceOf};
 ghost use Rattle.fsm_writer.specs.Counting.{RunGiven, storable};
 use error::Number;
 use error::Refusal;
-use fields::number::lesser;
+use fields::number::MAX;
+use fields::number::min;
 use fields::number::quotient;
 use fields::number::remainder;
 use fsm_sections::Chain;
@@ -125,7 +126,7 @@ fn space_in(run: &[u64], count: usize, part: Part, page: u64, n: u64) -> Number
     while i < count {
         let r = part_chain(part, page, run[2 * i], run[2 * i + 1]);
         let more = r.count * r.size;
-        if 18446744073709551615 - sum < more {
+        if MAX - sum < more {
             return Number::Refused(Refusal::Overflow);
         }
         sum = sum + more;
@@ -161,7 +162,7 @@ fn count_in(run: &[u64], count: usize, part: Part, page: u64, n: u64) -> Number
     let mut i = 0;
     while i < count {
         let r = part_chain(part, page, run[2 * i], run[2 * i + 1]);
-        if 18446744073709551615 - sum < r.count {
+        if MAX - sum < r.count {
             return Number::Refused(Refusal::Overflow);
         }
         sum = sum + r.count;
@@ -194,20 +195,20 @@ fn first_from(addr: u64, size: u64, count: u64, z: u64, from: u64) -> u64
     ensures { λ r. ⌜ r ≡ leastAddr z from (chain addr size count) ⌝ }
 {
     if count == 0 {
-        return 18446744073709551615;
+        return MAX;
     }
     if z != size {
-        return 18446744073709551615;
+        return MAX;
     }
     if from <= addr {
         return addr;
     }
     if size == 0 {
-        return 18446744073709551615;
+        return MAX;
     }
     let q = (from - addr - 1) / size;
     if count - 1 <= q {
-        return 18446744073709551615;
+        return MAX;
     }
     addr + (q + 1) * size
 }
@@ -218,13 +219,13 @@ pub(crate) fn least_addr(a: &[u64], b: &[u64], c: &[u64], s: Source, z: u64, fro
     ensures { λ r. ⌜ r ≡ leastAddr z from (sectionsOf (chainsOf s (now (a .entry)) (now (b .entry)) (now (c .entry)))) ⌝ }
 {
     let total = s.na + s.nb + s.nc;
-    let mut best: u64 = 18446744073709551615;
+    let mut best: u64 = MAX;
     let mut i = 0;
     let mut j = 0;
     let mut k = 0;
     while i + j + k < total {
         let t = next_chain(a, b, c, s, i, j, k);
-        best = lesser(best, first_from(t.addr, t.size, t.count, z, from));
+        best = min(best, first_from(t.addr, t.size, t.count, z, from));
         i = t.i;
         j = t.j;
         k = t.k;

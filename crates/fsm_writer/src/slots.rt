@@ -29,6 +29,7 @@ use crate::writer::write_fsse;
 use error::Checked;
 use error::Number;
 use error::Refusal;
+use fields::number::MAX;
 use fields::width::enc_size;
 use fsm_sections::Part;
 use fsm_sections::Source;
@@ -68,7 +69,7 @@ fn are_runs(a: &[u64], na: usize, b: &[u64], nb: usize, c: &[u64], nc: usize) ->
 fn is_late(addr: u64, size: u64) -> bool
     ensures { λ r. ⌜ r ≡ ltb top (end (section addr size)) ⌝ }
 {
-    18446744073709551615 - size < addr
+    MAX - size < addr
 }
 
 // Whether some region of a run does.
@@ -165,7 +166,7 @@ fn add_times(from: u64, n: u64, w: u64) -> Number
     requires { ⌜ 0 < w ⌝ }
     ensures { λ r. ⌜ numberOutcome r ≡ storable (from + n * w) ⌝ }
 {
-    if (18446744073709551615 - from) / w < n {
+    if (MAX - from) / w < n {
         return Number::Refused(Refusal::Overflow);
     }
     Number::Is(from + n * w)
@@ -277,7 +278,7 @@ fn write_blocks(
     match measured {
         Measured::Refused(r) => Written::Refused(r),
         Measured::Is(m) => {
-            if 18446744073709551615 - m.len < address {
+            if MAX - m.len < address {
                 return Written::Refused(Refusal::Overflow);
             }
             if (out.len() as u64) < m.len {

@@ -11,6 +11,7 @@ ghost use Rattle.image.specs.Reading.{messageAt, sectionsIn, readInto, i
 use error::Number;
 use error::Refusal;
 use fields::address::BaseAddress;
+use fields::number::min;
 use file_space_info::FileSpaceInfo;
 use file_space_info::NUM_FILE_FSM_MANAGERS;
 use file_space_info::Parsed;
@@ -29,19 +30,13 @@ pub struct ImageRead {
     pub counts: [u64; NUM_FILE_FSM_MANAGERS],
 }
 
-fn least(a: u64, b: u64) -> u64
-    ensures { λ r. ⌜ r ≡ min a b ⌝ }
-{
-    if a < b { a } else { b }
-}
-
 // Reads the at most 125 bytes of message at a place; there are none at or behind the image's end.
 fn read_message(image: &[u8], place: u64, slots: &mut [u64]) -> Parsed
     ensures { λ r. ⌜ left (parsedOutcome r) (now (slots .exit)) ≡ leaving (now (slots .entry)) (parsed (messageAt place (now (image .entry))) 8 8 (now (slots .entry))) ⌝ }
 {
     let len = image.len() as u64;
-    let start = least(place, len);
-    let end = start + least(125, len - start);
+    let start = min(place, len);
+    let end = start + min(125, len - start);
     let first = start as usize;
     let last = end as usize;
     FileSpaceInfo::parse(&image[first..last], 8, 8, slots)

@@ -4,7 +4,8 @@ ghost use Prim.Native.Nat.{_+_, _-_, _≤_, min};
 ghost use lib.ListN.{length};
 ghost use lib.Seq.{slice};
 ghost use Rattle.error.specs.Lent.{over};
-use fields::bytes::lesser;
+use fields::index::min;
+use fields::index::saturating_sub;
 
 // Moves the numbers from `from` up to `end` to `to`, at or below them.
 fn move_down(run: &mut [u64], from: usize, end: usize, to: usize)
@@ -31,18 +32,11 @@ fn move_up(run: &mut [u64], from: usize, end: usize, to: usize)
     }
 }
 
-// What is left of a number less another, 0 where that is more.
-fn less(a: usize, b: usize) -> usize
-    ensures { λ r. ⌜ r ≡ a - b ⌝ }
-{
-    if a < b { 0 } else { a - b }
-}
-
 // How many numbers a run of `len` has from `from` up to `end`, at most as many as fit from `to` on.
 fn moved(len: usize, from: usize, end: usize, to: usize) -> usize
     ensures { λ r. ⌜ r ≡ min (min end len - from) (len - to) ⌝ }
 {
-    lesser(less(lesser(end, len), from), less(len, to))
+    min(saturating_sub(min(end, len), from), saturating_sub(len, to))
 }
 
 // Copies the numbers from `from` up to `end` to `to` and behind, as the Rust's slices do. What the run does not have, and what would

@@ -18,6 +18,7 @@ use crate::Target;
 use error::Checked;
 use error::Number;
 use error::Refusal;
+use fields::number::MAX;
 use free_lists::FileLists;
 use free_lists::are_lists;
 use free_lists::check_lists;
@@ -45,7 +46,7 @@ pub(crate) enum Tested {
 fn ends_above(start: u64, a: u64, b: u64, c: u64) -> bool
     ensures { λ r. ⌜ r ≡ ltb top (start + (a + b + c)) ⌝ }
 {
-    let room = 18446744073709551615 - start;
+    let room = MAX - start;
     if room < a {
         return true;
     }

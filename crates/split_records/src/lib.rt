@@ -12,7 +12,8 @@ ghost use Rattle.fields.specs.Ranges.{orTop, leftOrTop};
 ghost use Rattle.split_records.specs.Records.{splitAnswer, piecesIn, splitRecords, piecesLeft};
 use error::Number;
 use error::Refusal;
-use fields::number::lesser;
+use fields::number::MAX;
+use fields::number::min;
 use fsm_pages::pages::Split;
 use fsm_pages::pages::split_count;
 use fsm_sections::FreeSection;
@@ -66,7 +67,7 @@ fn next_piece(sections: &[u64], count: usize, page: u64, section: usize, done: u
         d = 0;
     }
     let a = sections[2 * i] + d;
-    let z = lesser(sections[2 * i + 1] - d, page - a % page);
+    let z = min(sections[2 * i + 1] - d, page - a % page);
     let piece = FreeSection { addr: a, size: z };
     Cut {
         piece: piece,
@@ -101,7 +102,7 @@ fn pieces_or_top(s: Split) -> usize
 {
     match s {
         Split::Pieces(n) => n,
-        Split::Refused(_) => 18446744073709551615,
+        Split::Refused(_) => MAX,
     }
 }
 

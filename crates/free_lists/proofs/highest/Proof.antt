@@ -14,8 +14,8 @@ height-of-requires-2 c κs = search needs
 height-of-requires-3 : tie.Need-height-of-requires-3
 height-of-requires-3 c κs = search needs
 
-greater-requires : tie.Need-greater-requires
-greater-requires c κs = search needs
+max-requires : tie.Need-max-requires
+max-requires c κs = search needs
 
 -- what the code knows before it compares
 heights : (s : tie.After-height-of3) → let a = s .before .before .before .before .before .before .args in
@@ -64,7 +64,7 @@ highest-spec =
     height-of-requires
     height-of-requires-2
     height-of-requires-3
-    greater-requires
+    max-requires
     returns
     sub-last
     region-at-requires

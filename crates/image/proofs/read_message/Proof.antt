@@ -9,14 +9,14 @@ use borrow.Author.Needs.{needs}
 use Rattle.image.proofs.read_message.Statement.{statement}
 use Rattle.image.proofs.read_message.Tie as tie
 
-least-requires : tie.Need-least-requires
-least-requires c κs = search needs
+min-requires : tie.Need-min-requires
+min-requires c κs = search needs
 
-sub-least : tie.Need-sub-least
-sub-least c = search needs
+sub-min : tie.Need-sub-min
+sub-min c = search needs
 
-least-requires-2 : tie.Need-least-requires-2
-least-requires-2 c κs = search needs
+min-requires-2 : tie.Need-min-requires-2
+min-requires-2 c κs = search needs
 
 add-end : tie.Need-add-end
 add-end c = search needs
@@ -41,15 +41,15 @@ returns c =
     let p = c .before .before .before .before .before in
     let a = p .before .before .before .before .args in
     c .before .before .parse .ensures
-    ∙ ap (λ (bs : List ℕ). leaving (now (a .slots)) (parsed bs 8 8 (now (a .slots)))) (message-part (a .place) (now (a .image)) (p .before .least .ensures) (p .least2 .ensures))
+    ∙ ap (λ (bs : List ℕ). leaving (now (a .slots)) (parsed bs 8 8 (now (a .slots)))) (message-part (a .place) (now (a .image)) (p .before .min .ensures) (p .min2 .ensures))
 
 pub read-message-spec : {M : Type 1} → statement M
 read-message-spec =
     tie.close
     (tie.spec
-    least-requires
-    sub-least
-    least-requires-2
+    min-requires
+    sub-min
+    min-requires-2
     add-end
     sub-parse
     part-parse-start

@@ -71,39 +71,39 @@ add-a c =
     let h : r .addr + l .d < 2 ^ 64 = omega (arith, ends (c .before), c .before .if1 .left) in
     record { fits = h }
 
-mul-lesser : tie.Need-mul-lesser Inv-loop μ-loop
-mul-lesser c = search needs
+mul-min : tie.Need-mul-min Inv-loop μ-loop
+mul-min c = search needs
 
-add-lesser : tie.Need-add-lesser Inv-loop μ-loop
-add-lesser c = search needs
+add-min : tie.Need-add-min Inv-loop μ-loop
+add-min c = search needs
 
-mul-lesser-2 : tie.Need-mul-lesser-2 Inv-loop μ-loop
-mul-lesser-2 c = search needs
+mul-min-2 : tie.Need-mul-min-2 Inv-loop μ-loop
+mul-min-2 c = search needs
 
-shared-slice-read-lesser : tie.Need-shared-slice-read-lesser Inv-loop μ-loop
-shared-slice-read-lesser c = search needs
+shared-slice-read-min : tie.Need-shared-slice-read-min Inv-loop μ-loop
+shared-slice-read-min c = search needs
 
-sub-lesser : tie.Need-sub-lesser Inv-loop μ-loop
-sub-lesser c = search needs
+sub-min : tie.Need-sub-min Inv-loop μ-loop
+sub-min c = search needs
 
-rem-lesser : tie.Need-rem-lesser Inv-loop μ-loop
-rem-lesser c = search needs
+rem-min : tie.Need-rem-min Inv-loop μ-loop
+rem-min c = search needs
 
-sub-lesser-2 : tie.Need-sub-lesser-2 Inv-loop μ-loop
-sub-lesser-2 c =
+sub-min-2 : tie.Need-sub-min-2 Inv-loop μ-loop
+sub-min-2 c =
     let l = c .before .before .before .before .loop in
     let s = c .before .before .before .before .before .before in
     let a = s .args in
     le-of-lt (mod-lt (sectionAt (now (a .sections)) (l .i) .addr + l .d) (s .pre .0))
 
-lesser-requires : tie.Need-lesser-requires Inv-loop μ-loop
-lesser-requires c κs = search needs
+min-requires : tie.Need-min-requires Inv-loop μ-loop
+min-requires c κs = search needs
 
 add-t20 : tie.Need-add-t20 Inv-loop μ-loop
 add-t20 c =
     let e = c .before .before .before in
     let l = e .before .before .loop in
-    let h : l .d + c .lesser .result < 2 ^ 64 = omega (arith, ends e, e .if1 .left, c .lesser .ensures) in
+    let h : l .d + c .min .result < 2 ^ 64 = omega (arith, ends e, e .if1 .left, c .min .ensures) in
     record { fits = h }
 
 returns : tie.Need-returns Inv-loop μ-loop
@@ -112,7 +112,7 @@ returns c =
     let l = e .before .before .loop in
     let s = e .before .before .before .before in
     let a = s .args in
-    l .inv .1 ∙ cut (a .page) (a .count) (now (a .sections)) (s .pre .1) (s .pre .0) (l .i) (l .d) (c .lesser .result) (l .inv .0) (e .if1 .left) (c .lesser .ensures)
+    l .inv .1 ∙ cut (a .page) (a .count) (now (a .sections)) (s .pre .1) (s .pre .0) (l .i) (l .d) (c .min .result) (l .inv .0) (e .if1 .left) (c .min .ensures)
 
 pub next-piece-spec : {M : Type 1} → statement M
 next-piece-spec =
@@ -132,13 +132,13 @@ next-piece-spec =
     mul-a-2
     shared-slice-read-a
     add-a
-    mul-lesser
-    add-lesser
-    mul-lesser-2
-    shared-slice-read-lesser
-    sub-lesser
-    rem-lesser
-    sub-lesser-2
-    lesser-requires
+    mul-min
+    add-min
+    mul-min-2
+    shared-slice-read-min
+    sub-min
+    rem-min
+    sub-min-2
+    min-requires
     add-t20
     returns)

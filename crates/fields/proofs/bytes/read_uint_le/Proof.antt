@@ -18,8 +18,8 @@ Inv-loop bytes at width n v₀ i₀ v i = (i ≤ n) × (v ≡ leValue (drop i (t
 abbrev μ-loop : tie.MeasureT-loop
 μ-loop bytes at width n v₀ i₀ v i = i
 
-lesser-requires : tie.Need-lesser-requires Inv-loop μ-loop
-lesser-requires c κs = search needs
+min-requires : tie.Need-min-requires Inv-loop μ-loop
+min-requires c κs = search needs
 
 places-requires : tie.Need-places-requires Inv-loop μ-loop
 places-requires c κs = search needs
@@ -91,7 +91,7 @@ read-uint-le-spec =
     (tie.spec
     Inv-loop
     μ-loop
-    lesser-requires
+    min-requires
     places-requires
     loop-holds
     sub-i

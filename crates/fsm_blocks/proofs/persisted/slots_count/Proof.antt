@@ -37,8 +37,8 @@ returns c =
     let l = p .before .loop in
     sum-refused (a .args .offset-size) (a .args .base .0) (now (a .args .bytes)) (now (a .args .slots)) (l .needed) (l .i) (l .inv) (p .loop-test .taken) (a .pre) _ (c .enum-told .given .1) (c .before .before .manager-count .ensures)
 
-sum-of-requires : tie.Need-sum-of-requires Inv-loop μ-loop
-sum-of-requires c κs = search needs
+saturating-add-requires : tie.Need-saturating-add-requires Inv-loop μ-loop
+saturating-add-requires c κs = search needs
 
 add-i : tie.Need-add-i Inv-loop μ-loop
 add-i c = search needs
@@ -51,7 +51,7 @@ loop-again c =
     let p = c .before .before .before .before .before .before in
     let a = p .before .before .before .before in
     let l = p .before .loop in
-    sum-step (a .args .offset-size) (a .args .base .0) (now (a .args .bytes)) (now (a .args .slots)) (l .needed) (l .i) (l .inv) (p .loop-test .taken) (a .pre) _ (c .before .before .sections .given .1) (c .before .before .before .before .manager-count .ensures) _ (c .sum-of .ensures)
+    sum-step (a .args .offset-size) (a .args .base .0) (now (a .args .bytes)) (now (a .args .slots)) (l .needed) (l .i) (l .inv) (p .loop-test .taken) (a .pre) _ (c .before .before .sections .given .1) (c .before .before .before .before .manager-count .ensures) _ (c .saturating-add .ensures)
 
 returns-2 : tie.Need-returns-2 Inv-loop μ-loop
 returns-2 c =
@@ -72,7 +72,7 @@ slots-count-spec =
     enum-known-sections
     enum-told
     returns
-    sum-of-requires
+    saturating-add-requires
     add-i
     loop-less
     loop-again

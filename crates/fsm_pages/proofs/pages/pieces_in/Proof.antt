@@ -63,15 +63,15 @@ sub-quotient-2 c = search needs
 quotient-requires : tie.Need-quotient-requires Inv-loop μ-loop
 quotient-requires c κs = search needs
 
-add-sum-of : tie.Need-add-sum-of Inv-loop μ-loop
-add-sum-of c =
+add-saturating-add : tie.Need-add-saturating-add Inv-loop μ-loop
+add-saturating-add c =
     let s = c .before .before .before .before .before .before .before .before .before in
     let i = c .before .before .before .before .before .before .before .loop .i in
     let size = getD (now (s .args .sections)) (2 * i + 1) 0 in
     omega (arith, c .quotient .ensures, div-le-self (size - c .before .before .room-in .result - 1) (s .args .page), c .before .before .before .before .shared-slice-known3 .given (2 * i + 1))
 
-sum-of-requires : tie.Need-sum-of-requires Inv-loop μ-loop
-sum-of-requires c κs = search needs
+saturating-add-requires : tie.Need-saturating-add-requires Inv-loop μ-loop
+saturating-add-requires c κs = search needs
 
 add-some : tie.Need-add-some Inv-loop μ-loop
 add-some c = let l = c .before .before .before .before .before .before .before .loop in omega (arith, l .inv .few)
@@ -112,14 +112,14 @@ loop-again c =
     count-step (s .args .page) (s .args .count) (now (s .args .sections)) (s .pre .1) (l .some) (l .more) (l .i) (l .inv) (s .pre .0) (c .before .before .before .before .before .before .loop-test .taken)
     _ _ (some-is c) (more-is c) (c .before .before .before .if1 .left) (omega (arith, c .before .before .before .before .shared-slice-known3 .given (2 * l .i + 1)))
 
-sum-of-requires-2 : tie.Need-sum-of-requires-2 Inv-loop μ-loop
-sum-of-requires-2 c κs = search needs
+saturating-add-requires-2 : tie.Need-saturating-add-requires-2 Inv-loop μ-loop
+saturating-add-requires-2 c κs = search needs
 
 returns-2 : tie.Need-returns-2 Inv-loop μ-loop
 returns-2 c =
     let s = c .before .before .before .before in
     let l = c .before .before .loop in
-    count-end (s .args .page) (s .args .count) (now (s .args .sections)) (s .pre .1) (l .some) (l .more) (l .i) (l .inv) (c .before .loop-test .left) _ (c .sum-of2 .ensures)
+    count-end (s .args .page) (s .args .count) (now (s .args .sections)) (s .pre .1) (l .some) (l .more) (l .i) (l .inv) (c .before .loop-test .left) _ (c .saturating-add2 .ensures)
 
 pub pieces-in-spec : {M : Type 1} → statement M
 pieces-in-spec =
@@ -141,11 +141,11 @@ pieces-in-spec =
     sub-quotient
     sub-quotient-2
     quotient-requires
-    add-sum-of
-    sum-of-requires
+    add-saturating-add
+    saturating-add-requires
     add-some
     add-i
     loop-less
     loop-again
-    sum-of-requires-2
+    saturating-add-requires-2
     returns-2)

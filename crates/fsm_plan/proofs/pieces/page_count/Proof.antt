@@ -45,8 +45,8 @@ pages-of-requires c κs =
     let l = c3 .loop in
     (c5 .pre .0, fits-at (a .count) (now (a .sections)) (c5 .pre .1 .0) (l .i) (c2 .loop-test .taken) (l .inv .fits) .0)
 
-sum-of-requires : tie.Need-sum-of-requires Inv-loop μ-loop
-sum-of-requires c κs = search needs
+saturating-add-requires : tie.Need-saturating-add-requires Inv-loop μ-loop
+saturating-add-requires c κs = search needs
 
 add-i : tie.Need-add-i Inv-loop μ-loop
 add-i c = search needs
@@ -62,7 +62,7 @@ loop-again c =
     let a = c7 .args in
     let l = c5 .loop in
     paging-turn (a .page) (a .count) (now (a .sections)) (c7 .pre .0) (c7 .pre .1 .0) (l .n) (l .i) (l .inv) (c4 .loop-test .taken) (c .before .pages-of .result) _
-    (c .before .pages-of .ensures) (c .sum-of .ensures)
+    (c .before .pages-of .ensures) (c .saturating-add .ensures)
 
 returns : tie.Need-returns Inv-loop μ-loop
 returns c =
@@ -86,7 +86,7 @@ page-count-spec =
     mul-pages-of-4
     shared-slice-read-pages-of-2
     pages-of-requires
-    sum-of-requires
+    saturating-add-requires
     add-i
     loop-less
     loop-again

@@ -45,8 +45,8 @@ next-chain-requires c κs = (c .before .before .before .before .before .before .
 first-from-requires : tie.Need-first-from-requires Inv-loop μ-loop
 first-from-requires c κs = c .next-chain .ensures .fits
 
-lesser-requires : tie.Need-lesser-requires Inv-loop μ-loop
-lesser-requires c κs = search needs
+min-requires : tie.Need-min-requires Inv-loop μ-loop
+min-requires c κs = search needs
 
 loop-less : tie.Need-loop-less Inv-loop μ-loop
 loop-less c = omega (arith, c .before .before .next-chain .ensures .one-more)
@@ -60,11 +60,11 @@ loop-again c =
         arith,
         take-addr (a .s) (now (a .a)) (now (a .b)) (now (a .c)) (loop .i) (loop .j) (loop .k) (c .before .before .next-chain .result)
             (c .before .before .next-chain .ensures) (a .z) (a .from),
-        c .lesser .ensures,
+        c .min .ensures,
         c .before .first-from .ensures,
         loop .inv .1,
       ),
-      omega (arith, c .lesser .ensures, loop .inv .2),
+      omega (arith, c .min .ensures, loop .inv .2),
     )
 
 returns : tie.Need-returns Inv-loop μ-loop
@@ -87,7 +87,7 @@ least-addr-spec =
     add-loop-2
     next-chain-requires
     first-from-requires
-    lesser-requires
+    min-requires
     loop-less
     loop-again
     returns)

@@ -1,8 +1,8 @@
 use native.Mathlib.Omega.{arith}
 use Rattle.fields.proofs.RangeLaws.{sat-over, sat-under}
 use borrow.Author.Needs.{needs}
-use Rattle.fields.proofs.number.sum_of.Statement.{statement}
-use Rattle.fields.proofs.number.sum_of.Tie as tie
+use Rattle.fields.proofs.number.saturating_add.Statement.{statement}
+use Rattle.fields.proofs.number.saturating_add.Tie as tie
 
 sub-if1 : tie.Need-sub-if1
 sub-if1 c = search needs
@@ -16,5 +16,5 @@ add-result c = search needs
 returns-2 : tie.Need-returns-2
 returns-2 c = let a = c .before .args in sat-under (a .a) (a .b) (c .if1 .left) (omega arith)
 
-pub sum-of-spec : {M : Type 1} → statement M
-sum-of-spec = tie.close (tie.spec sub-if1 returns add-result returns-2)
+pub saturating-add-spec : {M : Type 1} → statement M
+saturating-add-spec = tie.close (tie.spec sub-if1 returns add-result returns-2)
