@@ -29,7 +29,7 @@ fn pairs(sections: &[FreeSection]) -> Vec<u64> {
     sections.iter().flat_map(|s| [s.addr, s.size]).collect()
 }
 
-/// Writes both blocks, FSHD at 0 and FSSE behind it, and gives their length.
+/// Writes both blocks, FSHD at 0 and FSSE after it, and gives their length.
 fn write(pairs: &[u64], out: &mut [u8]) -> u64 {
     unsafe {
         let header = c::bench_serialize_fshd(pairs.as_ptr(), pairs.len(), pairs.len() / 2, FSHD_LEN, out.as_mut_ptr(), out.len());

@@ -36,7 +36,7 @@ fn section(addr: u64, size: u64) -> FreeSection {
 }
 
 fn split_records_test() {
-    // Document 01's M8; a record behind the pieces stays.
+    // Document 01's M8; a record after the pieces stays.
     let kept = section(7, 8);
     let mut out = [kept; 4];
     assert_eq!(split_at_pages(&[4000, 5000], 1, 4096, &mut out), Some(3));

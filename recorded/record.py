@@ -48,7 +48,7 @@ def answered(call, answer):
 
 def main(driver, crate):
     calls = all_calls()
-    # A call that the Rust does not answer is left out. Its list is then as it was before, so the calls behind it stay as they are.
+    # A call that the Rust does not answer is left out. Its list is then as it was before, so the calls after it stay as they are.
     kept = [(call, answer) for call, answer in zip(calls, answers(driver, calls)) if answered(call, answer)]
     assert answers(driver, [call for call, _ in kept]) == [answer for _, answer in kept]
     with open(os.path.join(crate, "stdin"), "w") as f:

@@ -1,4 +1,4 @@
-"""saves.py DRIVER CRATE: writes the calls of plans, saves and images that no answer of the Rust settles, and their answers, behind those
+"""saves.py DRIVER CRATE: writes the calls of plans, saves and images that no answer of the Rust settles, and their answers, after those
 that CRATE/stdin and CRATE/stdout have before the line MARK. See README.md.
 
 The bytes come from document.py, and the Rust's writers (DRIVER) must agree; none comes from the program under test."""
@@ -65,7 +65,7 @@ LISTS = [[(130, 40)], [(180, 20)], [(220, 30)]]
 BLOCKS, MESSAGE = saved(PAGE, START, LISTS)
 LEN = len(BLOCKS)
 READ = counted({0: 2, 2: 2, 6: 2}, [(160, 10), (130, 14), (192, 8), (180, 12), (144, 16), (220, 30)])
-# The image before it: an old message, and behind the new blocks the manager that it names.
+# The image before it: an old message, and after the new blocks the manager that it names.
 OLD = message(PAGE, 900, slots_of({0: START + LEN}))
 OLD_MANAGER = manager([(130, 40)], START + LEN, 1)
 IMAGE = OLD + bytes([0xAA]) * (START + LEN - 125) + OLD_MANAGER
@@ -189,7 +189,7 @@ def cuts():
     says('Any accepted message may stand there: "its 125 bytes, if in the image, must be an accepted message".')
     for strategy, persist in ((0, 0), (2, 1), (3, 255)):
         save_call(PAGE, START, PLACE, TOP, changed(IMAGE, 1, strategy, persist), f"ok {LEN} {whole}")
-    says('The message behind the blocks, and the image no longer than it.')
+    says('The message after the blocks, and the image no longer than it.')
     image = bytes(START + LEN) + message(PAGE, 0, [])[:29].ljust(125, b"\7")
     after = cut(image, START, START + LEN, BLOCKS, MESSAGE, TOP)
     save_call(PAGE, START, START + LEN, TOP, image, f"ok {LEN} {text_of(after)}")
@@ -278,7 +278,7 @@ def refused_saves():
     for k in (0, 125, 126):
         save_call(PAGE, TOP, PLACE, k, OLD, f"ok 0 {text_of(cut(OLD, TOP, PLACE, b'', text, k))}")
     image_call(PLACE, cut(OLD, TOP, PLACE, b"", text, 126), NO_SECTIONS)
-    says('14. "Over capacity, with needed and given". `scratch N` lends a save N bytes; it needs L+125. Behind 13.')
+    says('14. "Over capacity, with needed and given". `scratch N` lends a save N bytes; it needs L+125. After 13.')
     lists_of(LISTS)
     call("scratch 0", "ok")
     save_call(PAGE, START, PLACE, 0, IMAGE, f"err 14 {LEN + 125} 0")
@@ -307,7 +307,7 @@ def images():
     image_call(0, message(PAGE, 0, [TOP])[:36], NO_SECTIONS)
     first = manager([(130, 40)], 0, 1)
     image_call(len(first), first + message(PAGE, 0, [TOP] * 10 + [0]) + b"\0" * 7, counted({10: 1}, [(130, 40)]))
-    says('7. "fewer bytes than the fixed part needs", 29. There are none at or behind the end of the image.')
+    says('7. "fewer bytes than the fixed part needs", 29. There are none at or after the end of the image.')
     image_call(0, b"", "err 7 29 0")
     image_call(TOP, b"", "err 7 29 0")
     image_call(0, good[:28], "err 7 29 28")

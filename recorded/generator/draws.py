@@ -46,7 +46,7 @@ class Draws:
         return self.pick([0, 1, 2, 1, 2, 255])
 
     def changed(self, block):
-        """The bytes as they are, cut, with more behind them, or with up to three others in them."""
+        """The bytes as they are, cut, with more after them, or with up to three others in them."""
         r = self.random()
         if r < 0.35:
             return block

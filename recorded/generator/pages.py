@@ -71,8 +71,8 @@ def planned_lists(draws, page, top):
     for section in sections:
         lists[draws.between(0, 2)].append(section)
     if draws.chance(0.1):
-        behind = sum(sections[-1]) + 7 if sections else 0
-        lists[2].append((behind if behind <= TOP else 0, 0))
+        after = sum(sections[-1]) + 7 if sections else 0
+        lists[2].append((after if after <= TOP else 0, 0))
     return lists
 
 

@@ -23,7 +23,7 @@ def reads(draws):
 
 
 def with_manager(draws, data, base, offset_size):
-    """The data with a manager behind them, and its slot. FSHD or FSSE comes first, and some fields are not as written."""
+    """The data with a manager after them, and its slot. FSHD or FSSE comes first, and some fields are not as written."""
     sections = draws.sections(draws.between(0, 4), offset_size)
     used = len(fsse(sections, 0, draws.section_class(), offset_size))
     header_first = draws.chance(0.7)
@@ -42,10 +42,10 @@ def with_manager(draws, data, base, offset_size):
 
 def other_fields(draws, header, count, used, fsse_addr, base, data_len, offset_size):
     """The header with another FSSE address, length, count, address bits or greatest size."""
-    behind, far = data_len - base + len(header) + used, data_len + 10**4
+    after, far = data_len - base + len(header) + used, data_len + 10**4
     if draws.chance(0.12):
         top = 256**offset_size
-        addr = draws.pick([TOP, top - 1, behind, far, TOP - base, TOP - base + 1, 0, fsse_addr + 1, draws.number()])
+        addr = draws.pick([TOP, top - 1, after, far, TOP - base, TOP - base + 1, 0, fsse_addr + 1, draws.number()])
         header = put(header, 54, addr % top, offset_size)
     if draws.chance(0.1):
         other = draws.pick([0, 8 + offset_size, 9 + offset_size, used - 1, used + 1, far, TOP, draws.number()])

@@ -23,7 +23,7 @@ rust_program() {
     rustc --edition 2024 --cfg 'feature="std"' --cfg 'feature="checksum"' "$out/src/main.rs" -o "$out/$name" "$@"
 }
 
-# rust_driver SRC: $out/driver, which answers calls by the Rust. Three of the eight files get a line behind their last byte: a module
+# rust_driver SRC: $out/driver, which answers calls by the Rust. Three of the eight files get a line after their last byte: a module
 # that opens private functions.
 rust_driver() {
     rust_files "$1"

@@ -1,4 +1,4 @@
--- Laws of the hash: a turn of its loop, its end, and its bound. Assumes nothing.
+-- Laws of the hash: an iteration of its loop, its end, and its bound. Assumes nothing.
 use mathlib.Core.Path.{_≡_, refl, sym, ap, _∙_}
 use mathlib.Core.List.{List, [], _∷_}
 use mathlib.Core.Logic.{⊎-elim}
@@ -13,9 +13,9 @@ use Rattle.error.proofs.TestLaws.{le-or-lt}
 use Rattle.checksum.specs.declared.Words.{Words}
 use Rattle.checksum.specs.Lookup3.{sub32, mixed, finished, blockAdded, tailAdded, ending, hashFrom, seed, hashOf, lookup3}
 
-turn : (n : ℕ) (k : List ℕ) (w : Words) → 12 < length k → hashFrom (suc n) k w ≡ hashFrom n (drop 12 k) (mixed (blockAdded k w))
+iteration : (n : ℕ) (k : List ℕ) (w : Words) → 12 < length k → hashFrom (suc n) k w ≡ hashFrom n (drop 12 k) (mixed (blockAdded k w))
 unfolding hashFrom
-turn n k w h = rw (lt-ltb 12 (length k) h)
+iteration n k w h = rw (lt-ltb 12 (length k) h)
 
 stop : (n : ℕ) (k : List ℕ) (w : Words) → length k ≤ 12 → hashFrom n k w ≡ ending k w
 unfolding hashFrom
@@ -30,7 +30,7 @@ enough (suc m) (suc n) k w hm hn =
     ⊎-elim (λ (h : length k ≤ 12). stop (suc m) k w h ∙ sym (stop (suc n) k w h))
     (λ (h : 12 < length k).
     let l : length (drop 12 k) ≡ length k - 12 = length-drop 12 k in
-    turn m k w h ∙ enough m n (drop 12 k) (mixed (blockAdded k w)) (omega arith) (omega arith) ∙ sym (turn n k w h))
+    iteration m k w h ∙ enough m n (drop 12 k) (mixed (blockAdded k w)) (omega arith) (omega arith) ∙ sym (iteration n k w h))
     (le-or-lt (length k) 12)
 
 -- ---- the hash of the bytes that are left, from the words reached
@@ -45,14 +45,14 @@ hash-start k initval l t s el et es =
     ap (λ (n : ℕ). hashFrom (length k) k (seed n)) q
 
 module _ (at : ℕ) (k : List ℕ) (w : Words) where
-  pub hash-turn : 12 < length k - at → hash (drop at k) w ≡ hash (drop (at + 12) k) (mixed (blockAdded (drop at k) w))
+  pub hash-step : 12 < length k - at → hash (drop at k) w ≡ hash (drop (at + 12) k) (mixed (blockAdded (drop at k) w))
   unfolding hash
-  hash-turn h =
+  hash-step h =
       let r = drop at k in
       let l : length r ≡ length k - at = length-drop at k in
       let v = mixed (blockAdded r w) in
       enough (length r) (suc (length r)) r w (omega arith) (omega arith)
-      ∙ turn (length r) r w (omega arith)
+      ∙ iteration (length r) r w (omega arith)
       ∙ enough (length r) (length (drop 12 r)) (drop 12 r) v (omega (arith, length-drop 12 r)) (omega arith)
       ∙ ap (λ (q : List ℕ). hashFrom (length q) q v) (drop-drop 12 at k)
 
@@ -92,7 +92,7 @@ unfolding hashFrom
 some-lt zero k w h = ending-lt k w h
 some-lt (suc n) k w h =
     ⊎-elim (λ (l : length k ≤ 12). rw (stop (suc n) k w l) (ending-lt k w h))
-    (λ (l : 12 < length k). rw (turn n k w l) (some-lt n (drop 12 k) (mixed (blockAdded k w)) (omega (arith, length-drop 12 k))))
+    (λ (l : 12 < length k). rw (iteration n k w l) (some-lt n (drop 12 k) (mixed (blockAdded k w)) (omega (arith, length-drop 12 k))))
     (le-or-lt (length k) 12)
 
 pub lookup3-lt : (k : List ℕ) → lookup3 k < 2 ^ 32

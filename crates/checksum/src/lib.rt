@@ -201,5 +201,5 @@ pub fn verify_trailing(block: &[u8]) -> Checked
             computed: computed,
         });
     }
-    Checked::Fine
+    Checked::Passed
 }

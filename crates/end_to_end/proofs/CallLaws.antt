@@ -47,10 +47,10 @@ module _ (calls : List ℕ) (at : ℕ) where
       let d0 : drop at calls ≡ getD calls at 0 ∷ number 1 ∷ number 2 ∷ number 3 ∷ rest = drop-cons calls at 0 (omega arith) ∙ rw (e1, d1) in
       ap callsOf d0
 
-  pub run-turn : (ls ls₂ : Lists) (i : Which) (c : ListCall) → i ≡ whichOf (getD calls at 0) → c ≡ callOf (number 1) (number 2) (number 3)
+  pub run-step : (ls ls₂ : Lists) (i : Which) (c : ListCall) → i ≡ whichOf (getD calls at 0) → c ≡ callOf (number 1) (number 2) (number 3)
       → at + 4 ≤ length calls → ls₂ ≡ next (on i c) ls → run (callsOf (drop at calls)) ls ≡ run (callsOf rest) ls₂
   unfolding run
-  run-turn ls ls₂ i c ie ce h e =
+  run-step ls ls₂ i c ie ce h e =
       ap (λ (cs : List CallOn). run cs ls) (first-on h)
       ∙ sym (ap (run (callsOf rest)) (e ∙ ap₂ (λ (j : Which) (d : ListCall). next (on j d) ls) ie ce))
 

@@ -84,8 +84,8 @@ store-before i p v ws xs e =
     rw q (set-over (over (p + length (v ∷ [])) ws xs) p v ∙ over-left p (v ∷ []) ws xs)
 
 -- a store of a fill
-pub fill-turn : (from j v : ℕ) (xs : List ℕ) → from ≤ j → set (over from (replicate (j - from) v) xs) j v ≡ over from (replicate (j + 1 - from) v) xs
-fill-turn from j v xs h =
+pub fill-next : (from j v : ℕ) (xs : List ℕ) → from ≤ j → set (over from (replicate (j - from) v) xs) j v ≡ over from (replicate (j + 1 - from) v) xs
+fill-next from j v xs h =
     let e : j ≡ from + length (replicate (j - from) v) = omega (arith, length-replicate (j - from) v) in
     let n : j - from + 1 ≡ j + 1 - from = omega arith in
     store-after from j v (replicate (j - from) v) xs e
@@ -93,13 +93,13 @@ fill-turn from j v xs h =
     ∙ ap (λ (k : ℕ). over from (replicate k v) xs) n
 
 -- a store of a copy of s, upwards and downwards
-pub down-turn : (to j : ℕ) (s xs : List ℕ) → j < length s → set (over to (take j s) xs) (to + j) (getD s j 0) ≡ over to (take (j + 1) s) xs
-down-turn to j s xs h =
+pub down-next : (to j : ℕ) (s xs : List ℕ) → j < length s → set (over to (take j s) xs) (to + j) (getD s j 0) ≡ over to (take (j + 1) s) xs
+down-next to j s xs h =
     store-after to (to + j) (getD s j 0) (take j s) xs (ap (λ (k : ℕ). to + k) (sym (length-take-le j s (le-of-lt h))))
     ∙ ap (λ (l : List ℕ). over to l xs) (sym (take-suc s j 0 h) ∙ ap (λ (k : ℕ). take k s) (sym (add-one j)))
 
-pub up-turn : (to j : ℕ) (s xs : List ℕ) → j < length s → set (over (to + suc j) (drop (suc j) s) xs) (to + j) (getD s j 0) ≡ over (to + j) (drop j s) xs
-up-turn to j s xs h =
+pub up-next : (to j : ℕ) (s xs : List ℕ) → j < length s → set (over (to + suc j) (drop (suc j) s) xs) (to + j) (getD s j 0) ≡ over (to + j) (drop j s) xs
+up-next to j s xs h =
     store-before (to + suc j) (to + j) (getD s j 0) (drop (suc j) s) xs (omega arith)
     ∙ ap (λ (l : List ℕ). over (to + j) l xs) (sym (drop-cons s j 0 h))
 
@@ -121,7 +121,7 @@ module _ (from end to : ℕ) (xs : List ℕ) (end-in : end ≤ length xs) where
       let n : j < length s = omega (arith, length-slice from end xs end-in) in
       let q : length (take j s) ≡ j = length-take-le j s (le-of-lt n) in
       ap (λ (v : ℕ). set (over to (take j s) xs) (to + j) v) (getD-above to (from + j) (take j s) xs (omega arith) ∙ sym (getD-slice from end j xs l))
-      ∙ down-turn to j s xs n
+      ∙ down-next to j s xs n
 
   pub up-start : from ≤ end → xs ≡ over (to + (end - from)) (drop (end - from) (slice from end xs)) xs
   up-start h =
@@ -135,7 +135,7 @@ module _ (from end to : ℕ) (xs : List ℕ) (end-in : end ≤ length xs) where
       let n : j < length s = omega (arith, length-slice from end xs end-in) in
       rw e
       (ap (λ (v : ℕ). set (over (to + suc j) (drop (suc j) s) xs) (to + j) v) (getD-below (to + suc j) (from + j) (drop (suc j) s) xs (omega arith) ∙ sym (getD-slice from end j xs l))
-      ∙ up-turn to j s xs n)
+      ∙ up-next to j s xs n)
 
 -- two stores side by side
 pub store-pair : (i a b : ℕ) (xs : List ℕ) → set (set xs i a) (i + 1) b ≡ over i (a ∷ b ∷ []) xs

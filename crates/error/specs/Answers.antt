@@ -10,7 +10,7 @@ use Rattle.error.specs.declared.Number.the-variants as number
 use Rattle.error.specs.Outcome.{Outcome, answer, refused}
 
 abbrev pub checkedOutcome : Checked → Outcome (Unit {0})
-checkedOutcome checked.Fine = answer tt
+checkedOutcome checked.Passed = answer tt
 checkedOutcome (checked.Refused r) = refused r
 
 abbrev pub numberOutcome : Number → Outcome ℕ

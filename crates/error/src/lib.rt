@@ -68,7 +68,7 @@ impl Refusal {
 
 // A test's answer.
 pub enum Checked {
-    Fine,
+    Passed,
     Refused(Refusal),
 }
 

@@ -1,4 +1,4 @@
--- Laws of rows of fields: their length, reading any field back, and writing one behind another; and of windows. Assumes nothing.
+-- Laws of rows of fields: their length, reading any field back, and writing one after another; and of windows. Assumes nothing.
 use mathlib.Core.Path.{_≡_, refl, sym, ap, ap₂, _∙_}
 use mathlib.Core.Logic.{⊎-elim}
 use mathlib.Core.List.{List, [], _∷_, _++_, append-assoc, append-nil}
@@ -103,7 +103,7 @@ field-read (f ∷ fs) (suc i) rest h v =
     (ap leValue (window-second (f .width) (span (take i (widths fs))) (getD (widths fs) i 0) (leBytes (f .width) (f .value)) (layout fs ++ rest) (length-le (f .width) (f .value)))
     ∙ field-read fs i rest (le-of-suc-le-suc h) v)
 
--- field i written behind those before it
+-- field i written after those before it
 pub field-written : (fs : List Field) (i p : ℕ) (xs : List ℕ) {q v : ℕ} {a b : List ℕ} → i < length fs → q ≡ p + span (widths (take i fs)) → v ≡ getD fs i (field 0 0) .value
     → a ≡ over p (layout (take i fs)) xs → b ≡ over q (leBytes (getD fs i (field 0 0) .width) v) a → b ≡ over p (layout (take (suc i) fs)) xs
 field-written fs i p xs {q} {v} {a} {b} h place number before stored =

@@ -1,4 +1,4 @@
--- Laws of numbers as bytes: lengths, bounds, reading back, and the turns of the loops that read and write them. Assumes nothing.
+-- Laws of numbers as bytes: lengths, bounds, reading back, and the iterations of the loops that read and write them. Assumes nothing.
 use mathlib.Core.Path.{_≡_, refl, sym, ap, ap₂, _∙_, subst}
 use mathlib.Core.List.{List, [], _∷_}
 use mathlib.Core.Logic.{⊎-elim}
@@ -11,7 +11,7 @@ use lib.ListN.{length, getD, take, drop, set, length-take, length-drop, drop-of-
 use lib.Seq.{length-take-le, take-length, take-all, getD-take, getD-drop, drop-cons}
 use Rattle.error.specs.Lent.{over}
 use Rattle.error.proofs.TestLaws.{le-or-lt}
-use Rattle.error.proofs.OverLaws.{over-cut, down-turn}
+use Rattle.error.proofs.OverLaws.{over-cut, down-next}
 use Rattle.fields.specs.Le.{leBytes, leValue}
 
 -- ---- numbers as bytes
@@ -99,7 +99,7 @@ pub put-step : (d : List ℕ) (at w v i : ℕ) {out : List ℕ} {rest : ℕ} →
     → set out (at + i) (rest % 256) ≡ over at (take (i + 1) (leBytes w v)) d
 put-step d at w v i {out} {rest} h r b =
     ap₂ (λ (l : List ℕ) (x : ℕ). set l (at + i) x) b (ap (λ (n : ℕ). n % 256) r ∙ sym (getD-le w v i h))
-    ∙ down-turn at i (leBytes w v) d (omega (arith, length-le w v))
+    ∙ down-next at i (leBytes w v) d (omega (arith, length-le w v))
 
 pub rest-step : (v i : ℕ) {rest : ℕ} → rest ≡ v / 256 ^ i → rest / 256 ≡ v / 256 ^ (i + 1)
 rest-step v i {rest} r =

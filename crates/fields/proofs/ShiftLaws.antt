@@ -21,5 +21,5 @@ module _ (n by bits : ℕ) (e : 2 ^ bits ≡ by) where
     pub below : n / 2 ^ bits * 2 ^ bits % 2 ^ 64 ≤ n
     below = omega (arith, back, div-mul-le-self n by)
 
-    pub behind-multiple : n - n / 2 ^ bits * 2 ^ bits % 2 ^ 64 ≡ n % by
-    behind-multiple = ap (λ (x : ℕ). n - x) back ∙ sym (mod-eq-sub-div-mul n by)
+    pub after-multiple : n - n / 2 ^ bits * 2 ^ bits % 2 ^ 64 ≡ n % by
+    after-multiple = ap (λ (x : ℕ). n - x) back ∙ sym (mod-eq-sub-div-mul n by)

@@ -29,7 +29,7 @@ pub fn ensure_len(data: &[u8], offset: usize, needed: usize) -> Checked
             available: available as u64,
         });
     }
-    Checked::Fine
+    Checked::Passed
 }
 
 fn wide(x: u8) -> u64

@@ -15,7 +15,7 @@ use Rattle.error.specs.Outcome.{Outcome, answer, refused, when, firstOf}
 use Rattle.error.specs.Lent.{With, with, left, leaving, over}
 use Rattle.error.proofs.TestLaws.{and-true}
 use Rattle.error.proofs.OutcomeLaws.{refuses, passes, first-holds, first-passes, NoneHolds, first-pass, first-answers, first-append, first-refuses}
-use Rattle.error.proofs.OverLaws.{down-turn}
+use Rattle.error.proofs.OverLaws.{down-next}
 use Rattle.fields.specs.Le.{leValue}
 use Rattle.fields.specs.Layout.{span, leAt, fieldAt}
 use Rattle.fields.specs.Width.{validWidth}
@@ -54,7 +54,7 @@ module _ (O L : ℕ) (bs : List ℕ) where
     read-short n e h = rw e (sym (first-passes _ _ _ _ (ap not widths) ∙ first-holds _ _ _ _ (lt-ltb (length bs) (fixedLen O L) (rw e at h))))
 
     module _ (long : fixedLen O L ≤ length bs) where
-      -- the tests that are left behind the first two
+      -- the tests that are left after the first two
       after-two : fixedRead O L bs ≡ firstOf (drop 2 (fixedTests O L bs)) (answer (infoOf O L bs))
       unfolding fixedRead
       after-two = first-passes _ _ _ _ (ap not widths) ∙ first-passes _ _ _ _ (le-ltb (length bs) (fixedLen O L) long)
@@ -133,17 +133,17 @@ getD-numbers w (suc n) (suc i) bs h =
     let s : w + i * w ≡ suc i * w = omega (arith, suc-mul i w) in
     getD-numbers w n i (drop w bs) (le-of-suc-le-suc h) ∙ ap (λ (l : List ℕ). leValue (take w l)) (drop-drop (i * w) w bs) ∙ ap (λ (k : ℕ). leAt k w bs) s
 
--- a turn: the number at the place is stored
-pub read-turn : (w n at i : ℕ) (bs xs : List ℕ) {out : List ℕ} {v : ℕ} → w ≤ 8 → i < n → v ≡ leValue (take (min w 8) (drop (at + i * w) bs))
+-- an iteration: the number at the place is stored
+pub read-step : (w n at i : ℕ) (bs xs : List ℕ) {out : List ℕ} {v : ℕ} → w ≤ 8 → i < n → v ≡ leValue (take (min w 8) (drop (at + i * w) bs))
     → out ≡ over 0 (take i (numbersAt w n (drop at bs))) xs → set out i v ≡ over 0 (take (i + 1) (numbersAt w n (drop at bs))) xs
-read-turn w n at i bs xs {out} {v} e h r o =
+read-step w n at i bs xs {out} {v} e h r o =
     let s = numbersAt w n (drop at bs) in
     let m : min w 8 ≡ w = omega arith in
     let g : v ≡ getD s i 0 =
     r ∙ ap (λ (k : ℕ). leAt (at + i * w) k bs) m ∙ sym (getD-numbers w n i (drop at bs) h ∙ ap (λ (l : List ℕ). leValue (take w l)) (drop-drop (i * w) at bs)) in
     ap₂ (λ (l : List ℕ) (x : ℕ). set l i x) o g
     ∙ ap (λ (k : ℕ). set (over 0 (take i s) xs) k (getD s i 0)) (sym (zero-add i))
-    ∙ down-turn 0 i s xs (omega (arith, length-numbers w n (drop at bs)))
+    ∙ down-next 0 i s xs (omega (arith, length-numbers w n (drop at bs)))
 
 -- one field more within n of them
 pub next-within : (w n i : ℕ) → i < n → i * w + w ≤ n * w

@@ -1,4 +1,4 @@
--- Laws of writing the message: its length, the turn of the loop that writes addresses, and the cases of `serialize`. Assumes nothing.
+-- Laws of writing the message: its length, the iteration of the loop that writes addresses, and the cases of `serialize`. Assumes nothing.
 use mathlib.Core.Path.{_≡_, refl, sym, ap, ap₂, _∙_}
 use mathlib.Core.Bool.{Bool, true, false, cond}
 use mathlib.Core.List.{List, [], _∷_, _++_, append-nil}
@@ -55,9 +55,9 @@ address-snoc : (O : ℕ) (l : List ℕ) (a : ℕ) → addressRow O (l ++ (a ∷ 
 address-snoc O [] a = refl
 address-snoc O (x ∷ l) a = ap (λ (fs : List Field). field O x ∷ fs) (address-snoc O l a)
 
-pub write-turn : (p w i : ℕ) (addrs xs : List ℕ) {out : List ℕ} → i < length addrs → out ≡ over p (layout (addressRow w (take i addrs))) xs
+pub write-step : (p w i : ℕ) (addrs xs : List ℕ) {out : List ℕ} → i < length addrs → out ≡ over p (layout (addressRow w (take i addrs))) xs
     → over (p + i * w) (leBytes w (getD addrs i 0)) out ≡ over p (layout (addressRow w (take (i + 1) addrs))) xs
-write-turn p w i addrs xs {out} h e =
+write-step p w i addrs xs {out} h e =
     let front = addressRow w (take i addrs) in
     let k : length (layout front) ≡ i * w = length-addresses w (take i addrs) ∙ ap (λ (n : ℕ). n * w) (length-take-le i addrs (le-of-lt h)) in
     let t : take (i + 1) addrs ≡ take i addrs ++ (getD addrs i 0 ∷ []) = ap (λ (n : ℕ). take n addrs) (add-one i) ∙ take-suc addrs i 0 h in

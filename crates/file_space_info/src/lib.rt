@@ -187,7 +187,7 @@ impl FileSpaceInfo {
         Number::Is(needed as u64)
     }
 
-    // Reads a message of the given sizes, and all whole addresses behind it if free space is kept.
+    // Reads a message of the given sizes, and all whole addresses after it if free space is kept.
     pub fn parse(bytes: &[u8], offset_size: u8, length_size: u8, addrs: &mut [u64]) -> Parsed
         ensures { λ r. ⌜ left (parsedOutcome r) (now (addrs .exit)) ≡ leaving (now (addrs .entry)) (parsed (now (bytes .entry)) «offset_size» «length_size» (now (addrs .entry))) ⌝ }
     {
@@ -245,7 +245,7 @@ fn write_fixed(info: FileSpaceInfo, out: &mut [u8])
     write_uint_le(out, 21, info.eoa_pre_fsm, 8);
 }
 
-// Writes the addresses behind the fixed part.
+// Writes the addresses after the fixed part.
 fn write_addrs(addrs: &[u64], out: &mut [u8])
     ensures { λ _. ⌜ now (out .exit) ≡ over 29 (layout (addressRow 8 (now (addrs .entry)))) (now (out .entry)) ⌝ }
 {
@@ -300,7 +300,7 @@ fn read_fixed(bytes: &[u8], offset_size: u8, length_size: u8) -> FixedPart
     }
 }
 
-// The fields behind the strategy.
+// The fields after the strategy.
 fn fixed_fields(
     bytes: &[u8],
     offset_size: u8,

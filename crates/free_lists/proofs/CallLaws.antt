@@ -76,7 +76,7 @@ pub record Leaves (Change : List FreeRegion → List FreeRegion → Type 0) (xs 
   pub given : isList xs l ≡ true
   pub left : isList ys m ≡ true
   pub bytes : Change (regions xs l) (regions ys m)
-  -- the places of the run behind the regions that are left: 0 up to the old count, and then as they were
+  -- the places of the run after the regions that are left: 0 up to the old count, and then as they were
   pub long : length ys ≡ length xs
   pub cleared : (k : ℕ) → 2 * m .count ≤ k → k < 2 * l .count → getD ys k 0 ≡ 0
   pub rest : (k : ℕ) → 2 * m .count ≤ k → 2 * l .count ≤ k → getD ys k 0 ≡ getD xs k 0

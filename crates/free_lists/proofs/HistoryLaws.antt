@@ -101,8 +101,8 @@ module _ (i : Which) where
     list : isList (next c ls i .run) (next c ls i .list) ≡ isList (ls i .run) (ls i .list)
     free : (b : ℕ) → Free (regionsOf (next c ls i)) b ↔ Now (Word c ls b) (Free (regionsOf (ls i)) b)
 
-  turn : (c : CallOn) (ls : Lists) → Turn c ls
-  turn c ls = let g = pick (same i (c .list)) in record { list = g .0; free = g .1 }
+  iteration : (c : CallOn) (ls : Lists) → Turn c ls
+  iteration c ls = let g = pick (same i (c .list)) in record { list = g .0; free = g .1 }
     where
       d : Effect
       d = perform (c .what) (ls i)
@@ -116,7 +116,7 @@ module _ (i : Which) where
   run-list : (cs : List CallOn) (ls : Lists) → isList (run cs ls i .run) (run cs ls i .list) ≡ isList (ls i .run) (ls i .list)
   unfolding run
   run-list [] ls = refl
-  run-list (c ∷ cs) ls = run-list cs (next c ls) ∙ turn c ls .list
+  run-list (c ∷ cs) ls = run-list cs (next c ls) ∙ iteration c ls .list
 
   run-free : (cs : List CallOn) (ls : Lists) (b : ℕ) → Free (regionsOf (run cs ls i)) b ↔ Now (lastOver i b cs ls) (Free (regionsOf (ls i)) b)
   unfolding run lastOver
@@ -125,7 +125,7 @@ module _ (i : Which) where
       let r = run-free cs (next c ls) b in
       let x = lastOver i b cs (next c ls) in
       let e = now-later x (Word c ls b) (Free (regionsOf (ls i)) b) in
-      let g = now-cong x (Free (regionsOf (next c ls i)) b) (Now (Word c ls b) (Free (regionsOf (ls i)) b)) (turn c ls .free b) in
+      let g = now-cong x (Free (regionsOf (next c ls i)) b) (Now (Word c ls b) (Free (regionsOf (ls i)) b)) (iteration c ls .free b) in
       (λ f. e .1 (g .0 (r .0 f)), λ f. r .1 (g .1 (e .0 f)))
 
 -- ---- the theorem

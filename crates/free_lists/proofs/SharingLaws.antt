@@ -134,13 +134,13 @@ module _ (xs ys zs : List ℕ) (f : FileLists) where
 
   -- what the answer of the test tells
   module _ {o : Checked} (a : checkedOutcome o ≡ together ls) where
-    none : o ≡ checked.Fine → NoneHolds (apart ls)
+    none : o ≡ checked.Passed → NoneHolds (apart ls)
     none h = first-answers (apart ls) tt tt (sym a ∙ ap checkedOutcome h) .0
 
-    pub fine-order : o ≡ checked.Fine → AllInOrder xs ys zs counts
+    pub fine-order : o ≡ checked.Passed → AllInOrder xs ys zs counts
     fine-order h = lists-order refl (none h .0)
 
-    pub start-is : (eof n : ℕ) → o ≡ checked.Fine → n ≡ walk eof (falling (remaining xs ys zs counts)) → answer n ≡ runStart ls eof
+    pub start-is : (eof n : ℕ) → o ≡ checked.Passed → n ≡ walk eof (falling (remaining xs ys zs counts)) → answer n ≡ runStart ls eof
     unfolding runStart
     start-is eof n h e = ap answer e ∙ sym (first-pass (apart ls) _ (none h))
 

@@ -192,7 +192,7 @@ module _ {xs ys zs : List ℕ} {at : Cursors} {a b c : ℕ} (h : Heights xs ys z
           order = record { meta = o .meta; raw = o .raw; unclassified = t .less };
         }
 
--- ---- a turn of the walk
+-- ---- an iteration of the walk
 
 pub record Walking (xs ys zs : List ℕ) (eof : ℕ) (all : Cursors) (start : ℕ) (at : Cursors) : Type 0 where
   pub order : AllInOrder xs ys zs at
@@ -203,16 +203,16 @@ module _ {xs ys zs : List ℕ} {eof : ℕ} {all : Cursors} {start : ℕ} {at : C
   walk-done e = sym (ap (λ (l : List FreeRegion). walk start (falling l)) e) ∙ w .same
 
   module _ {r : FreeRegion} {rest : Cursors} (n : Next xs ys zs at r rest) where
-    turn : (t : Bool) → ltb (end r) start ≡ t → cond t start (walk (min start (r .addr)) (falling (remaining xs ys zs rest))) ≡ walk eof (falling (remaining xs ys zs all))
-    turn t e =
+    iteration : (t : Bool) → ltb (end r) start ≡ t → cond t start (walk (min start (r .addr)) (falling (remaining xs ys zs rest))) ≡ walk eof (falling (remaining xs ys zs all))
+    iteration t e =
         sym (ap (walk start) (n .first) ∙ ap (λ (b : Bool). cond b start (walk (min start (r .addr)) (falling (remaining xs ys zs rest)))) e)
         ∙ w .same
 
     pub walk-stop : end r < start → start ≡ walk eof (falling (remaining xs ys zs all))
-    walk-stop h = turn true (lt-ltb (end r) start h)
+    walk-stop h = iteration true (lt-ltb (end r) start h)
 
     pub walk-on : (k : ℕ) → start ≤ end r → k ≡ min start (r .addr) → Walking xs ys zs eof all k rest
     walk-on k h e = record {
       order = n .order;
-      same = ap (λ (s : ℕ). walk s (falling (remaining xs ys zs rest))) e ∙ turn false (le-ltb (end r) start h);
+      same = ap (λ (s : ℕ). walk s (falling (remaining xs ys zs rest))) e ∙ iteration false (le-ltb (end r) start h);
     }

@@ -110,7 +110,7 @@ pub fn check_lists(meta: &[u64], raw: &[u64], unclassified: &[u64], lists: FileL
     if share_any(meta, raw, unclassified, all) {
         return Checked::Refused(Refusal::SharedAddress);
     }
-    Checked::Fine
+    Checked::Passed
 }
 
 // The region that the walk comes to next, and the cursors after it.
@@ -210,7 +210,7 @@ pub fn trailing_run_start(
     let checked = check_lists(meta, raw, unclassified, lists);
     match checked {
         Checked::Refused(r) => Number::Refused(r),
-        Checked::Fine => {
+        Checked::Passed => {
             let all = Cursors {
                 meta: lists.metadata.count,
                 raw: lists.raw.count,

@@ -18,7 +18,7 @@ first-low : (low high x : ℕ) (s : FreeRegion) (ss : List FreeRegion) → Withi
 first-low low high x s ss w (inl t) = t .0
 first-low low high x s ss w (inr t) = let q = free-between (suc (end s)) high x ss (w .3) t in omega arith
 
--- the byte right behind the first region is not free
+-- the byte right after the first region is not free
 end-gap : (low high : ℕ) (s : FreeRegion) (ss : List FreeRegion) → Within low high (s ∷ ss) → Free (s ∷ ss) (end s) → ⊥
 end-gap low high s ss w (inl t) = omega arith
 end-gap low high s ss w (inr t) = let q = free-between (suc (end s)) high (end s) ss (w .3) t in omega arith

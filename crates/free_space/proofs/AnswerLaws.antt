@@ -21,7 +21,7 @@ use Rattle.pairs.proofs.PairLaws.{length-decode, decode-at}
 use Rattle.free_space.specs.declared.list.FreeList.{FreeList}
 use Rattle.free_space.specs.declared.decide.Decision.the-variants.{Refused, Nothing}
 use Rattle.free_space.specs.Runs.{regionAt, regions, isList}
-use Rattle.free_space.specs.Calls.{Gave, giving, placed, taken, serve, keeping, freedRegions, leftRegions, allocated, allocatedUnits, freed, rangeTaken, trailingTaken, partUnit}
+use Rattle.free_space.specs.Calls.{Gave, giving, placed, without, serve, keeping, freedRegions, leftRegions, allocated, allocatedUnits, freed, rangeTaken, trailingTaken, partUnit}
 use Rattle.free_space.specs.Decisions.{ifList, givenBy, keptBy}
 use Rattle.free_space.proofs.ListLaws.{listed}
 use Rattle.free_space.proofs.SpliceLaws.{kept-same}
@@ -29,20 +29,20 @@ use Rattle.free_space.proofs.SpliceLaws.{kept-same}
 -- ---- allocations
 
 -- what the change of one region leaves, from what is left around the range
-pub taken-is : (xs : List ℕ) (l : FreeList) (i : ℕ) (r : FreeRegion) (start len : ℕ) (p : List FreeRegion) → i < l .count → 2 * l .count ≤ length xs
+pub without-is : (xs : List ℕ) (l : FreeList) (i : ℕ) (r : FreeRegion) (start len : ℕ) (p : List FreeRegion) → i < l .count → 2 * l .count ≤ length xs
     → r ≡ regionAt xs i → p ≡ around r start len
-    → placed (giving start) xs l (spliced (regions xs l) i (i + 1) p) ≡ placed (giving start) xs l (taken (regions xs l) i start len)
-taken-is xs l i r start len p h room got e =
+    → placed (giving start) xs l (spliced (regions xs l) i (i + 1) p) ≡ placed (giving start) xs l (without (regions xs l) i start len)
+without-is xs l i r start len p h room got e =
     let d : r ≡ getD (regions xs l) i (region 0 0) = got ∙ sym (decode-at region (l .count) i xs (region 0 0) h room) in
     ap (placed (giving start) xs l)
     (ap₂ (λ (j : ℕ) (q : List FreeRegion). spliced (regions xs l) i j q) (add-one i) (e ∙ ap (λ (q : FreeRegion). around q start len) d))
 
 -- the region that was found serves
 pub serve-at : (start : FreeRegion → ℕ) (xs : List ℕ) (l : FreeList) (len i s : ℕ) (f : Found) (r : FreeRegion) → i < l .count → 2 * l .count ≤ length xs
-    → r ≡ regionAt xs i → f ≡ at i s → placed (giving (start r)) xs l (taken (regions xs l) i (start r) len) ≡ serve start xs l len f
+    → r ≡ regionAt xs i → f ≡ at i s → placed (giving (start r)) xs l (without (regions xs l) i (start r) len) ≡ serve start xs l len f
 serve-at start xs l len i s f r h room got e =
     let d : r ≡ getD (regions xs l) i (region 0 0) = got ∙ sym (decode-at region (l .count) i xs (region 0 0) h room) in
-    ap (λ (q : FreeRegion). placed (giving (start q)) xs l (taken (regions xs l) i (start q) len)) d ∙ sym (ap (serve start xs l len) e)
+    ap (λ (q : FreeRegion). placed (giving (start q)) xs l (without (regions xs l) i (start q) len)) d ∙ sym (ap (serve start xs l len) e)
 
 module _ (xs : List ℕ) (l : FreeList) (len : ℕ) where
   pub alloc-bad : isList xs l ≡ false → refused NotAList ≡ allocated xs l len

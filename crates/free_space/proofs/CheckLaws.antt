@@ -15,7 +15,7 @@ use Rattle.free_regions.proofs.OkLaws.{Fit, fit, fit-back}
 use Rattle.pairs.proofs.PairLaws.{decode-end}
 use Rattle.free_space.specs.declared.list.FreeList.{FreeList}
 use Rattle.free_space.specs.Runs.{regionAt, decode, isList}
-use Rattle.free_space.proofs.ListLaws.{ok-turn, ok-stop, region-fits}
+use Rattle.free_space.proofs.ListLaws.{ok-step, ok-stop, region-fits}
 
 -- two tests that hold together are one
 pub same-test : (a b : Bool) → (a ≡ true → b ≡ true) → (b ≡ true → a ≡ true) → a ≡ b
@@ -44,7 +44,7 @@ module _ (prev : ℕ) (r : FreeRegion) where
   pub follows-else : prev < r .addr → fitsFrom 0 r ≡ fitsFrom (suc prev) r
   follows-else h = rw (le-leb (suc prev) (r .addr) h, le-leb 0 (r .addr) (omega arith))
 
--- ---- a turn of a pass, from what the code reads and tests
+-- ---- an iteration of a pass, from what the code reads and tests
 
 module _ (n i prev : ℕ) (xs : List ℕ) (l : i < n) (room : 2 * n ≤ length xs) (r : FreeRegion) (got : r ≡ regionAt xs i) (b : Bool) (test : b ≡ fitsFrom (suc prev) r) where
   at-i : fitsFrom (suc prev) (regionAt xs i) ≡ b
@@ -57,7 +57,7 @@ module _ (n i prev : ℕ) (xs : List ℕ) (l : i < n) (room : 2 * n ≤ length x
   pass-fits h = fit (suc prev) r (sym test ∙ not-false b h)
 
   pub pass-goes : not b ≡ false → okFrom (suc prev) (drop i (decode n xs)) ≡ okFrom (suc (end r)) (drop (i + 1) (decode n xs))
-  pass-goes h = ok-turn n i (suc prev) xs l room (at-i ∙ not-false b h) ∙ ap (λ (q : FreeRegion). okFrom (suc (end q)) (drop (i + 1) (decode n xs))) (sym got)
+  pass-goes h = ok-step n i (suc prev) xs l room (at-i ∙ not-false b h) ∙ ap (λ (q : FreeRegion). okFrom (suc (end q)) (drop (i + 1) (decode n xs))) (sym got)
 
 pub pass-ends : (n i prev : ℕ) (xs : List ℕ) → n ≤ i → 2 * n ≤ length xs → okFrom (suc prev) (drop i (decode n xs)) ≡ true
 pass-ends n i prev xs l room = ap (okFrom (suc prev)) (decode-end region n i xs l room)
@@ -74,7 +74,7 @@ module _ (n : ℕ) (xs : List ℕ) (l : 0 < n) (room : 2 * n ≤ length xs) (r :
   first-fits h = fit 0 r (sym test ∙ not-false b h)
 
   pub first-goes : not b ≡ false → okFrom 0 (decode n xs) ≡ okFrom (suc (end r)) (drop 1 (decode n xs))
-  first-goes h = ok-turn n 0 0 xs l room (at-0 ∙ not-false b h) ∙ ap (λ (q : FreeRegion). okFrom (suc (end q)) (drop 1 (decode n xs))) (sym got)
+  first-goes h = ok-step n 0 0 xs l room (at-0 ∙ not-false b h) ∙ ap (λ (q : FreeRegion). okFrom (suc (end q)) (drop 1 (decode n xs))) (sym got)
 
 -- ---- the whole
 

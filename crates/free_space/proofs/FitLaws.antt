@@ -54,21 +54,21 @@ so-far-none len b h = rw (le-ltb (b .slack) (2 ^ 64 - len) h)
 pub so-far-at : (len : ℕ) (b : Best) → b .slack < 2 ^ 64 - len → soFar len b ≡ at (b .index) (b .slack + len)
 so-far-at len b h = rw (lt-ltb (b .slack) (2 ^ 64 - len) h)
 
--- ---- a turn of a pass
+-- ---- an iteration of a pass
 
-best-turn : (span : FreeRegion → ℕ) (len i n : ℕ) (xs : List ℕ) → i < n → 2 * n ≤ length xs
+best-step : (span : FreeRegion → ℕ) (len i n : ℕ) (xs : List ℕ) → i < n → 2 * n ≤ length xs
     → best span len i (drop i (decode n xs)) ≡ lower (oneAt len i (span (regionAt xs i))) (best span len (i + 1) (drop (i + 1) (decode n xs)))
-best-turn span len i n xs l room =
+best-step span len i n xs l room =
     ap (best span len i) (decode-drop region n i xs l room)
     ∙ ap (λ (j : ℕ). lower (oneAt len i (span (regionAt xs i))) (best span len j (drop (i + 1) (decode n xs)))) (sym (add-one i))
 
 -- b is kept before the region r at i, and b′ after it
-pub fit-turn : (span : FreeRegion → ℕ) (len i n : ℕ) (xs : List ℕ) (b b′ : Best) (r : FreeRegion) → i < n → 2 * n ≤ length xs → r ≡ regionAt xs i
+pub fit-step : (span : FreeRegion → ℕ) (len i n : ℕ) (xs : List ℕ) (b b′ : Best) (r : FreeRegion) → i < n → 2 * n ≤ length xs → r ≡ regionAt xs i
     → soFar len b′ ≡ lower (soFar len b) (oneAt len i (span r))
     → lower (soFar len b) (best span len i (drop i (decode n xs))) ≡ lower (soFar len b′) (best span len (i + 1) (drop (i + 1) (decode n xs)))
-fit-turn span len i n xs b b′ r l room got e =
+fit-step span len i n xs b b′ r l room got e =
     let rest = best span len (i + 1) (drop (i + 1) (decode n xs)) in
-    ap (lower (soFar len b)) (best-turn span len i n xs l room)
+    ap (lower (soFar len b)) (best-step span len i n xs l room)
     ∙ sym (lower-assoc (soFar len b) (oneAt len i (span (regionAt xs i))) rest)
     ∙ ap (λ (q : FreeRegion). lower (lower (soFar len b) (oneAt len i (span q))) rest) (sym got)
     ∙ ap (λ (f : Found). lower f rest) (sym e)
@@ -77,7 +77,7 @@ fit-turn span len i n xs b b′ r l room got e =
 pub fit-first : (span : FreeRegion → ℕ) (len n : ℕ) (xs : List ℕ) (b b′ : Best) (r : FreeRegion) → 0 < n → 2 * n ≤ length xs → r ≡ regionAt xs 0
     → 2 ^ 64 - len ≤ b .slack → soFar len b′ ≡ lower (soFar len b) (oneAt len 0 (span r))
     → best span len 0 (decode n xs) ≡ lower (soFar len b′) (best span len 1 (drop 1 (decode n xs)))
-fit-first span len n xs b b′ r l room got z e = ap (λ (f : Found). lower f (best span len 0 (decode n xs))) (sym (so-far-none len b z)) ∙ fit-turn span len 0 n xs b b′ r l room got e
+fit-first span len n xs b b′ r l room got z e = ap (λ (f : Found). lower f (best span len 0 (decode n xs))) (sym (so-far-none len b z)) ∙ fit-step span len 0 n xs b b′ r l room got e
 
 pub fit-end : (span : FreeRegion → ℕ) (len i n : ℕ) (xs : List ℕ) (b : Best) → n ≤ i → 2 * n ≤ length xs
     → lower (soFar len b) (best span len i (drop i (decode n xs))) ≡ soFar len b

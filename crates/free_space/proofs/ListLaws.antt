@@ -1,4 +1,4 @@
--- Laws of refusal 3's test: its three parts, a turn of a loop that tests, and that a list is determined by its free bytes. Assumes nothing.
+-- Laws of refusal 3's test: its three parts, an iteration of a loop that tests, and that a list is determined by its free bytes. Assumes nothing.
 --   Listed    a run and a record that are a list, as facts
 use mathlib.Core.Path.{_≡_, ap, _∙_, subst}
 use mathlib.Core.List.{List}
@@ -19,11 +19,11 @@ use Rattle.pairs.specs.Pairs.{capacity}
 use Rattle.free_space.specs.declared.list.FreeList.{FreeList}
 use Rattle.free_space.specs.Runs.{regionAt, decode, regions, isList}
 
--- ---- a turn of a loop that tests
+-- ---- an iteration of a loop that tests
 
 module _ (n i low : ℕ) (xs : List ℕ) (l : i < n) (room : 2 * n ≤ length xs) where
-  pub ok-turn : fitsFrom low (regionAt xs i) ≡ true → okFrom low (drop i (decode n xs)) ≡ okFrom (suc (end (regionAt xs i))) (drop (i + 1) (decode n xs))
-  ok-turn e = ap (okFrom low) (decode-drop region n i xs l room) ∙ ap (λ (b : Bool). b && okFrom (suc (end (regionAt xs i))) (drop (i + 1) (decode n xs))) e
+  pub ok-step : fitsFrom low (regionAt xs i) ≡ true → okFrom low (drop i (decode n xs)) ≡ okFrom (suc (end (regionAt xs i))) (drop (i + 1) (decode n xs))
+  ok-step e = ap (okFrom low) (decode-drop region n i xs l room) ∙ ap (λ (b : Bool). b && okFrom (suc (end (regionAt xs i))) (drop (i + 1) (decode n xs))) e
 
   pub ok-stop : fitsFrom low (regionAt xs i) ≡ false → okFrom low (drop i (decode n xs)) ≡ false
   ok-stop e = ap (okFrom low) (decode-drop region n i xs l room) ∙ ap (λ (b : Bool). b && okFrom (suc (end (regionAt xs i))) (drop (i + 1) (decode n xs))) e

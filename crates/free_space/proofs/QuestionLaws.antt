@@ -72,7 +72,7 @@ module _ (what : Measure) (xs : List ℕ) (list : FreeList) where
         let e : regions xs list ≡ [] = ap (λ (n : ℕ). decode n xs) z in
         whole 0 (ap (okFrom 0) e) (sym (ap (greatest (measureOf what)) e))
 
--- ---- a turn of the pass
+-- ---- an iteration of the pass
 
 pub record Passed (what : Measure) (xs : List ℕ) (n i e m : ℕ) : Type 0 where
   pub room : Room xs n
@@ -95,9 +95,9 @@ module _ (what : Measure) (xs : List ℕ) (list : FreeList) (i : ℕ) (r : FreeR
   unfolding next
   measured h = ap (greatest (measureOf what)) (here (list .count) i xs r is l (h .fits))
 
-  pub pass-turn : {e m : ℕ} (k : ℕ) → Passed what xs (list .count) i e m → fitsFrom (suc e) r ≡ true → k ≡ max m (measureOf what r) → Passed what xs (list .count) (i + 1) (end r) k
+  pub pass-step : {e m : ℕ} (k : ℕ) → Passed what xs (list .count) i e m → fitsFrom (suc e) r ≡ true → k ≡ max m (measureOf what r) → Passed what xs (list .count) (i + 1) (end r) k
   unfolding next
-  pass-turn {e} k p t g = record {
+  pass-step {e} k p t g = record {
     room = p .room;
     ok = sym (tested (suc e) true (p .room) t) ∙ p .ok;
     most = omega (arith, g, p .most, measured (p .room));

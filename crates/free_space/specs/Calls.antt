@@ -11,7 +11,7 @@
 --   placed        the same with its refusal 14, which is given only where they do not fit ("a 14 while unused pairs suffice" is wrong)
 --   keeping, giving   the record alone; the record with an address given out
 --   freedRegions, leftRegions   the regions after `free`; after `take_range`
---   taken         the regions after an allocation from the region at a place
+--   without         the regions after an allocation from the region at a place
 --   serve         the outcome of an allocation, by the region that was found: "If its leftovers make a 14, no other region is tried"
 --   lastEndsAt    the last region "ends exactly at the given end of file"
 --   freed         `free`: "length 0 changes nothing. Otherwise touching regions fold into one"; refusals 3, 4, 5, 14
@@ -102,15 +102,15 @@ rangeTaken xs l a len =
 -- ---- allocations
 
 -- len bytes from start on, of the region at i
-abbrev pub taken : List FreeRegion → ℕ → ℕ → ℕ → List FreeRegion
-taken rs i start len = spliced rs i (suc i) (around (getD rs i (region 0 0)) start len)
+abbrev pub without : List FreeRegion → ℕ → ℕ → ℕ → List FreeRegion
+without rs i start len = spliced rs i (suc i) (around (getD rs i (region 0 0)) start len)
 
 -- the region that was found serves from the place that start gives
 abbrev pub serve : (FreeRegion → ℕ) → List ℕ → FreeList → ℕ → Found → Outcome (With Gave (List ℕ))
 serve start xs l len none = nothing
 serve start xs l len (at i span) =
     let from = start (getD (regions xs l) i (region 0 0)) in
-    placed (giving from) xs l (taken (regions xs l) i from len)
+    placed (giving from) xs l (without (regions xs l) i from len)
 
 -- from its front
 unfoldable pub allocated : List ℕ → FreeList → ℕ → Outcome (With Gave (List ℕ))

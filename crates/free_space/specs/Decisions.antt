@@ -4,7 +4,7 @@
 --   ifList     a decision, or refusal 3 where the test for it fails
 --   givenBy    the outcome of a decision, for a call that gives an address out
 --   keptBy     the same for one that gives nothing out
---   Apt        a decision that can be carried out
+--   Applicable        a decision that can be carried out
 --   Gives      a decision with this outcome that can be carried out, for a call that gives an address out
 --   Keeps      the same for one that gives nothing out
 use Prim.Native.Nat.{ℕ, _+_, _-_, _*_, _≤_}
@@ -44,14 +44,14 @@ keptBy xs l (Refused r) = refused r
 keptBy xs l Nothing = answer (with l xs)
 keptBy xs l (Change a lo hi p) = leave keeping xs l (spliced (regions xs l) lo hi (patch p))
 
-abbrev pub Apt : List ℕ → FreeList → Decision → Type 0
-Apt xs l (Refused r) = Unit {0}
-Apt xs l Nothing = Unit {0}
-Apt xs l (Change a lo hi p) =
+abbrev pub Applicable : List ℕ → FreeList → Decision → Type 0
+Applicable xs l (Refused r) = Unit {0}
+Applicable xs l Nothing = Unit {0}
+Applicable xs l (Change a lo hi p) =
     (lo ≤ hi) × (hi ≤ l .count) × (2 * l .count ≤ length xs) × (2 * (lo + length (patch p) + (l .count - hi)) ≤ length xs)
 
 abbrev pub Gives : List ℕ → FreeList → Outcome (With Gave (List ℕ)) → Decision → Type 0
-Gives xs l o d = (givenBy xs l d ≡ o) × Apt xs l d
+Gives xs l o d = (givenBy xs l d ≡ o) × Applicable xs l d
 
 abbrev pub Keeps : List ℕ → FreeList → Outcome (With FreeList (List ℕ)) → Decision → Type 0
-Keeps xs l o d = (keptBy xs l d ≡ o) × Apt xs l d
+Keeps xs l o d = (keptBy xs l d ≡ o) × Applicable xs l d

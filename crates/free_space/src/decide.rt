@@ -8,9 +8,9 @@ ghost use Rattle.pairs.specs.Pairs.{capacity};
 ghost use Rattle.free_regions.specs.Regions.{end, piece, cutAll};
 ghost use Rattle.free_regions.specs.Units.{interiorStart, interiorSpan};
 ghost use Rattle.free_space.specs.Runs.{regionAt, regions, isList};
-ghost use Rattle.free_space.specs.Calls.{placed, keeping, giving, taken, allocated, allocatedUnits, freed, rangeTaken, trailingTaken, partUnit};
+ghost use Rattle.free_space.specs.Calls.{placed, keeping, giving, without, allocated, allocatedUnits, freed, rangeTaken, trailingTaken, partUnit};
 ghost use Rattle.free_space.specs.Splices.{Apart, patch};
-ghost use Rattle.free_space.specs.Decisions.{fitted, ifList, Apt, Gives, Keeps};
+ghost use Rattle.free_space.specs.Decisions.{fitted, ifList, Applicable, Gives, Keeps};
 use crate::check::is_list;
 use crate::fit::Search;
 use crate::fit::best_fit;
@@ -52,7 +52,7 @@ pub(crate) fn change(
     p: Patch,
 ) -> Decision
     requires { ⌜ (lo ≤ hi) × (hi ≤ list .count) × (2 * list .count ≤ length (now run)) ⌝ }
-    ensures { λ d. ⌜ (d ≡ fitted (capacity (now (run .entry))) (list .count) addr lo hi p) × Apt (now (run .entry)) list d ⌝ }
+    ensures { λ d. ⌜ (d ≡ fitted (capacity (now (run .entry))) (list .count) addr lo hi p) × Applicable (now (run .entry)) list d ⌝ }
 {
     let needed = lo + patch_len(p) + (list.count - hi);
     let given = run.len() / 2;
@@ -72,8 +72,8 @@ pub(crate) fn change(
 
 // A decision that looks at no region, after the test for refusal 3.
 fn if_list(run: &[u64], list: FreeList, d: Decision) -> Decision
-    requires { ⌜ Apt (now run) list d ⌝ }
-    ensures { λ r. ⌜ (r ≡ ifList (isList (now (run .entry)) list) d) × Apt (now (run .entry)) list r ⌝ }
+    requires { ⌜ Applicable (now run) list d ⌝ }
+    ensures { λ r. ⌜ (r ≡ ifList (isList (now (run .entry)) list) d) × Applicable (now (run .entry)) list r ⌝ }
 {
     if is_list(run, list) {
         d
@@ -112,7 +112,7 @@ fn edges(addr: u64, a: u64, e: u64, last: u64) -> Patch
 // Takes the `len` bytes from `start` on out of the region `r` at `i`.
 fn take_part(run: &[u64], list: FreeList, i: usize, r: FreeRegion, start: u64, len: u64) -> Decision
     requires { ⌜ (isList (now run) list ≡ true) × (i < list .count) × (r ≡ regionAt (now run) i) × (start + len ≤ end r) ⌝ }
-    ensures { λ d. ⌜ Gives (now (run .entry)) list (placed (giving start) (now (run .entry)) list (taken (regions (now (run .entry)) list) i start len)) d ⌝ }
+    ensures { λ d. ⌜ Gives (now (run .entry)) list (placed (giving start) (now (run .entry)) list (without (regions (now (run .entry)) list) i start len)) d ⌝ }
 {
     change(
         run,
@@ -127,7 +127,7 @@ fn take_part(run: &[u64], list: FreeList, i: usize, r: FreeRegion, start: u64, l
 // The same from the front of the whole units of the region.
 fn take_units(run: &[u64], list: FreeList, i: usize, r: FreeRegion, len: u64, unit: u64) -> Decision
     requires { ⌜ (isList (now run) list ≡ true) × (i < list .count) × (r ≡ regionAt (now run) i) × (0 < len) × (len ≤ interiorSpan unit r) ⌝ }
-    ensures { λ d. ⌜ Gives (now (run .entry)) list (placed (giving (interiorStart unit r)) (now (run .entry)) list (taken (regions (now (run .entry)) list) i (interiorStart unit r) len)) d ⌝ }
+    ensures { λ d. ⌜ Gives (now (run .entry)) list (placed (giving (interiorStart unit r)) (now (run .entry)) list (without (regions (now (run .entry)) list) i (interiorStart unit r) len)) d ⌝ }
 {
     let w = whole_units(r, unit);
     take_part(run, list, i, r, w.start, len)

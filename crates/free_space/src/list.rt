@@ -9,7 +9,7 @@ ghost use Rattle.free_regions.specs.Regions.{spliced};
 ghost use Rattle.free_space.specs.Runs.{recordOf, regions, stored};
 ghost use Rattle.free_space.specs.Calls.{keptOutcome, givenOutcome, freed, allocated, allocatedUnits, rangeTaken, trailingTaken};
 ghost use Rattle.free_space.specs.Splices.{patch};
-ghost use Rattle.free_space.specs.Decisions.{givenBy, keptBy, Apt};
+ghost use Rattle.free_space.specs.Decisions.{givenBy, keptBy, Applicable};
 use crate::decide::Decision;
 use crate::decide::decide_alloc;
 use crate::decide::decide_free;
@@ -111,7 +111,7 @@ fn apply(run: &mut [u64], list: FreeList, lo: usize, hi: usize, p: Patch) -> Fre
 
 // Carries out a decision of a call that gives an address out.
 fn give(run: &mut [u64], list: FreeList, d: Decision) -> Given
-    requires { ⌜ Apt (now run) list d ⌝ }
+    requires { ⌜ Applicable (now run) list d ⌝ }
     ensures { λ r. ⌜ left (givenOutcome r) (now (run .exit)) ≡ leaving (now (run .entry)) (givenBy (now (run .entry)) list d) ⌝ }
 {
     match d {
@@ -131,7 +131,7 @@ fn give(run: &mut [u64], list: FreeList, d: Decision) -> Given
 
 // The same for one that gives nothing out.
 fn keep(run: &mut [u64], list: FreeList, d: Decision) -> Kept
-    requires { ⌜ Apt (now run) list d ⌝ }
+    requires { ⌜ Applicable (now run) list d ⌝ }
     ensures { λ r. ⌜ left (keptOutcome r) (now (run .exit)) ≡ leaving (now (run .entry)) (keptBy (now (run .entry)) list d) ⌝ }
 {
     match d {

@@ -127,9 +127,9 @@ module _ (s : List ℕ) (w : Widths) (total : ℕ) where
         pub past : length s - at - headSize w < count * (w .addresses + 1) → refused InvalidManager ≡ counted (parseGroups w total s)
         past c = refuses (refused-at s w some at left p f count read (inr (rw add-one at c)))
 
-        pub turn : count ≤ left → count * (w .addresses + 1) ≤ length s - at - headSize w
+        pub iteration : count ≤ left → count * (w .addresses + 1) ≤ length s - at - headSize w
             → Scan s w total (at + headSize w + count * (w .addresses + 1)) (left - count)
-        turn c e = rw add-one (record {
+        iteration c e = rw add-one (record {
           within = omega (arith, now .within);
           few = omega (arith, now .few);
           same =

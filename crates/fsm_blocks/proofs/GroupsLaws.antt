@@ -15,7 +15,7 @@ use Rattle.fields.proofs.LeLaws.{length-le}
 use Rattle.fsm_sections.specs.declared.FreeSection.{FreeSection}
 use Rattle.fsm_sections.specs.Sections.{bySizeThenAddr, Group, addrs, count, push, groupsOf, withSize, ungroup, All}
 use Rattle.fsm_sections.proofs.SectionsLaws.{all-sorted, length-sorted, ungroup-groupsOf, length-withSize}
-use Rattle.fsm_blocks.specs.Groups.{Widths, SectionFits, entryBytes, groupBytes, entrySize, headSize, behind, readEntries, readMore, readGroups, parseGroups}
+use Rattle.fsm_blocks.specs.Groups.{Widths, SectionFits, entryBytes, groupBytes, entrySize, headSize, inFront, readEntries, readMore, readGroups, parseGroups}
 use Rattle.fields.proofs.LayoutLaws.{leAt-le}
 use Rattle.fsm_blocks.proofs.ScanLaws.{readGroups-zero, readGroups-suc}
 
@@ -45,7 +45,7 @@ module _ (w : Widths) where
   -- ---- reading back
 
   entry-read : (class a c left : ℕ) (rest : List ℕ) → a < 256 ^ (w .addresses)
-      → readEntries w (suc c) (suc left) (leBytes (w .addresses) a ++ class ∷ rest) ≡ andThen (readEntries w c left rest) (behind w a)
+      → readEntries w (suc c) (suc left) (leBytes (w .addresses) a ++ class ∷ rest) ≡ andThen (readEntries w c left rest) (inFront w a)
   unfolding readEntries firstOf
   entry-read class a c left rest h =
       let fits : entrySize w ≤ length (leBytes (w .addresses) a ++ class ∷ rest) = simp (length-append, length-le) (omega arith) in

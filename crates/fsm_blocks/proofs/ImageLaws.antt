@@ -12,7 +12,7 @@ use Rattle.fsm_sections.specs.declared.FreeSection.{FreeSection}
 use Rattle.fsm_sections.specs.Sections.{bySizeThenAddr, All}
 use Rattle.fsm_blocks.specs.Groups.{SectionFits}
 use Rattle.fsm_blocks.specs.Fshd.{fshdRow, fshdSize, fshdBytes, parseFshd}
-use Rattle.fsm_blocks.specs.Managers.{Settings, widthsFor, fsseUsed, headerFor, fsseFor}
+use Rattle.fsm_blocks.specs.Settings.{Settings, widthsFor, fsseUsed, headerFor, fsseFor}
 use Rattle.fsm_blocks.specs.Reading.{readNamed, readManager, readSlots}
 use Rattle.fsm_blocks.proofs.WrittenLaws.{length-fshd, length-fsse, fshd-read, fsse-read}
 

@@ -16,7 +16,7 @@ use Rattle.fields.specs.Layout.{leAt}
 use Rattle.fsm_sections.specs.declared.FreeSection.{FreeSection}
 use Rattle.fsm_sections.specs.Sections.{withSize}
 use Rattle.fsm_sections.proofs.SectionsLaws.{length-withSize}
-use Rattle.fsm_blocks.specs.Groups.{Widths, Entries, entrySize, headSize, behind, readEntries, readMore, readGroups, parseGroups}
+use Rattle.fsm_blocks.specs.Groups.{Widths, Entries, entrySize, headSize, inFront, readEntries, readMore, readGroups, parseGroups}
 use Rattle.fsm_blocks.specs.Parts.{addresses}
 use Rattle.fsm_blocks.proofs.ThenLaws.{Holds, holds-when, holds-then, then-cong, when-cong}
 
@@ -43,7 +43,7 @@ module _ (w : Widths) where
   entries-shrink (suc c) zero bs = tt
   entries-shrink (suc c) (suc left) bs =
       holds-when _ (ltb (length bs) (entrySize w)) InvalidManager _
-      (holds-then (λ (e : Entries). length (e .rest) ≤ length bs) (readEntries w c left (drop (entrySize w) bs)) (behind w (leAt 0 (w .addresses) bs))
+      (holds-then (λ (e : Entries). length (e .rest) ≤ length bs) (readEntries w c left (drop (entrySize w) bs)) (inFront w (leAt 0 (w .addresses) bs))
       (entries-shrink c left (drop (entrySize w) bs)) (λ e h. le-trans h (rw (length-drop (entrySize w) bs) (omega arith))))
 
   -- ---- as many sections are read as are asked for
@@ -54,7 +54,7 @@ module _ (w : Widths) where
   entries-many (suc c) zero bs = tt
   entries-many (suc c) (suc left) bs =
       holds-when _ (ltb (length bs) (entrySize w)) InvalidManager _
-      (holds-then (λ (e : Entries). length (e .found) + e .left ≡ suc left) (readEntries w c left (drop (entrySize w) bs)) (behind w (leAt 0 (w .addresses) bs))
+      (holds-then (λ (e : Entries). length (e .found) + e .left ≡ suc left) (readEntries w c left (drop (entrySize w) bs)) (inFront w (leAt 0 (w .addresses) bs))
       (entries-many c left (drop (entrySize w) bs)) (λ e h. omega arith))
 
   pub groups-many : (fuel left : ℕ) (bs : List ℕ) → Holds (λ (l : List FreeSection). length l ≡ left) (readGroups w fuel left bs)
@@ -126,7 +126,7 @@ module _ (w : Widths) where
   entries-beyond (suc c) (suc left) bs h = pick (ltb (length bs) (entrySize w)) (entries-beyond c left (drop (entrySize w) bs) (le-of-suc-le-suc h))
     where
       pick : (b : Bool) → readEntries w c left (drop (entrySize w) bs) ≡ refused InvalidManager
-          → firstOf (when b InvalidManager ∷ []) (andThen (readEntries w c left (drop (entrySize w) bs)) (behind w (leAt 0 (w .addresses) bs))) ≡ refused InvalidManager
+          → firstOf (when b InvalidManager ∷ []) (andThen (readEntries w c left (drop (entrySize w) bs)) (inFront w (leAt 0 (w .addresses) bs))) ≡ refused InvalidManager
       pick true e = refl
       pick false e = rw e
 
@@ -141,7 +141,7 @@ module _ (w : Widths) where
       shorter l = rw length-drop (omega arith)
 
       pick : (b : Bool) → (b ≡ false → readEntries w c left (drop (entrySize w) bs) ≡ refused InvalidManager)
-          → firstOf (when b InvalidManager ∷ []) (andThen (readEntries w c left (drop (entrySize w) bs)) (behind w (leAt 0 (w .addresses) bs))) ≡ refused InvalidManager
+          → firstOf (when b InvalidManager ∷ []) (andThen (readEntries w c left (drop (entrySize w) bs)) (inFront w (leAt 0 (w .addresses) bs))) ≡ refused InvalidManager
       pick true e = refl
       pick false e = rw (e refl)
 

@@ -101,7 +101,7 @@ length-joined : (l : List FreeSection) (ls : List (List FreeSection)) → length
 unfolding joined
 length-joined l ls = length-append l (joined ls)
 
--- one manager's count added, the sum is that of the managers behind it
+-- one manager's count added, the sum is that of the managers after it
 add-up : (needed n m : ℕ) (l : List FreeSection) (ls : List (List FreeSection)) → length l ≡ n → m ≡ sat (needed + n)
     → sat (needed + length (joined (l ∷ ls))) ≡ sat (m + length (joined ls))
 unfolding sat

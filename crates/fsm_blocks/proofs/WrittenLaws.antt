@@ -26,7 +26,7 @@ use Rattle.fsm_blocks.proofs.BytesLaws.{field-at}
 use Rattle.fsm_blocks.proofs.GroupsLaws.{length-groups, parse-written}
 use Rattle.fsm_blocks.proofs.FsseLaws.{fsse-groups}
 
--- ---- the checksum: it stands in the last four bytes, behind what it is the checksum of
+-- ---- the checksum: it stands in the last four bytes, after what it is the checksum of
 
 module _ (sum : List ℕ → ℕ) (body : List ℕ) where
   pub length-sealed : length (sealed sum body) ≡ length body + 4

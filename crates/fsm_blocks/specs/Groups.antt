@@ -7,7 +7,7 @@
 --   groupBytes    groups: count, size, entries ("A group is a count", "a size (8), then address (O) and class byte for each")
 --   entrySize, headSize   how many bytes an entry takes; a count with its size
 --   Entries       the addresses of some entries, how many sections are still to come, and the bytes left
---   behind        an entry's address before those of the entries after it
+--   after        an entry's address before those of the entries after it
 --   readEntries   c entries where `left` sections are still to come: "A group head or entry that passes the payload, or an entry beyond the
 --                 total, is 10"
 --   readMore      the sections of a group before those read after it
@@ -60,15 +60,15 @@ module _ (w : Widths) where
   abbrev pub headSize : ℕ
   headSize = w .counts + w .sizes
 
-  abbrev pub behind : ℕ → Entries → Outcome Entries
-  behind a e = answer (record { found = a ∷ e .found; left = e .left; rest = e .rest })
+  abbrev pub inFront : ℕ → Entries → Outcome Entries
+  inFront a e = answer (record { found = a ∷ e .found; left = e .left; rest = e .rest })
 
   unfoldable pub readEntries : ℕ → ℕ → List ℕ → Outcome Entries
   readEntries zero left bs = answer (record { found = []; left = left; rest = bs })
   readEntries (suc c) zero bs = refused InvalidManager
   readEntries (suc c) (suc left) bs =
       firstOf (when (ltb (length bs) entrySize) InvalidManager ∷ [])
-      (andThen (readEntries c left (drop entrySize bs)) (behind (leAt 0 (w .addresses) bs)))
+      (andThen (readEntries c left (drop entrySize bs)) (inFront (leAt 0 (w .addresses) bs)))
 
   abbrev pub readMore : ℕ → List ℕ → Outcome (List FreeSection) → Outcome (List FreeSection)
   readMore size found r = andThen r (λ l. answer (withSize size found ++ l))

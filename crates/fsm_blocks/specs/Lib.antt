@@ -1,7 +1,7 @@
 pub mod Fshd
 pub mod Groups
 pub mod Fsse
-pub mod Managers
+pub mod Settings
 pub mod Reading
 pub mod Answers
 pub mod Parts

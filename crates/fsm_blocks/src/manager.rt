@@ -102,7 +102,7 @@ pub fn manager_count(bytes: &[u8], slot: u64, base: BaseAddress, offset_size: u8
     }
 }
 
-// Puts the sections of an accepted manager into the run, and gives the place behind them.
+// Puts the sections of an accepted manager into the run, and gives the place after them.
 pub(crate) fn put_manager(
     bytes: &[u8],
     slot: u64,

@@ -20,7 +20,7 @@ use Rattle.fields.specs.Width.{validWidth, leastFrom, encSize}
 use Rattle.fields.proofs.WidthLaws.{encSize-least}
 use Rattle.fsm_sections.specs.declared.FreeSection.{FreeSection}
 use Rattle.fsm_sections.specs.Sections.{section, space, ofSize, distinct}
-use Rattle.fsm_blocks.specs.Managers.{Settings, startingSet, fsseUsed}
+use Rattle.fsm_blocks.specs.Settings.{Settings, startingSet, fsseUsed}
 use Rattle.fsm_lengths.specs.Lengths.{unplaced, fsseLen}
 
 -- ---- few sizes: those below a bound are no more than the bound, each other one adds the bound to the sum

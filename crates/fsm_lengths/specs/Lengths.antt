@@ -12,7 +12,7 @@ use Rattle.fields.specs.Ranges.{top}
 use Rattle.fields.specs.Width.{validWidth}
 use Rattle.fsm_sections.specs.declared.FreeSection.{FreeSection}
 use Rattle.fsm_sections.specs.Sections.{section, space}
-use Rattle.fsm_blocks.specs.Managers.{startingSet, fsseUsed}
+use Rattle.fsm_blocks.specs.Settings.{startingSet, fsseUsed}
 
 abbrev pub unplaced : List ℕ → List FreeSection
 unplaced zs = map (section 0) zs

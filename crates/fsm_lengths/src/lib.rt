@@ -7,7 +7,7 @@ ghost use lib.ListN.{length, drop};
 ghost use Rattle.error.specs.Answers.{numberOutcome};
 ghost use Rattle.fields.specs.Ranges.{top};
 ghost use Rattle.fsm_sections.specs.Sections.{space, ofSize, distinct};
-ghost use Rattle.fsm_blocks.specs.Managers.{startingSet, fsseUsed};
+ghost use Rattle.fsm_blocks.specs.Settings.{startingSet, fsseUsed};
 ghost use Rattle.fsm_lengths.specs.Lengths.{unplaced, fsseLen};
 use error::Number;
 use error::Refusal;
@@ -31,7 +31,7 @@ fn sum_overflows(sizes: &[u64]) -> bool
     false
 }
 
-// Whether a size stands at `from` or behind it.
+// Whether a size stands at `from` or after it.
 fn comes(sizes: &[u64], from: usize, z: u64) -> bool
     requires { ⌜ from ≤ length (now sizes) ⌝ }
     ensures { λ r. ⌜ r ≡ ltb 0 (ofSize z (unplaced (drop from (now (sizes .entry))))) ⌝ }

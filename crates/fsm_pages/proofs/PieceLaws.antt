@@ -46,9 +46,9 @@ count-from (suc fuel) page a e p h l =
         let n : (e - 1) / page < suc (a / page) = div-lt-iff-lt-mul {k = page} {x = e - 1} {y = suc (a / page)} p .1 (omega arith) in
         omega arith
 
--- how many pieces come behind the first
-abbrev pub behind : ℕ → ℕ → ℕ → ℕ
-behind page addr size = length (pieces page (section addr size)) - 1
+-- how many pieces come after the first
+abbrev pub piecesAfter : ℕ → ℕ → ℕ → ℕ
+piecesAfter page addr size = length (pieces page (section addr size)) - 1
 
 module _ (page addr size : ℕ) (p : 0 < page) where
   empty : size ≡ 0 → length (pieces page (section addr size)) ≡ 0
@@ -62,22 +62,22 @@ module _ (page addr size : ℕ) (p : 0 < page) where
       let e : addr + size - 1 ≡ addr + (size - 1) = omega arith in
       count-from size page addr (addr + size) p (omega arith) (omega arith) ∙ ap (λ (x : ℕ). x / page - addr / page + 1) e
 
-  pub pieces-number : length (pieces page (section addr size)) ≡ min size 1 + behind page addr size
+  pub pieces-number : length (pieces page (section addr size)) ≡ min size 1 + piecesAfter page addr size
   pieces-number = ⊎-elim (λ (x : 0 < size). omega (arith, some (λ e. omega arith))) (λ (x : size ≤ 0). omega (arith, empty (omega arith))) (below-or-not 0 size)
 
-  pub behind-none : size ≤ page - addr % page → behind page addr size ≡ 0
-  behind-none h = ⊎-elim one (λ (x : size ≤ 0). omega (arith, empty (omega arith))) (below-or-not 0 size)
+  pub none-after : size ≤ page - addr % page → piecesAfter page addr size ≡ 0
+  none-after h = ⊎-elim one (λ (x : size ≤ 0). omega (arith, empty (omega arith))) (below-or-not 0 size)
     where
-      one : 0 < size → behind page addr size ≡ 0
+      one : 0 < size → piecesAfter page addr size ≡ 0
       one x =
           let e : addr + (size - 1) ≡ addr / page * page + (addr % page + (size - 1)) = omega (arith, div-add-mod' addr page) in
           let z : (addr % page + (size - 1)) / page ≡ 0 = div-eq-of-lt (omega (arith, mod-lt addr p)) in
           let q : (addr + (size - 1)) / page ≡ addr / page + (addr % page + (size - 1)) / page = ap (λ (n : ℕ). n / page) e ∙ mul-add-div-right p (addr / page) (addr % page + (size - 1)) in
           omega (arith, some (λ e. omega arith))
 
-  -- those behind the first page multiple
-  pub behind-some : page - addr % page < size → behind page addr size ≡ 1 + (size - (page - addr % page) - 1) / page
-  behind-some h =
+  -- those after the first page multiple
+  pub after-some : page - addr % page < size → piecesAfter page addr size ≡ 1 + (size - (page - addr % page) - 1) / page
+  after-some h =
       let d = size - (page - addr % page) - 1 in
       let e : addr + (size - 1) ≡ (addr / page + 1) * page + d = omega (arith, div-add-mod' addr page, mod-lt addr p) in
       let q : (addr + (size - 1)) / page ≡ addr / page + 1 + d / page = ap (λ (n : ℕ). n / page) e ∙ mul-add-div-right p (addr / page + 1) d in

@@ -18,9 +18,9 @@ module _ (n : ℕ) (xs : List ℕ) (room : 2 * n ≤ length xs) where
   pub above-found : (i : ℕ) → i < n → top - sectionAt xs i .size < sectionAt xs i .addr → endsAbove (drop i (decode n xs)) ≡ endsAbove (decode n xs) → true ≡ endsAbove (decode n xs)
   above-found i h o p = sym (ap endsAbove (decode-drop section n i xs h room) ∙ rw (lt-ltb top (end (sectionAt xs i)) (omega arith))) ∙ p
 
-  pub above-turn : (i : ℕ) → i < n → sectionAt xs i .addr ≤ top - sectionAt xs i .size → sectionAt xs i .size ≤ top → endsAbove (drop i (decode n xs)) ≡ endsAbove (decode n xs)
+  pub above-step : (i : ℕ) → i < n → sectionAt xs i .addr ≤ top - sectionAt xs i .size → sectionAt xs i .size ≤ top → endsAbove (drop i (decode n xs)) ≡ endsAbove (decode n xs)
       → endsAbove (drop (i + 1) (decode n xs)) ≡ endsAbove (decode n xs)
-  above-turn i h o b p = sym (ap endsAbove (decode-drop section n i xs h room) ∙ rw (le-ltb top (end (sectionAt xs i)) (omega arith))) ∙ p
+  above-step i h o b p = sym (ap endsAbove (decode-drop section n i xs h room) ∙ rw (le-ltb top (end (sectionAt xs i)) (omega arith))) ∙ p
 
   pub above-none : (i : ℕ) → n ≤ i → endsAbove (drop i (decode n xs)) ≡ endsAbove (decode n xs) → false ≡ endsAbove (decode n xs)
   above-none i h p = ap endsAbove (sym (decode-end section n i xs h room)) ∙ p

@@ -22,8 +22,8 @@ use Rattle.fsm_sections.specs.Pages.{pieces, split}
 use Rattle.fsm_blocks.specs.Reading.{intoRun}
 use Rattle.fsm_sections.specs.Runs.{endsAbove}
 use Rattle.fsm_pages.specs.Split.{splitTests, splitCount, splitInto}
-use Rattle.fsm_pages.proofs.RunLaws.{above-found, above-turn, above-none, fits-at}
-use Rattle.fsm_pages.proofs.PieceLaws.{behind, pieces-number, behind-none, behind-some}
+use Rattle.fsm_pages.proofs.RunLaws.{above-found, above-step, above-none, fits-at}
+use Rattle.fsm_pages.proofs.PieceLaws.{piecesAfter, pieces-number, none-after, after-some}
 use Rattle.fsm_sections.proofs.SectionsLaws.{section-form}
 
 module _ (page n : ℕ) (xs : List ℕ) where
@@ -31,7 +31,7 @@ module _ (page n : ℕ) (xs : List ℕ) where
   abbrev pub from : ℕ → List FreeSection
   from i = split page (drop i (decode n xs))
 
-  -- at the head of the loop that counts: the sections that are not empty, and the pieces behind their first ones
+  -- at the head of the loop that counts: the sections that are not empty, and the pieces after their first ones
   pub record Counting (some more i : ℕ) : Type 0 where
     pub within : i ≤ n
     pub above : endsAbove (drop i (decode n xs)) ≡ endsAbove (decode n xs)
@@ -83,29 +83,29 @@ module _ (page n : ℕ) (xs : List ℕ) (room : 2 * n ≤ length xs) where
       size = sectionAt xs i .size
 
       abbrev Added : ℕ → Type 0
-      Added m = m ≡ sat (more + behind page addr size)
+      Added m = m ≡ sat (more + piecesAfter page addr size)
 
-      -- the pieces behind the first are added where there are any
+      -- the pieces after the first are added where there are any
       module _ (space : ℕ) (e : space ≡ page - addr % page) where
         pub count-more : space < size → (q m : ℕ) → q ≡ (size - space - 1) / page → m ≡ sat (more + (1 + q)) → Added m
         count-more l q m f g =
-            g ∙ ap (λ (x : ℕ). sat (more + (1 + x))) (f ∙ ap (λ (x : ℕ). (size - x - 1) / page) e) ∙ ap (λ (x : ℕ). sat (more + x)) (sym (behind-some page addr size p (omega arith)))
+            g ∙ ap (λ (x : ℕ). sat (more + (1 + x))) (f ∙ ap (λ (x : ℕ). (size - x - 1) / page) e) ∙ ap (λ (x : ℕ). sat (more + x)) (sym (after-some page addr size p (omega arith)))
 
         pub count-same : size ≤ space → (m : ℕ) → m ≡ more → Added m
         unfolding sat
-        count-same l m f = omega (arith, now .low, behind-none page addr size p (omega arith))
+        count-same l m f = omega (arith, now .low, none-after page addr size p (omega arith))
 
       pub count-step : (s m : ℕ) → s ≡ some + min size 1 → Added m → addr ≤ top - size → size ≤ top → Counting page n xs s m (i + 1)
       count-step s m e f o b =
           let more′ = from page n xs (i + 1) in
-          let q : length (from page n xs i) ≡ min size 1 + behind page addr size + length more′ =
+          let q : length (from page n xs i) ≡ min size 1 + piecesAfter page addr size + length more′ =
           ap length (from-more i h) ∙ length-append (pieces page (sectionAt xs i)) more′ ∙ ap (λ (x : ℕ). x + length more′) (pieces-number page addr size p) in
           record {
             within = omega arith;
-            above = above-turn n xs room i h o b (now .above);
+            above = above-step n xs room i h o b (now .above);
             few = omega (arith, now .few);
-            low = rw f (sat-low (more + behind page addr size));
-            number = rw (e, f) (carried some more (min size 1) (behind page addr size) (length more′)) ∙ ap (λ (x : ℕ). sat (some + more + x)) (sym q) ∙ now .number;
+            low = rw f (sat-low (more + piecesAfter page addr size));
+            number = rw (e, f) (carried some more (min size 1) (piecesAfter page addr size) (length more′)) ∙ ap (λ (x : ℕ). sat (some + more + x)) (sym q) ∙ now .number;
           }
 
     pub count-end : n ≤ i → (m : ℕ) → m ≡ sat (some + more)
@@ -194,18 +194,18 @@ module _ (xs : List ℕ) (n page : ℕ) (out : List ℕ) where
       pick false = refl
 
   module _ (even : length out % 2 ≡ 0) where
-    behind-tests : splitInto xs n page out ≡ firstOf (splitTests xs n page) (intoRun out (split page (decode n xs)))
+    after-tests : splitInto xs n page out ≡ firstOf (splitTests xs n page) (intoRun out (split page (decode n xs)))
     unfolding splitInto firstOf
-    behind-tests = rw (eq-eqb (length out % 2) 0 even)
+    after-tests = rw (eq-eqb (length out % 2) 0 even)
 
     pub split-refused : (r : Refusal) → refused r ≡ splitCount xs n page → left (refused r) out ≡ leaving out (splitInto xs n page out)
     unfolding splitCount
     split-refused r e =
-        ap (leaving out) (first-refuses (splitTests xs n page) (sat (length (split page (decode n xs)))) r (intoRun out (split page (decode n xs))) e ∙ sym behind-tests)
+        ap (leaving out) (first-refuses (splitTests xs n page) (sat (length (split page (decode n xs)))) r (intoRun out (split page (decode n xs))) e ∙ sym after-tests)
 
     module _ (m : ℕ) (s : Splits xs n page m) where
       is-run : splitInto xs n page out ≡ intoRun out (split page (decode n xs))
-      is-run = behind-tests ∙ first-pass (splitTests xs n page) (intoRun out (split page (decode n xs))) (s .passed)
+      is-run = after-tests ∙ first-pass (splitTests xs n page) (intoRun out (split page (decode n xs))) (s .passed)
 
       pub split-over : length out / 2 < m → left (refused (OverCapacity m (length out / 2))) out ≡ leaving out (splitInto xs n page out)
       unfolding firstOf sat

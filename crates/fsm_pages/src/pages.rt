@@ -34,7 +34,7 @@ fn room_in(page: u64, addr: u64) -> u64
     page - remainder(addr, page)
 }
 
-// How many pieces all sections have, at most 2^64 - 1: one of each that is not empty, and those behind the first page multiple.
+// How many pieces all sections have, at most 2^64 - 1: one of each that is not empty, and those after the first page multiple.
 fn pieces_in(sections: &[u64], count: usize, page: u64) -> Number
     requires page { ⌜ 0 < page ⌝ }
     requires room { ⌜ 2 * count ≤ length (now sections) ⌝ }
@@ -74,7 +74,7 @@ pub fn split_count(sections: &[u64], count: usize, page: u64) -> Number
     pieces_in(sections, count, page)
 }
 
-// Puts the pieces of a section into the run, and gives the place behind them.
+// Puts the pieces of a section into the run, and gives the place after them.
 fn put_pieces(page: u64, addr: u64, size: u64, out: &mut [u64], from: usize) -> usize
     requires fits { ⌜ (0 < page) × (addr + size < 2 ^ 64) ⌝ }
     requires room { ⌜ from + 2 * length (pieces page (section addr size)) ≤ length (now out) ⌝ }

@@ -191,8 +191,8 @@ module _ (page n : ℕ) (xs : List ℕ) (room : 2 * n ≤ length xs) where
       pub any-wide-found : t ≡ true → true ≡ anyWide o (split page (decode n xs))
       any-wide-found g = or-decides t _ (anyWide o (after (i + 1))) f g ∙ open-wide
 
-      pub any-wide-turn : t ≡ false → anyWide o (after (i + 1)) ≡ anyWide o (split page (decode n xs))
-      any-wide-turn g = or-leaves t _ (anyWide o (after (i + 1))) f g ∙ open-wide
+      pub any-wide-step : t ≡ false → anyWide o (after (i + 1)) ≡ anyWide o (split page (decode n xs))
+      any-wide-step g = or-leaves t _ (anyWide o (after (i + 1))) f g ∙ open-wide
 
     pub any-wide-end : n ≤ i → false ≡ anyWide o (split page (decode n xs))
     unfolding anyOf
@@ -236,9 +236,9 @@ module _ (page n : ℕ) (xs : List ℕ) where
     pub paging-start : endsAbove (decode n xs) ≡ false → Paging 0 0
     paging-start h = record { within = omega arith; fits = h; few = omega arith; number = let e : 0 + pages 0 ≡ pages 0 = omega arith in ap sat e }
 
-    pub paging-turn : (m i : ℕ) → Paging m i → i < n → (c : Chain) (r : ℕ) → c ≡ partOf Pages page (sectionAt xs i) → r ≡ sat (m + c .count) → Paging r (i + 1)
+    pub paging-step : (m i : ℕ) → Paging m i → i < n → (c : Chain) (r : ℕ) → c ≡ partOf Pages page (sectionAt xs i) → r ≡ sat (m + c .count) → Paging r (i + 1)
     unfolding sat
-    paging-turn m i q h c r e f =
+    paging-step m i q h c r e f =
         let g : c .count ≡ partOf Pages page (sectionAt xs i) .count = ap (λ (x : Chain). x .count) e in
         record { within = omega arith; fits = fits-at n xs room i h (q .fits) .1; few = omega arith; number = omega (arith, q .number, pages-more i h) }
 

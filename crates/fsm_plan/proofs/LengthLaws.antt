@@ -1,4 +1,4 @@
--- The lengths of the three slots' blocks, behind the tests of the runs. Assumes nothing.
+-- The lengths of the three slots' blocks, after the tests of the runs. Assumes nothing.
 use mathlib.Core.Path.{_≡_, refl, sym, ap, _∙_}
 use Prim.Native.Nat.{ℕ, _+_, _≤_}
 use native.Mathlib.Omega.{arith}
@@ -155,7 +155,7 @@ module _ (xs : List ℕ) (n : ℕ) (ys : List ℕ) (m : ℕ) (zs : List ℕ) (k 
       tested =
           let p = accepted .0 in
           let q : NoneHolds tests = (p .0, (p .1 .0, (p .1 .1 .0, (p .1 .1 .1 .0, tt)))) in
-          tests-show xs n ys m zs k page O checked.Fine (sym (first-pass tests (answer tt) q)) refl
+          tests-show xs n ys m zs k page O checked.Passed (sym (first-pass tests (answer tt) q)) refl
 
       none-above : (rs : List FreeSection) → All (λ r. end r ≤ top) rs → endsAbove rs ≡ false
       none-above [] a = refl

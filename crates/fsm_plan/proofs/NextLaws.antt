@@ -64,7 +64,7 @@ cut-fits s a b c g i j k x (inl p) n = subst (λ (y : Region). y .addr + y .size
 cut-fits s a b c g i j k x (inr (inl p)) n = subst (λ (y : Region). y .addr + y .size < 2 ^ 64) (sym (p .1)) (fits-b (sourceOf s) a b c g j (p .0))
 cut-fits s a b c g i j k x (inr (inr p)) n = absurd (n (ap (λ (y : Region). y .run) (p .1)))
 
--- an address in what is left: in the chain that is taken, or behind it
+-- an address in what is left: in the chain that is taken, or after it
 pub take-at : (s : Counts) (a b c : List ℕ) (i j k : ℕ) (t : Taken) → Next s a b c i j k t → (x : ℕ)
     → atAddr x (rest (sourceOf s) a b c i j k) ≡ atAddr x (chainOf t) + atAddr x (rest (sourceOf s) a b c (t .i) (t .j) (t .k))
 take-at s a b c i j k t n x =

@@ -1,4 +1,4 @@
--- The plan behind the tests: numbers of sections, addresses, and the branches of the code. Assumes nothing.
+-- The plan after the tests: numbers of sections, addresses, and the branches of the code. Assumes nothing.
 use mathlib.Core.Path.{_≡_, sym, ap, ap₂, _∙_, subst}
 use mathlib.Core.Logic.{⊎-elim}
 use Prim.Native.Nat.{ℕ, _+_, _-_, _*_, _/_, _%_, _≤_, _<_}
@@ -30,7 +30,7 @@ use Rattle.fsm_plan.specs.declared.plan.Lengths.{Lengths}
 use Rattle.fsm_plan.specs.declared.plan.SectionCounts.{SectionCounts}
 use Rattle.fsm_plan.specs.declared.plan.PagedManagerPlan.{PagedManagerPlan}
 use Rattle.fsm_plan.specs.Order.{byAddr, repeats, inSlot6}
-use Rattle.fsm_plan.specs.Plan.{addressIn, endAt, planAt, wideBlock, wideBlocks, Placed, lengthsAre, countsAre, planTotal, planBehind, planned, lengthsTests, inSlot0, inSlot2, inLarge, Ready}
+use Rattle.fsm_plan.specs.Plan.{addressIn, endAt, planAt, wideBlock, wideBlocks, Placed, lengthsAre, countsAre, planTotal, planAfter, planned, lengthsTests, inSlot0, inSlot2, inLarge, Ready}
 use Rattle.fsm_plan.proofs.AllPiecesLaws.{length-parts, wide-mono}
 use Rattle.fsm_sections.proofs.SectionsLaws.{section-form}
 
@@ -125,7 +125,7 @@ module _ (s : Counts) (a b c : List ℕ) (out : List ℕ) where
             ∙ ap₂ (λ (i : ℕ) (m : List ℕ). over i (flat (s2 ++ q)) m) ke xe
             ∙ over-flat section-form 0 s0 (s2 ++ q) out
 
--- ---- `plan_behind`, by its branches
+-- ---- `plan_after`, by its branches
 
 length-size : (O : ℕ) (l : List FreeSection) → 1 ≤ O → length l ≤ blocksSize O l
 length-size O l h = ⊎-elim (λ (p : length l ≤ 0). omega arith) (λ (p : 0 < length l). omega (arith, size-least O l h (λ z. omega arith))) (le-or-lt (length l) 0)
@@ -143,16 +143,16 @@ module _ (s : Counts) (a b c : List ℕ) (O start : ℕ) (l : Lengths) (out : Li
   abbrev l6 : List FreeSection
   l6 = inLarge s a b c
 
-  abbrev behind : Outcome (With PagedManagerPlan (List ℕ))
-  behind = planBehind O l0 l2 l6 start out
+  abbrev afterTests : Outcome (With PagedManagerPlan (List ℕ))
+  afterTests = planAfter O l0 l2 l6 start out
 
   module _ (t : Bool) (te : t ≡ ltb top (endAt start l)) where
     late-is : t ≡ ltb top (endAt start (lengthsAre O l0 l2 l6))
     late-is = te ∙ ap (λ (x : Lengths). ltb top (endAt start x)) (h .lengths)
 
-    pub behind-late : t ≡ true → left (refused Overflow) out ≡ leaving out behind
-    unfolding planBehind
-    behind-late e = ap (leaving out) (sym (first-holds _ Overflow _ _ (sym late-is ∙ e)))
+    pub after-late : t ≡ true → left (refused Overflow) out ≡ leaving out afterTests
+    unfolding planAfter
+    after-late e = ap (leaving out) (sym (first-holds _ Overflow _ _ (sym late-is ∙ e)))
 
     module _ (tf : t ≡ false) where
       in-time : endAt start (lengthsAre O l0 l2 l6) ≤ top
@@ -175,9 +175,9 @@ module _ (s : Counts) (a b c : List ℕ) (O start : ℕ) (l : Lengths) (out : Li
       shared-next : {t2 : Bool} → t2 ≡ repeats (inSlot6 s a b c) → t2 ≡ repeats l6
       shared-next e = e ∙ ap repeats (large-is s a b c out (h .given .some))
 
-      pub behind-shared : (t2 : Bool) → t2 ≡ repeats (inSlot6 s a b c) → t2 ≡ true → left (refused SharedAddress) out ≡ leaving out behind
-      unfolding planBehind
-      behind-shared t2 e f =
+      pub after-shared : (t2 : Bool) → t2 ≡ repeats (inSlot6 s a b c) → t2 ≡ true → left (refused SharedAddress) out ≡ leaving out afterTests
+      unfolding planAfter
+      after-shared t2 e f =
           ap (leaving out) (sym (first-passes _ Overflow _ _ (sym late-is ∙ tf) ∙ first-holds _ SharedAddress _ _ (sym (shared-next e) ∙ f)))
 
       module _ (n : SectionCounts) (n0e : n .n0 ≡ length l0) (n2e : n .n2 ≡ length l2)
@@ -185,8 +185,8 @@ module _ (s : Counts) (a b c : List ℕ) (O start : ℕ) (l : Lengths) (out : Li
         counts-is : n ≡ countsAre l0 l2 l6
         counts-is = let e : n .n6 ≡ length l6 = n6e ∙ sym large-length in (λ i. record { n0 = n0e i; n2 = n2e i; n6 = e i })
 
-        pub behind-sum : n .n0 + n .n2 + n .n6 ≤ top
-        behind-sum = omega (arith, large-length, total-fits)
+        pub after-sum : n .n0 + n .n2 + n .n6 ≤ top
+        after-sum = omega (arith, large-length, total-fits)
 
         placed-are : Placed O start (lengthsAre O l0 l2 l6) (countsAre l0 l2 l6)
         placed-are = record {
@@ -198,8 +198,8 @@ module _ (s : Counts) (a b c : List ℕ) (O start : ℕ) (l : Lengths) (out : Li
           room6 = head-size O l6 (h .low);
         }
 
-        pub behind-placed : Placed O start l n
-        behind-placed =
+        pub after-placed : Placed O start l n
+        after-placed =
             subst (λ (x : Lengths). Placed O start x n) (sym (h .lengths))
             (subst (λ (x : SectionCounts). Placed O start (lengthsAre O l0 l2 l6) x) (sym counts-is) placed-are)
 
@@ -212,40 +212,40 @@ module _ (s : Counts) (a b c : List ℕ) (O start : ℕ) (l : Lengths) (out : Li
 
           two : {x : Outcome (With PagedManagerPlan (List ℕ))} → firstOf (when (wideBlocks O start (lengthsAre O l0 l2 l6) (countsAre l0 l2 l6) || sections-wide) WideAddress
               ∷ when (ltb (length out / 2) (planTotal l0 l2 l6)) (OverCapacity (planTotal l0 l2 l6) (length out / 2)) ∷ [])
-              (answer (with (planAt O start (lengthsAre O l0 l2 l6) (countsAre l0 l2 l6)) (over 0 (flat (l0 ++ (l2 ++ byAddr l6))) out))) ≡ x → behind ≡ x
-          unfolding planBehind
+              (answer (with (planAt O start (lengthsAre O l0 l2 l6) (countsAre l0 l2 l6)) (over 0 (flat (l0 ++ (l2 ++ byAddr l6))) out))) ≡ x → afterTests ≡ x
+          unfolding planAfter
           two e = first-passes _ Overflow _ _ (sym late-is ∙ tf) ∙ first-passes _ SharedAddress _ _ (sym (shared-next t2e) ∙ t2f) ∙ e
 
-          pub behind-wide : t3 ≡ true → left (refused WideAddress) out ≡ leaving out behind
-          behind-wide f = ap (leaving out) (sym (two (first-holds _ WideAddress _ _ (sym (or-decides t3 _ sections-wide blocks-wide f)))))
+          pub after-wide : t3 ≡ true → left (refused WideAddress) out ≡ leaving out afterTests
+          after-wide f = ap (leaving out) (sym (two (first-holds _ WideAddress _ _ (sym (or-decides t3 _ sections-wide blocks-wide f)))))
 
           module _ (t3f : t3 ≡ false) (t4 : Bool) (t4e : t4 ≡ sections-wide) where
             wide-next : t4 ≡ (wideBlocks O start (lengthsAre O l0 l2 l6) (countsAre l0 l2 l6) || sections-wide)
             wide-next = t4e ∙ or-leaves t3 _ sections-wide blocks-wide t3f
 
-            pub behind-wide-section : t4 ≡ true → left (refused WideAddress) out ≡ leaving out behind
-            behind-wide-section f = ap (leaving out) (sym (two (first-holds _ WideAddress _ _ (sym wide-next ∙ f))))
+            pub after-wide-section : t4 ≡ true → left (refused WideAddress) out ≡ leaving out afterTests
+            after-wide-section f = ap (leaving out) (sym (two (first-holds _ WideAddress _ _ (sym wide-next ∙ f))))
 
             module _ (t4f : t4 ≡ false) where
               total-is : n .n0 + n .n2 + n .n6 ≡ planTotal l0 l2 l6
               total-is = omega (arith, large-length)
 
               three : {x : Outcome (With PagedManagerPlan (List ℕ))} → firstOf (when (ltb (length out / 2) (planTotal l0 l2 l6)) (OverCapacity (planTotal l0 l2 l6) (length out / 2)) ∷ [])
-                  (answer (with (planAt O start (lengthsAre O l0 l2 l6) (countsAre l0 l2 l6)) (over 0 (flat (l0 ++ (l2 ++ byAddr l6))) out))) ≡ x → behind ≡ x
+                  (answer (with (planAt O start (lengthsAre O l0 l2 l6) (countsAre l0 l2 l6)) (over 0 (flat (l0 ++ (l2 ++ byAddr l6))) out))) ≡ x → afterTests ≡ x
               three e = two (first-passes _ WideAddress _ _ (sym wide-next ∙ t4f) ∙ e)
 
-              pub behind-over : length out / 2 < n .n0 + n .n2 + n .n6 → left (refused (OverCapacity (n .n0 + n .n2 + n .n6) (length out / 2))) out ≡ leaving out behind
-              behind-over f =
+              pub after-over : length out / 2 < n .n0 + n .n2 + n .n6 → left (refused (OverCapacity (n .n0 + n .n2 + n .n6) (length out / 2))) out ≡ leaving out afterTests
+              after-over f =
                   ap (λ (k : ℕ). left (refused (OverCapacity k (length out / 2))) out) total-is
                   ∙ ap (leaving out) (sym (three (first-holds _ (OverCapacity (planTotal l0 l2 l6) (length out / 2)) _ _ (lt-ltb (length out / 2) (planTotal l0 l2 l6) (omega (arith, total-is))))))
 
               module _ (f : n .n0 + n .n2 + n .n6 ≤ length out / 2) where
-                pub behind-room : 2 * planTotal l0 l2 l6 ≤ length out
-                behind-room = omega (arith, total-is)
+                pub after-room : 2 * planTotal l0 l2 l6 ≤ length out
+                after-room = omega (arith, total-is)
 
-                pub behind-plan : (p : PagedManagerPlan) → p ≡ planAt O start l n → (out′ : List ℕ) → out′ ≡ over 0 (flat (l0 ++ (l2 ++ byAddr l6))) out
-                    → left (answer p) out′ ≡ leaving out behind
-                behind-plan p e out′ o =
+                pub after-plan : (p : PagedManagerPlan) → p ≡ planAt O start l n → (out′ : List ℕ) → out′ ≡ over 0 (flat (l0 ++ (l2 ++ byAddr l6))) out
+                    → left (answer p) out′ ≡ leaving out afterTests
+                after-plan p e out′ o =
                     let q : p ≡ planAt O start (lengthsAre O l0 l2 l6) (countsAre l0 l2 l6) = e ∙ ap₂ (λ (x : Lengths) (y : SectionCounts). planAt O start x y) (h .lengths) counts-is in
                     ap₂ (λ (x : PagedManagerPlan) (y : List ℕ). left (answer x) y) q o
                     ∙ ap (leaving out)
@@ -258,7 +258,7 @@ module _ (xs : List ℕ) (n : ℕ) (ys : List ℕ) (m : ℕ) (zs : List ℕ) (k 
   whole = planned xs n ys m zs k page start O out
 
   abbrev later : Outcome (With PagedManagerPlan (List ℕ))
-  later = planBehind O (slot0 page (decode n xs)) (slot2 page (decode m ys)) (slot6 page (decode n xs) (decode m ys) (decode k zs)) start out
+  later = planAfter O (slot0 page (decode n xs)) (slot2 page (decode m ys)) (slot6 page (decode n xs) (decode m ys) (decode k zs)) start out
 
   pub planned-width : not (validWidth O) ≡ true → left (refused Width) out ≡ leaving out whole
   unfolding planned

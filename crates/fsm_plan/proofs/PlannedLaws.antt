@@ -27,13 +27,13 @@ use Rattle.fsm_sections.proofs.SlotLaws.{same-order}
 use Rattle.fsm_sections.proofs.SortLaws.{sorted-sorted, times-sorted}
 use Rattle.fsm_sections.proofs.TakeLaws.{space-sorted}
 use Rattle.fsm_blocks.specs.Fshd.{fshdBytes, fshdSize}
-use Rattle.fsm_blocks.specs.Managers.{startingSet, headerFor, fsseFor, fsseUsed}
+use Rattle.fsm_blocks.specs.Settings.{startingSet, headerFor, fsseFor, fsseUsed}
 use Rattle.fsm_writer.specs.Serializing.{ofRun, wide, anyOf, anyWide, blocksSize, writtenFshd, writtenFsse}
 use Rattle.fsm_writer.specs.Slots.{sizeTests}
 use Rattle.fsm_plan.specs.declared.plan.PagedManagerPlan.{PagedManagerPlan}
 use Rattle.fsm_plan.specs.Managers.{manager, managersOf, managerSize, sizeOf, slotsFrom}
 use Rattle.fsm_plan.specs.Order.{turned, byAddr, InOrder, repeats}
-use Rattle.fsm_plan.specs.Plan.{addressIn, endAt, planAt, wideBlock, wideBlocks, lengthsAre, countsAre, planTotal, planBehind, lengthsTests, planned}
+use Rattle.fsm_plan.specs.Plan.{addressIn, endAt, planAt, wideBlock, wideBlocks, lengthsAre, countsAre, planTotal, planAfter, lengthsTests, planned}
 use Rattle.fsm_plan.proofs.OrderLaws.{turned-twice, times-turned}
 
 -- ---- the order by address: sections stand in it, each as often as before (`by-addr`: there is no other such list)
@@ -187,7 +187,7 @@ module _ (xs : List ℕ) (n : ℕ) (ys : List ℕ) (m : ℕ) (zs : List ℕ) (k 
       ∷ []
 
   shown : NoneHolds (fronts ++ backs) × (with whole (over 0 (flat (m0 ++ (m2 ++ byAddr m6))) out) ≡ with p mem)
-  unfolding planned planBehind
+  unfolding planned planAfter
   shown = first-answers (fronts ++ backs) _ (with p mem) (first-append fronts backs (answer (with whole (over 0 (flat (m0 ++ (m2 ++ byAddr m6))) out))) ∙ e)
 
   plan-is : p ≡ whole

@@ -41,7 +41,7 @@ module _ (l m : List FreeSection) (r : Bool) (h : Meet r l m) where
   meet-no : r ≡ false → (x : ℕ) → 0 < atAddr x l → atAddr x m ≡ 0
   meet-no e = subst (λ (x : Bool). Meet x l m) e h
 
--- ---- the floor behind a chain
+-- ---- the floor after a chain
 
 pub last-fits : (a z c : ℕ) → ChainFits (link a z c) → a < 2 ^ 64 → (c ≡ 0 → ⊥) → a + (c - 1) * z < 2 ^ 64
 last-fits a z zero f h n = absurd (n refl)
@@ -117,8 +117,8 @@ module _ (s : Counts) (a b c : List ℕ) where
           let q = meet-yes (chainOf t) (chainOf u) r m e in
           record { addr = q .addr; first = q .first; second = omega (arith, h (q .addr) (q .first), parts (q .addr), q .second) }
 
-      pub unmet-turn : r ≡ false → Unmet t (u .i) (u .j) (u .k)
-      unmet-turn e = λ x l. omega (arith, meet-no (chainOf t) (chainOf u) r m e x l, parts x, h x l)
+      pub unmet-step : r ≡ false → Unmet t (u .i) (u .j) (u .k)
+      unmet-step e = λ x l. omega (arith, meet-no (chainOf t) (chainOf u) r m e x l, parts x, h x l)
 
     module _ (page : 0 < s .page) (p : Apart i j k) (r : Bool) (m : Meet r (chainOf u) (left (u .i) (u .j) (u .k))) where
       pub apart-found : r ≡ true → true ≡ repeats all
@@ -127,8 +127,8 @@ module _ (s : Counts) (a b c : List ℕ) where
           let y : 0 < atAddr (q .addr) (left i j k) = omega (arith, parts (q .addr), q .first) in
           repeats-yes all (q .addr) (omega (arith, parts (q .addr), q .first, q .second, p .same (q .addr) y))
 
-      pub apart-turn : r ≡ false → Apart (u .i) (u .j) (u .k)
-      apart-turn e = record { few = few-then; same = same-then }
+      pub apart-step : r ≡ false → Apart (u .i) (u .j) (u .k)
+      apart-step e = record { few = few-then; same = same-then }
         where
           apart : (x : ℕ) → 0 < atAddr x (chainOf u) → atAddr x (left (u .i) (u .j) (u .k)) ≡ 0
           apart = meet-no (chainOf u) (left (u .i) (u .j) (u .k)) r m e
@@ -164,5 +164,5 @@ module _ (s : Counts) (a b c : List ℕ) where
             (λ (z : 0 < atAddr x (chainOf u)). absurd (omega (arith, q .1 x z .1)))
             (le-or-lt (atAddr x (chainOf u)) 0)
 
-    pub below-turn : 0 < s .page → (floor f : ℕ) → Below floor i j k → (r : Floor) → Raised floor u r → r ≡ To f → Below f (u .i) (u .j) (u .k)
-    below-turn page floor f p r h e = rise page floor f p (subst (λ (x : Floor). Raised floor u x) e h)
+    pub below-step : 0 < s .page → (floor f : ℕ) → Below floor i j k → (r : Floor) → Raised floor u r → r ≡ To f → Below f (u .i) (u .j) (u .k)
+    below-step page floor f p r h e = rise page floor f p (subst (λ (x : Floor). Raised floor u x) e h)

@@ -18,7 +18,7 @@ use Rattle.fields.specs.Ranges.{top}
 use Rattle.fsm_sections.specs.declared.FreeSection.{FreeSection}
 use Rattle.fsm_sections.specs.Pages.{slot0, slot2, slot6}
 use Rattle.fsm_blocks.specs.Fshd.{fshdBytes, fshdSize}
-use Rattle.fsm_blocks.specs.Managers.{Settings, headerFor, fsseFor, fsseUsed}
+use Rattle.fsm_blocks.specs.Settings.{Settings, headerFor, fsseFor, fsseUsed}
 
 pub record Manager : Type 0 where
   pub class : ℕ

@@ -8,7 +8,7 @@
 --   Placed          the blocks end within 64 bits, and those of a slot with sections have room for its FSHD: for contracts of private functions
 --   lengthsAre      the lengths of the blocks of the slots' sections
 --   countsAre       how many sections the slots have; planTotal all together
---   planBehind      refusals 4 (the end: "a planned address"), 5, 12 (a block's or a section's address), 14; the plan, and the sections in the
+--   planAfter      refusals 4 (the end: "a planned address"), 5, 12 (a block's or a section's address), 14; the plan, and the sections in the
 --                   lent run: those of slots 0 and 2 in input order, those of slot 6 "by address"
 --   lengthsTests    refusals 1, 2, 3 and 4 of the runs ("address plus length"), then 4 of each slot ("a sum of section sizes", or the blocks'
 --                   length)
@@ -17,7 +17,7 @@
 --                   slot 0, raw ones to slot 2"
 --   inSlot0, inSlot2, inLarge   the sections of slots 0, 2 and 6, by the runs and their counts
 --   planSections    the sections as the lent run holds them; planCount how many; wideSections an address of one does not fit O bytes
---   planFor         planBehind for them
+--   planFor         planAfter for them
 --   Ready           what holds after the tests: the runs can be gone through, and the lengths are those of the slots; for contracts of private
 --                   functions
 --   lengthsOutcome, plannedOutcome   the outcome that an answer of the code stands for ("Language forms": "for every case of the enum")
@@ -99,8 +99,8 @@ module _ (O : ℕ) (l0 l2 l6 : List FreeSection) where
   abbrev pub lengthsAre : Lengths
   lengthsAre = record { l0 = blocksSize O l0; l2 = blocksSize O l2; l6 = blocksSize O l6 }
 
-  unfoldable pub planBehind : ℕ → List ℕ → Outcome (With PagedManagerPlan (List ℕ))
-  planBehind start out =
+  unfoldable pub planAfter : ℕ → List ℕ → Outcome (With PagedManagerPlan (List ℕ))
+  planAfter start out =
       firstOf
       (when (ltb top (endAt start lengthsAre)) Overflow
       ∷ when (repeats l6) SharedAddress
@@ -129,7 +129,7 @@ module _ (xs : List ℕ) (n : ℕ) (ys : List ℕ) (m : ℕ) (zs : List ℕ) (k 
       ∷ when (eqb page 0) Page
       ∷ when (not (isEven out)) NotAList
       ∷ lengthsTests O)
-      (planBehind O (slot0 page (decode n xs)) (slot2 page (decode m ys)) (slot6 page (decode n xs) (decode m ys) (decode k zs)) start out)
+      (planAfter O (slot0 page (decode n xs)) (slot2 page (decode m ys)) (slot6 page (decode n xs) (decode m ys) (decode k zs)) start out)
 
 -- the sections of the slots, by the runs and their counts
 module _ (s : Counts) (a b c : List ℕ) where
@@ -152,7 +152,7 @@ module _ (s : Counts) (a b c : List ℕ) where
   wideSections O = anyWide O inSlot0 || (anyWide O inSlot2 || anyWide O inLarge)
 
   abbrev pub planFor : ℕ → ℕ → List ℕ → Outcome (With PagedManagerPlan (List ℕ))
-  planFor O start out = planBehind O inSlot0 inSlot2 inLarge start out
+  planFor O start out = planAfter O inSlot0 inSlot2 inLarge start out
 
   pub record Ready (O : ℕ) (l : Lengths) : Type 0 where
     pub low : 1 ≤ O

@@ -85,7 +85,7 @@ struct SectionCounts {
     n6: u64,
 }
 
-// The lengths of the slots' blocks, with the tests of the runs. Behind the first slot's only a length or a sum can be refused.
+// The lengths of the slots' blocks, with the tests of the runs. After the first slot's only a length or a sum can be refused.
 fn slot_lengths(
     meta: &[u64],
     nm: usize,
@@ -270,8 +270,8 @@ fn put_slots(meta: &[u64], raw: &[u64], unclassified: &[u64], s: Counts, out: &m
     put_large(meta, raw, unclassified, s, &mut out[j..]);
 }
 
-// The plan behind the tests of the runs and of the slots.
-fn plan_behind(
+// The plan after the tests of the runs and of the slots.
+fn plan_after(
     meta: &[u64],
     raw: &[u64],
     unclassified: &[u64],
@@ -347,7 +347,7 @@ pub fn plan_paged_managers(
                 nc: nu,
                 page: page,
             };
-            plan_behind(
+            plan_after(
                 meta,
                 raw,
                 unclassified,

@@ -57,7 +57,7 @@ fn shares(t: Taken, u: Taken) -> bool
     holds(u.addr, u.size, u.count, t.addr)
 }
 
-// Whether a chain shares an address with one of those that are left behind it.
+// Whether a chain shares an address with one of those that are left after it.
 fn meets(a: &[u64], b: &[u64], c: &[u64], s: Counts, t: Taken) -> bool
     requires given { ⌜ Given (sourceOf s) (now a) (now b) (now c) ⌝ }
     requires within { ⌜ Within (sourceOf s) (t .i) (t .j) (t .k) ⌝ }
@@ -101,7 +101,7 @@ fn clashes(a: &[u64], b: &[u64], c: &[u64], s: Counts) -> bool
     false
 }
 
-// The floor behind a chain that does not begin below it.
+// The floor after a chain that does not begin below it.
 fn raised(floor: u64, t: Taken) -> Floor
     requires { ⌜ ChainFits (link (t .addr) (t .size) (t .count)) ⌝ }
     ensures { λ r. ⌜ Raised floor t r ⌝ }

@@ -145,7 +145,7 @@ pub slots-once : (page : ℕ) (meta raw uncl : List FreeSection) (b : ℕ) → 0
 slots-once page meta raw uncl b p h = omega (arith, slots-hold page meta raw uncl b p)
 
 -- ---- the closed form
--- whole pages from a on, and what is left behind them
+-- whole pages from a on, and what is left after them
 closed : ℕ → ℕ → ℕ → ℕ → List FreeSection
 closed page a c t = chain a page c ++ chain (a + c * page) t (cond (eqb t 0) 0 1)
 
@@ -255,7 +255,7 @@ by-shape page a n p = pick (eqb (a % page) 0) (eqb-true (a % page) 0) (eqb-false
         let l : a % page < page = mod-lt a p in
         before-multiple page a n (page - a % page) p (omega arith) (omega (arith, div-add-mod' a page))
 
--- a piece before the first page multiple, whole pages, and a piece behind the last
+-- a piece before the first page multiple, whole pages, and a piece after the last
 pub pieces-closed : (page : ℕ) (r : FreeSection) → 0 < page
     → pieces page r
     ≡ chain (r .addr) (headSize page r) (cond (eqb (headSize page r) 0) 0 1)

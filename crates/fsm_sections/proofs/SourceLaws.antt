@@ -61,7 +61,7 @@ part-fits Tail page r f = few (eqb (bodySize page r % page) 0)
     few false h = absurd (omega arith)
 part-fits Whole page r f = λ h. absurd (omega arith)
 
--- the chain at i in front of those behind it
+-- the chain at i in front of those after it
 opens : (l : List Chain) (i : ℕ) → i < length l → (r : Chain) → r ≡ getD l i (link 0 0 0) → drop i l ≡ r ∷ drop (i + 1) l
 opens l i h r e = drop-cons l i (link 0 0 0) h ∙ rw (← e, add-one)
 

@@ -1,4 +1,4 @@
--- The turns of a pass: what a chain that is taken adds to a number of the sections, before the first and after the last. Assumes nothing.
+-- The iterations of a pass: what a chain that is taken adds to a number of the sections, before the first and after the last. Assumes nothing.
 use mathlib.Core.Path.{_≡_, sym, ap, _∙_}
 use Prim.Native.Nat.{ℕ, zero, suc, _+_, _*_, _≤_}
 use native.Mathlib.Omega.{arith}

@@ -52,7 +52,7 @@ pub struct Chain {
     pub count: u64,
 }
 
-// What of a region is meant: the piece before its first page multiple, its whole pages, the piece behind its last page
+// What of a region is meant: the piece before its first page multiple, its whole pages, the piece after its last page
 // multiple, or all of it uncut.
 pub enum Part {
     Head,

@@ -85,15 +85,15 @@ module _ (q : Part) (page : ℕ) where
         count-step = ap length region-first ∙ length-append (chain (r .addr) (r .size) (r .count)) (from (i + 1)) ∙ rw (length-chain (r .addr) (r .size) (r .count))
 
         module _ (sum m : ℕ) (p : sum + space (from i) ≡ m) where
-          pub space-turn : sum + r .count * r .size + space (from (i + 1)) ≡ m
-          space-turn = omega (arith, space-step)
+          pub space-next : sum + r .count * r .size + space (from (i + 1)) ≡ m
+          space-next = omega (arith, space-step)
 
           pub space-over : top - sum < r .count * r .size → sum ≤ top → refused Overflow ≡ storable m
           space-over o l = too-great m (omega (arith, space-step))
 
         module _ (sum m : ℕ) (p : sum + length (from i) ≡ m) where
-          pub count-turn : sum + r .count + length (from (i + 1)) ≡ m
-          count-turn = omega (arith, count-step)
+          pub count-next : sum + r .count + length (from (i + 1)) ≡ m
+          count-next = omega (arith, count-step)
 
           pub count-over : top - sum < r .count → sum ≤ top → refused Overflow ≡ storable m
           count-over o l = too-great m (omega (arith, count-step))

@@ -35,7 +35,7 @@ use Rattle.fsm_sections.proofs.TakeLaws.{space-sorted}
 use Rattle.fsm_blocks.specs.Fshd.{Header, fshdRow, fshdBytes, fshdSize}
 use Rattle.fsm_blocks.specs.Groups.{Widths}
 use Rattle.fsm_blocks.specs.Fsse.{fsseBytes, fsseSize}
-use Rattle.fsm_blocks.specs.Managers.{startingSet, headerOf, headerFor, fsseFor, fsseUsed}
+use Rattle.fsm_blocks.specs.Settings.{startingSet, headerOf, headerFor, fsseFor, fsseUsed}
 use Rattle.fsm_writer.specs.declared.slots.Measure.{Measure}
 use Rattle.fsm_writer.specs.declared.slots.Measured.{Measured}
 use Rattle.fsm_writer.specs.declared.slots.Measured.the-variants as code
@@ -44,7 +44,7 @@ use Rattle.fsm_writer.specs.Slots.{slotBytes, sizeTests, lenOf, writtenB
 use Rattle.fsm_writer.specs.Counting.{storable}
 use Rattle.fsm_writer.specs.Measuring.{measureOf, measured, measuredOutcome}
 use Rattle.fsm_writer.proofs.StoredLaws.{too-great}
-use Rattle.fsm_writer.proofs.RowLaws.{over-behind, widths-are}
+use Rattle.fsm_writer.proofs.RowLaws.{over-after, widths-are}
 use Rattle.fsm_writer.proofs.SerializeLaws.{left-refused, left-answer}
 
 -- ---- numbers up to 2^64 - 1
@@ -242,7 +242,7 @@ module _ (l : List FreeSection) (m : Measure) (me : m ≡ measureOf 8 l) (h : 0 
           let g = fsseFor 8 (startingSet 8) lookup3 address class l in
           let n : 82 ≡ length f = sym (length-fshd lookup3 8 (headerFor 8 (startingSet 8) (address + 82) l)) in
           let xf : x ≡ over 0 f d = xe ∙ ap (λ (q : Header). over 0 (fshdBytes lookup3 8 q) d) header-is in
-          part-back x ys g 82 yse ∙ ap₂ (λ (i : ℕ) (q : List ℕ). over i g q) n xf ∙ over-behind f g d ∙ sym (rw (ne-eqb (length l) 0 some-sections))
+          part-back x ys g 82 yse ∙ ap₂ (λ (i : ℕ) (q : List ℕ). over i g q) n xf ∙ over-after f g d ∙ sym (rw (ne-eqb (length l) 0 some-sections))
 
 -- ---- `write_blocks`, by its branches
 
@@ -258,14 +258,14 @@ module _ (address class : ℕ) (l : List FreeSection) (out : List ℕ) (c : Meas
     size-low : m .len ≤ top
     size-low = omega (arith, size-is, ltb-false top (blocksSize 8 l) (measure-is 8 l c e m h .0 .1 .0))
 
-    behind : writtenBlocks address class l out
+    after-sizes : writtenBlocks address class l out
         ≡ firstOf (when (ltb top (address + blocksSize 8 l)) Overflow ∷ when (ltb (length out) (blocksSize 8 l)) (OverCapacity (blocksSize 8 l) (length out)) ∷ [])
         (answer (with (blocksSize 8 l) (over 0 (slotBytes address class l) out)))
     unfolding writtenBlocks
-    behind = first-append (sizeTests 8 l) _ _ ∙ first-pass (sizeTests 8 l) _ (measure-is 8 l c e m h .0)
+    after-sizes = first-append (sizeTests 8 l) _ _ ∙ first-pass (sizeTests 8 l) _ (measure-is 8 l c e m h .0)
 
     pub blocks-past : 18446744073709551615 - m .len < address → left (refused Overflow) out ≡ leaving out (writtenBlocks address class l out)
-    blocks-past k = left-refused out Overflow _ (sym (behind ∙ first-holds _ Overflow _ _ (lt-ltb top (address + blocksSize 8 l) (omega (arith, size-is)))))
+    blocks-past k = left-refused out Overflow _ (sym (after-sizes ∙ first-holds _ Overflow _ _ (lt-ltb top (address + blocksSize 8 l) (omega (arith, size-is)))))
 
     module _ (k : address ≤ 18446744073709551615 - m .len) where
       ends : address + m .len ≤ top
@@ -278,7 +278,7 @@ module _ (address class : ℕ) (l : List FreeSection) (out : List ℕ) (c : Meas
       blocks-short q =
           left-refused out (OverCapacity (m .len) (length out)) _
           (ap (λ (n : ℕ). refused (OverCapacity n (length out))) size-is
-          ∙ sym (behind ∙ first-passes _ Overflow _ _ not-past
+          ∙ sym (after-sizes ∙ first-passes _ Overflow _ _ not-past
           ∙ first-holds _ (OverCapacity (blocksSize 8 l) (length out)) _ _ (lt-ltb (length out) (blocksSize 8 l) (omega (arith, size-is)))))
 
       module _ (q : m .len ≤ length out) where
@@ -286,7 +286,7 @@ module _ (address class : ℕ) (l : List FreeSection) (out : List ℕ) (c : Meas
         blocks-done y p =
             ap₂ (λ (n : ℕ) (x : List ℕ). left (answer n) x) size-is p
             ∙ left-answer out _ (blocksSize 8 l) _
-            (sym (behind ∙ first-passes _ Overflow _ _ not-past
+            (sym (after-sizes ∙ first-passes _ Overflow _ _ not-past
             ∙ first-passes _ (OverCapacity (blocksSize 8 l) (length out)) _ _ (le-ltb (length out) (blocksSize 8 l) (omega (arith, size-is))) ∙ first-none _))
 
         pub blocks-none : m .len ≡ 0 → left (answer 0) out ≡ leaving out (writtenBlocks address class l out)

@@ -19,13 +19,13 @@ use Rattle.fsm_sections.specs.Sections.{bySizeThenAddr, groupsOf}
 use Rattle.fsm_blocks.specs.Fshd.{fshdRow, fshdBytes, sealed}
 use Rattle.fsm_blocks.specs.Groups.{Widths, groupBytes}
 use Rattle.fsm_blocks.specs.Fsse.{fsseHead, fsseBytes, fsseSize}
-use Rattle.fsm_blocks.specs.Managers.{startingSet, headerOf, widthsFor, fsseUsed, fsseFor}
+use Rattle.fsm_blocks.specs.Settings.{startingSet, headerOf, widthsFor, fsseUsed, fsseFor}
 use Rattle.fsm_writer.specs.Writing.{written}
 use Rattle.fsm_writer.proofs.WriterLaws.{groups-length}
 
--- what is put behind what stands at the front
-pub over-behind : (u v d : List ℕ) → over (length u) v (over 0 u d) ≡ over 0 (u ++ v) d
-over-behind u v d = let e : length u ≡ 0 + length u = omega arith in ap (λ (n : ℕ). over n v (over 0 u d)) e ∙ over-right 0 u v d
+-- what is put after what stands at the front
+pub over-after : (u v d : List ℕ) → over (length u) v (over 0 u d) ≡ over 0 (u ++ v) d
+over-after u v d = let e : length u ≡ 0 + length u = omega arith in ap (λ (n : ℕ). over n v (over 0 u d)) e ∙ over-right 0 u v d
 
 -- ---- rows
 
@@ -79,7 +79,7 @@ module _ (ws vs d : List ℕ) (same : length ws ≡ length vs) (room : span (wid
           rw add-one (record {
             within = h;
             place = omega (arith, long, now .place);
-            image = e ∙ rw (now .place, now .image) (over-behind done (leBytes w (getD vs i 0)) d ∙ ap (λ (m : List ℕ). over 0 m d) (sym next));
+            image = e ∙ rw (now .place, now .image) (over-after done (leBytes w (getD vs i 0)) d ∙ ap (λ (m : List ℕ). over 0 m d) (sym next));
           })
 
     pub row-done : length ws ≤ i → out ≡ over 0 (layout (row ws vs)) d
@@ -94,7 +94,7 @@ take-over (x ∷ u) (y ∷ d) h = ap (λ (m : List ℕ). x ∷ m) (take-over u d
 
 pub sealed-put : (sum : List ℕ → ℕ) (u d m x : List ℕ) (n : ℕ) → n ≡ length u → n ≤ length d → m ≡ over 0 u d → x ≡ over n (leBytes 4 (sum (take n m))) m → x ≡ over 0 (sealed sum u) d
 sealed-put sum u d m x n e h f g =
-    g ∙ rw (f, e) (ap (λ (b : List ℕ). over (length u) (leBytes 4 (sum b)) (over 0 u d)) (take-over u d (omega arith)) ∙ over-behind u (leBytes 4 (sum u)) d)
+    g ∙ rw (f, e) (ap (λ (b : List ℕ). over (length u) (leBytes 4 (sum b)) (over 0 u d)) (take-over u d (omega arith)) ∙ over-after u (leBytes 4 (sum u)) d)
 
 -- ---- the header
 
@@ -155,7 +155,7 @@ module _ (o back class : ℕ) (l : List FreeSection) (d : List ℕ) (some : 1 �
     two : x₂ ≡ over 0 (leBytes 5 1163088710 ++ leBytes o back) d
     two =
         let n : 5 ≡ length (leBytes 5 1163088710) = sym (length-le 5 1163088710) in
-        e₂ ∙ rw e₁ (ap (λ (k : ℕ). over k (leBytes o back) (over 0 (leBytes 5 1163088710) d)) n ∙ over-behind (leBytes 5 1163088710) (leBytes o back) d)
+        e₂ ∙ rw e₁ (ap (λ (k : ℕ). over k (leBytes o back) (over 0 (leBytes 5 1163088710) d)) n ∙ over-after (leBytes 5 1163088710) (leBytes o back) d)
 
     pub two-long : length x₂ ≡ length d
     two-long = ap length two ∙ length-over 0 (leBytes 5 1163088710 ++ leBytes o back) d
@@ -165,7 +165,7 @@ module _ (o back class : ℕ) (l : List FreeSection) (d : List ℕ) (some : 1 �
       three =
           let h = leBytes 5 1163088710 ++ leBytes o back in
           let n : 5 + o ≡ length h = omega (arith, length-append (leBytes 5 1163088710) (leBytes o back), length-le 5 1163088710, length-le o back) in
-          e₃ ∙ rw two (ap (λ (k : ℕ). over k groups (over 0 h d)) n ∙ over-behind h groups d)
+          e₃ ∙ rw two (ap (λ (k : ℕ). over k groups (over 0 h d)) n ∙ over-after h groups d)
 
       pub three-long : length x₃ ≡ length d
       three-long = ap length three ∙ length-over 0 body d

@@ -105,7 +105,7 @@ module _ (xs : List ℕ) (n : ℕ) (ys : List ℕ) (m : ℕ) (zs : List ℕ) (k 
     pub tests-refuse : {A : Type 0} (r : Refusal) → c ≡ checked.Refused r → (x : Outcome A) → refused r ≡ firstOf (runTests xs n ys m zs k page O) x
     tests-refuse r h x = first-refuses (runTests xs n ys m zs k page O) tt r x (ap checkedOutcome (sym h) ∙ e)
 
-    module _ (h : c ≡ checked.Fine) where
+    module _ (h : c ≡ checked.Passed) where
       none : NoneHolds (runTests xs n ys m zs k page O)
       none = first-answers (runTests xs n ys m zs k page O) tt tt (sym e ∙ ap checkedOutcome h) .0
 

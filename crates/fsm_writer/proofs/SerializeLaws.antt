@@ -33,7 +33,7 @@ use Rattle.fsm_sections.proofs.SlotLaws.{plain-runs}
 use Rattle.fsm_blocks.specs.Fshd.{Header, fshdBytes, fshdSize}
 use Rattle.fsm_blocks.specs.Fsse.{fsseSize}
 use Rattle.fsm_blocks.specs.Groups.{Widths}
-use Rattle.fsm_blocks.specs.Managers.{startingSet, headerOf, headerFor, fsseUsed, fsseFor}
+use Rattle.fsm_blocks.specs.Settings.{startingSet, headerOf, headerFor, fsseUsed, fsseFor}
 use Rattle.fsm_writer.specs.Serializing.{ofRun, wide, anyOf, anyWide, blocksSize, blocksLen, writtenFshd, writtenFsse}
 use Rattle.fsm_writer.proofs.SizeCountLaws.{run-numbers, distinct-few}
 use Rattle.fsm_writer.proofs.RowLaws.{widths-are, width-small}
@@ -171,10 +171,10 @@ module _ (test : FreeSection → Bool) (n : ℕ) (run : List ℕ) (room : 2 * n 
   unfolding anyOf
   any-found t e f p = sym (sym p ∙ rw (decode-drop section n i run h room, ← e, f))
 
-  pub any-turn : (t : Bool) → t ≡ test (sectionAt run i) → t ≡ false → anyOf test (drop i (decode n run)) ≡ anyOf test (decode n run)
+  pub any-step : (t : Bool) → t ≡ test (sectionAt run i) → t ≡ false → anyOf test (drop i (decode n run)) ≡ anyOf test (decode n run)
       → anyOf test (drop (i + 1) (decode n run)) ≡ anyOf test (decode n run)
   unfolding anyOf
-  any-turn t e f p = sym (ap (anyOf test) (decode-drop section n i run h room) ∙ rw (← e, f)) ∙ p
+  any-step t e f p = sym (ap (anyOf test) (decode-drop section n i run h room) ∙ rw (← e, f)) ∙ p
 
 pub any-none : (test : FreeSection → Bool) (n i : ℕ) (run : List ℕ) → 2 * n ≤ length run → n ≤ i → anyOf test (drop i (decode n run)) ≡ anyOf test (decode n run) → false ≡ anyOf test (decode n run)
 unfolding anyOf
@@ -225,7 +225,7 @@ left-refused m r x e = ap (leaving m) e
 pub left-answer : (m y : List ℕ) (n : ℕ) (x : Outcome (With ℕ (List ℕ))) → answer (with n y) ≡ x → left (answer n) y ≡ leaving m x
 left-answer m y n x e = ap (leaving m) e
 
--- two conditions behind those of the run
+-- two conditions after those of the run
 module _ (O : ℕ) (run : List ℕ) (n sum : ℕ) (h : Accepted O run n sum) (t u : List FreeSection → Bool) (r : Refusal) (x : List FreeSection → With ℕ (List ℕ))
     (need : List FreeSection → ℕ) (given : ℕ) where
   abbrev two : List FreeSection → Outcome (With ℕ (List ℕ))

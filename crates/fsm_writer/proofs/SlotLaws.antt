@@ -1,4 +1,4 @@
--- A slot's sections as its source gives them, behind the tests of the runs. Assumes nothing.
+-- A slot's sections as its source gives them, after the tests of the runs. Assumes nothing.
 use mathlib.Core.Path.{_≡_, sym, ap, _∙_, subst}
 use Prim.Native.Nat.{ℕ}
 use mathlib.Core.List.{List}
@@ -19,7 +19,7 @@ use Rattle.fsm_writer.specs.Slots.{slotOf, runTests}
 use Rattle.fsm_writer.proofs.RunsLaws.{Tested, tests-pass, tests-show, small-given, small-numbers, small-same, large-given, large-numbers, large-same}
 
 module _ (xs : List ℕ) (n : ℕ) (ys : List ℕ) (m : ℕ) (zs : List ℕ) (k page O : ℕ) (c : Checked)
-    (e : checkedOutcome c ≡ firstOf (runTests xs n ys m zs k page O) (answer tt)) (h : c ≡ checked.Fine) (s : Source) where
+    (e : checkedOutcome c ≡ firstOf (runTests xs n ys m zs k page O) (answer tt)) (h : c ≡ checked.Passed) (s : Source) where
   abbrev shown : Tested xs n ys m zs k page O
   shown = tests-show xs n ys m zs k page O c e h
 

@@ -26,7 +26,7 @@ use Rattle.fsm_sections.specs.Sections.{decode, space}
 use Rattle.fsm_writer.specs.declared.writer.Written.{Written}
 use Rattle.fsm_writer.specs.declared.writer.Written.the-variants as written
 use Rattle.fsm_blocks.specs.Fshd.{fshdBytes, fshdSize}
-use Rattle.fsm_blocks.specs.Managers.{startingSet, headerFor, fsseFor, fsseUsed}
+use Rattle.fsm_blocks.specs.Settings.{startingSet, headerFor, fsseFor, fsseUsed}
 
 abbrev pub writtenOutcome : Written → Outcome ℕ
 writtenOutcome (written.Bytes n) = answer n

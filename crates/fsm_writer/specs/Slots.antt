@@ -26,7 +26,7 @@ use Rattle.fsm_sections.specs.Sections.{decode, space}
 use Rattle.fsm_sections.specs.Pages.{slot0, slot6}
 use Rattle.fsm_sections.specs.Runs.{endsAbove}
 use Rattle.fsm_blocks.specs.Fshd.{fshdBytes, fshdSize}
-use Rattle.fsm_blocks.specs.Managers.{startingSet, headerFor, fsseFor}
+use Rattle.fsm_blocks.specs.Settings.{startingSet, headerFor, fsseFor}
 use Rattle.fsm_writer.specs.declared.slots.Slot.{Slot}
 use Rattle.fsm_writer.specs.declared.slots.Slot.the-variants.{Small, Large}
 use Rattle.fsm_writer.specs.Serializing.{blocksSize}

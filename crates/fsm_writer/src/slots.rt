@@ -128,7 +128,7 @@ fn test_runs(
     if are_late(a, na, b, nb, c, nc) {
         return Checked::Refused(Refusal::Overflow);
     }
-    Checked::Fine
+    Checked::Passed
 }
 
 // The pieces below a page of a run's n regions, the run given twice.
@@ -314,7 +314,7 @@ pub fn slot_len(
     let tested = test_runs(a, na, b, nb, c, nc, page, o);
     match tested {
         Checked::Refused(r) => Number::Refused(r),
-        Checked::Fine => match slot {
+        Checked::Passed => match slot {
             Slot::Small => blocks_len(a, a, a, small(na, page), o),
             Slot::Large => blocks_len(a, b, c, large(na, nb, nc, page), o),
         },
@@ -340,7 +340,7 @@ pub fn write_slot(
     let tested = test_runs(a, na, b, nb, c, nc, page, 8);
     match tested {
         Checked::Refused(r) => Written::Refused(r),
-        Checked::Fine => match slot {
+        Checked::Passed => match slot {
             Slot::Small => write_blocks(a, a, a, small(na, page), address, class, out),
             Slot::Large => write_blocks(a, b, c, large(na, nb, nc, page), address, class, out),
         },

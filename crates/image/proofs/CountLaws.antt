@@ -12,7 +12,7 @@ use Rattle.error.specs.declared.Number.the-variants as number
 use Rattle.error.specs.Answers.{numberOutcome}
 use Rattle.error.specs.Outcome.{Outcome, answer, nothing, refuse, firstOf, andThen}
 use Rattle.error.specs.Lent.{over}
-use Rattle.error.proofs.OverLaws.{over-nil, down-turn}
+use Rattle.error.proofs.OverLaws.{over-nil, down-next}
 use Rattle.fsm_sections.specs.declared.FreeSection.{FreeSection}
 use Rattle.fsm_blocks.specs.Reading.{readManager, readSlots}
 use Rattle.fsm_blocks.specs.Parts.{got, Accepted, counted}
@@ -62,7 +62,7 @@ module _ (image slots : List ℕ) where
           same =
               ap₂ (λ (c : List ℕ) (k : ℕ). set c i k) (now .same) (e ∙ sym (getD-counts slots i h))
               ∙ ap (λ (k : ℕ). set (over 0 (take i s) (replicate 12 0)) k (getD s i 0)) (sym (zero-add i))
-              ∙ down-turn 0 i s (replicate 12 0) l;
+              ∙ down-next 0 i s (replicate 12 0) l;
         }
 
     pub counts-end : length slots ≤ i → counts ≡ over 0 (map (sectionsIn image) slots) (replicate 12 0)

@@ -30,7 +30,7 @@ pub struct ImageRead {
     pub counts: [u64; NUM_FILE_FSM_MANAGERS],
 }
 
-// Reads the at most 125 bytes of message at a place; there are none at or behind the image's end.
+// Reads the at most 125 bytes of message at a place; there are none at or after the image's end.
 fn read_message(image: &[u8], place: u64, slots: &mut [u64]) -> Parsed
     ensures { λ r. ⌜ left (parsedOutcome r) (now (slots .exit)) ≡ leaving (now (slots .entry)) (parsed (messageAt place (now (image .entry))) 8 8 (now (slots .entry))) ⌝ }
 {

@@ -41,9 +41,9 @@ module _ (slot n : ℕ) (run : List ℕ) where
       record { inside = h; same = ap (λ (l : List FreeSection). written at (slotText slot l) out) d }
 
   module _ {whole : With ℕ (List ℕ)} (room : 2 * n ≤ length run) (i to : ℕ) (out : List ℕ) (p : Printing whole to (linesFrom i) out) where
-    pub lines-turn : {r : ℕ} {m : List ℕ} → i < n → with r m ≡ written to (rowText slot (sectionAt run i)) out → Printing whole r (linesFrom (i + 1)) m
+    pub lines-step : {r : ℕ} {m : List ℕ} → i < n → with r m ≡ written to (rowText slot (sectionAt run i)) out → Printing whole r (linesFrom (i + 1)) m
     unfolding slotText
-    lines-turn h e =
+    lines-step h e =
         piece to (rowText slot (sectionAt run i)) (linesFrom (i + 1)) out
         (subst (λ (l : List FreeSection). Printing whole to (slotText slot l) out) (decode-drop section n i run h room) p) e
 
@@ -77,10 +77,10 @@ module _ (counts run : List ℕ) where
       ∙ ap₂ (λ (j : ℕ) (m : List ℕ). slotText i (decode n (drop from run)) ++ slotsText j (slotsOf (drop j counts) m)) (sym (add-one i))
       (drop-drop (2 * n) from run ∙ drop-least (from + 2 * n))
 
-  pub slots-turn : {whole : With ℕ (List ℕ)} (i from to : ℕ) (out : List ℕ) {r next : ℕ} {m : List ℕ} → i < length counts → Printing whole to (slotsFrom i from) out
+  pub slots-step : {whole : With ℕ (List ℕ)} (i from to : ℕ) (out : List ℕ) {r next : ℕ} {m : List ℕ} → i < length counts → Printing whole to (slotsFrom i from) out
       → with r m ≡ written to (slotText i (decode (getD counts i 0) (take (length run - from) (drop from run)))) out
       → next ≡ min (from + 2 * getD counts i 0) (length run) → Printing whole r (slotsFrom (i + 1) next) m
-  slots-turn {whole} i from to out {r} {next} {m} h p e q =
+  slots-step {whole} i from to out {r} {next} {m} h p e q =
       subst (λ (k : ℕ). Printing whole r (slotsFrom (i + 1) k) m) (sym q)
       (piece to (slotText i (decode (getD counts i 0) (drop from run))) (slotsFrom (i + 1) (min (from + 2 * getD counts i 0) (length run))) out
       (subst (λ (t : List ℕ). Printing whole to t out) (slots-next i from h) p)

@@ -44,8 +44,8 @@ fn write_slot(out: &mut [u8], at: usize, slot: u64, run: &[u64], count: u64) -> 
     to
 }
 
-// The place behind `count` pairs of a run, at most its end.
-fn behind_pairs(from: usize, count: u64, len: usize) -> usize
+// The place after `count` pairs of a run, at most its end.
+fn after_pairs(from: usize, count: u64, len: usize) -> usize
     requires { ⌜ from ≤ len ⌝ }
     ensures { λ r. ⌜ r ≡ min (from + 2 * count) len ⌝ }
 {
@@ -67,7 +67,7 @@ pub fn write_listing(counts: &[u64], run: &[u64], out: &mut [u8]) -> usize
     while slot < counts.len() {
         let count = counts[slot];
         to = write_slot(out, to, slot as u64, &run[from..], count);
-        from = behind_pairs(from, count, run.len());
+        from = after_pairs(from, count, run.len());
         slot += 1;
     }
     to

@@ -39,7 +39,7 @@ fn moved(len: usize, from: usize, end: usize, to: usize) -> usize
     min(saturating_sub(min(end, len), from), saturating_sub(len, to))
 }
 
-// Copies the numbers from `from` up to `end` to `to` and behind, as the Rust's slices do. What the run does not have, and what would
+// Copies the numbers from `from` up to `end` to `to` and after, as the Rust's slices do. What the run does not have, and what would
 // pass its end, is left out.
 pub fn copy_within(run: &mut [u64], from: usize, end: usize, to: usize)
     ensures { λ _. ⌜ now (run .exit) ≡ over to (slice from end (now (run .entry))) (now (run .entry)) ⌝ }

@@ -6,7 +6,7 @@ use native.Mathlib.Omega.{arith}
 use lib.ListN.{length, take, getD, set}
 use lib.Seq.{take-length}
 use Rattle.error.specs.Lent.{over}
-use Rattle.error.proofs.OverLaws.{length-over, over-nil, over-cut, down-turn}
+use Rattle.error.proofs.OverLaws.{length-over, over-nil, over-cut, down-next}
 
 module _ (numbers run₀ : List ℕ) where
   -- i numbers are put
@@ -20,15 +20,15 @@ module _ (numbers run₀ : List ℕ) where
   pub front-length : (i : ℕ) (run : List ℕ) → Front i run → length run ≡ length run₀
   front-length i run f = ap length (f .same) ∙ length-over 0 (take i numbers) run₀
 
-  pub front-turn : (i : ℕ) (run : List ℕ) → Front i run → i < length numbers → Front (i + 1) (set run i (getD numbers i 0))
-  front-turn i run f h =
+  pub front-step : (i : ℕ) (run : List ℕ) → Front i run → i < length numbers → Front (i + 1) (set run i (getD numbers i 0))
+  front-step i run f h =
       let z : i ≡ 0 + i = omega arith in
       record {
         inside = omega arith;
         same =
             ap (λ (m : List ℕ). set m i (getD numbers i 0)) (f .same)
             ∙ ap (λ (k : ℕ). set (over 0 (take i numbers) run₀) k (getD numbers i 0)) z
-            ∙ down-turn 0 i numbers run₀ h;
+            ∙ down-next 0 i numbers run₀ h;
       }
 
   -- all are put, or the run is full

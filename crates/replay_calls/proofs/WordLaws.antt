@@ -20,9 +20,9 @@ module _ (at : ℕ) where
       let z : at - at ≡ 0 = omega arith in
       sym (ap (λ (k : ℕ). spelledBy 0 (take k (drop at text))) z)
 
-  pub spell-turn : (i : ℕ) (text : List ℕ) {value digit : ℕ} → at ≤ i → i < length text → value ≡ spelledBy 0 (take (i - at) (drop at text))
+  pub spell-step : (i : ℕ) (text : List ℕ) {value digit : ℕ} → at ≤ i → i < length text → value ≡ spelledBy 0 (take (i - at) (drop at text))
       → digit ≡ getD text i 0 - 48 → value * 10 + digit ≡ spelledBy 0 (take (i + 1 - at) (drop at text))
-  spell-turn i text l h e f =
+  spell-step i text l h e f =
       let n : i - at < length (drop at text) = omega (arith, length-drop at text) in
       let p : at + (i - at) ≡ i = omega arith in
       let q : suc (i - at) ≡ i + 1 - at = omega (arith, add-one (i - at)) in

@@ -87,7 +87,7 @@ fn ensure_len_call(len: u64, offset: u64, needed: u64) -> Reply {
     let data = bytes_memory();
     let checked = ensure_len(&data[0..n], offset as usize, needed as usize);
     match checked {
-        Checked::Fine => Reply::Done,
+        Checked::Passed => Reply::Done,
         Checked::Refused(r) => Reply::Refused(r),
     }
 }

@@ -51,7 +51,7 @@ fn say_blocks(fshd: &[u8], n: u64, fsse: &[u8], m: u64) -> Reply {
     Reply::Silent
 }
 
-// Serializes the FSSE, and writes it behind the FSHD's first n bytes.
+// Serializes the FSSE, and writes it after the FSHD's first n bytes.
 fn fsse_answer(run: &[u64], fshd_addr: u64, o: u8, class: u8, fshd: &[u8], n: u64) -> Reply {
     let mut fsse = bytes_memory();
     let written = serialize_fsse(run, run.len() / 2, fshd_addr, o, class, &mut fsse);

@@ -2,7 +2,7 @@
 ghost use mathlib.Core.Path.{_≡_};
 ghost use lib.ListN.{length};
 
-// The numbers of the longest line, each behind a space, or the sections that a call gives.
+// The numbers of the longest line, each after a space, or the sections that a call gives.
 pub(crate) fn numbers_memory() -> [u64; 32768]
     ensures { λ r. ⌜ 32768 ≡ length r ⌝ }
 {

@@ -11,8 +11,8 @@ use crate::text::put_pairs;
 use fsm_plan::plan::PagedManagerPlan;
 use fsm_plan::plan::Planned;
 use fsm_plan::plan::plan_paged_managers;
-use text::words::write_bytes;
 use replay_lines::answer::put_number;
+use text::words::write_bytes;
 
 const UNDEF: u64 = 18446744073709551615;
 
@@ -50,8 +50,8 @@ fn run_at(args: &[u64], at: usize) -> Run
     }
 }
 
-// The place behind `n` pairs of a run, or its end where there are fewer.
-fn behind(run: &[u64], n: usize) -> usize
+// The place after `n` pairs of a run, or its end where there are fewer.
+fn place_after(run: &[u64], n: usize) -> usize
     ensures { λ r. ⌜ r ≤ length (now (run .entry)) ⌝ }
 {
     if run.len() / 2 < n {
@@ -104,8 +104,8 @@ fn put_block(
 }
 
 fn put_blocks(p: PagedManagerPlan, sections: &[u64], out: &mut [u8], at: usize) -> usize {
-    let raw = behind(sections, p.n0);
-    let large = raw + behind(&sections[raw..], p.n2);
+    let raw = place_after(sections, p.n0);
+    let large = raw + place_after(&sections[raw..], p.n2);
     let second = put_block(p.fshd0, p.fsse0, 1, p.n0, sections, out, at);
     let third = put_block(p.fshd2, p.fsse2, 1, p.n2, &sections[raw..], out, second);
     put_block(p.fshd6, p.fsse6, 2, p.n6, &sections[large..], out, third)

@@ -27,7 +27,7 @@ fn lists_buffer() -> [u64; 24583]
 }
 
 // What is read: the bytes of the chunk from `at` up to `end` are not taken yet, and `have` bytes of the line are there. The line is
-// whole behind a newline and at the end of the input, and then no more follows.
+// whole after a newline and at the end of the input, and then no more follows.
 struct Input {
     at: usize,
     end: usize,
@@ -129,12 +129,12 @@ fn step(chunk: &mut [u8], line: &mut [u8], lists: &mut [u64], input: Input) -> I
     after
 }
 
-// The turns that are left after one, none at the end of the input.
-fn turns_left(turns: u64, more: bool) -> u64
-    requires { ⌜ 0 < turns ⌝ }
-    ensures { λ r. ⌜ r < turns ⌝ }
+// The iterations that are left after one, none at the end of the input.
+fn iterations_left(iterations: u64, more: bool) -> u64
+    requires { ⌜ 0 < iterations ⌝ }
+    ensures { λ r. ⌜ r < iterations ⌝ }
 {
-    if more { turns - 1 } else { 0 }
+    if more { iterations - 1 } else { 0 }
 }
 
 // Reads and answers up to 2^40 lines or chunks.
@@ -148,14 +148,14 @@ fn replay(chunk: &mut [u8], line: &mut [u8], lists: &mut [u64])
         whole: false,
         more: true,
     };
-    let mut turns: u64 = 1099511627776;
-    while 0 < turns {
+    let mut iterations: u64 = 1099511627776;
+    while 0 < iterations {
         input = step(chunk, line, lists, input);
-        turns = turns_left(turns, input.more);
+        iterations = iterations_left(iterations, input.more);
     }
 }
 
-// A save is lent all its scratch at first, and each list all its run: their places stand behind each other.
+// A save is lent all its scratch at first, and each list all its run: their places stand after each other.
 fn lend_all(lists: &mut [u64])
     requires { ⌜ 24583 ≤ length (now lists) ⌝ }
 {

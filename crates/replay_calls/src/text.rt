@@ -5,9 +5,9 @@ ghost use Prim.Native.Nat.{_<_, _≤_};
 ghost use Rattle.error.specs.Lent.{with};
 ghost use Rattle.text.specs.Text.{written};
 ghost use Rattle.replay_lines.specs.Words.{halfDigit, hexByte};
+use replay_lines::answer::put_number;
 use text::words::write_bytes;
 use text::words::write_word;
-use replay_lines::answer::put_number;
 
 // Puts the numbers of a run.
 pub(crate) fn put_numbers(out: &mut [u8], at: usize, run: &[u64]) -> usize {
@@ -49,7 +49,7 @@ pub(crate) fn put_bytes(out: &mut [u8], at: usize, bytes: &[u8]) -> usize {
     write_bytes(out, to, b" ")
 }
 
-// Ends the line: the space behind its last word becomes a newline.
+// Ends the line: the space after its last word becomes a newline.
 pub(crate) fn end_line(out: &mut [u8], at: usize) -> usize {
     if at == 0 {
         return 0;
@@ -85,7 +85,7 @@ pub(crate) fn put_pairs(out: &mut [u8], at: usize, run: &[u64], count: u64) -> u
     put_numbers(out, to, &run[0..n])
 }
 
-// The line of a count and as many pairs of a run, behind what stands before `at`.
+// The line of a count and as many pairs of a run, after what stands before `at`.
 pub(crate) fn pairs_line(out: &mut [u8], at: usize, run: &[u64], count: u64) -> usize {
     let to = put_pairs(out, at, run, count);
     end_line(out, to)

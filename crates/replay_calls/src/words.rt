@@ -12,7 +12,7 @@ pub(crate) struct Counted {
     pub(crate) count: usize,
 }
 
-// What digits spell, and the place behind them. Without a digit, or above 2^64 - 1, they spell nothing.
+// What digits spell, and the place after them. Without a digit, or above 2^64 - 1, they spell nothing.
 struct Spelled {
     fine: bool,
     value: u64,
@@ -134,7 +134,7 @@ fn broken() -> Counted
     }
 }
 
-// Reads the numbers of a text, each behind a space.
+// Reads the numbers of a text, each after a space.
 pub(crate) fn read_numbers(text: &[u8], out: &mut [u64]) -> Counted
     ensures { λ r. ⌜ r .count ≤ length (now (out .entry)) ⌝ }
 {

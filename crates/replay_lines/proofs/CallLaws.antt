@@ -12,7 +12,7 @@ use lib.Seq.{drop-cons, drop-length}
 use Rattle.replay_lines.specs.Words.{isCall}
 
 module _ (name line : List ℕ) where
-  -- what is left of both behind i bytes
+  -- what is left of both after i bytes
   abbrev agree : ℕ → Bool
   agree i = isCall (drop i name) (drop i line)
 
@@ -40,8 +40,8 @@ module _ (name line : List ℕ) where
   pub agree-no : (i : ℕ) → Agreeing i → i < length name → i < length line → (getD line i 0 ≡ getD name i 0 → ⊥) → false ≡ isCall name line
   agree-no i a h k n = sym (at-both i h k ∙ ap (λ (b : Bool). b && agree (suc i)) (ne-eqb (getD line i 0) (getD name i 0) n)) ∙ a .same
 
-  pub agree-turn : (i : ℕ) → Agreeing i → i < length name → i < length line → getD line i 0 ≡ getD name i 0 → Agreeing (i + 1)
-  agree-turn i a h k e =
+  pub agree-step : (i : ℕ) → Agreeing i → i < length name → i < length line → getD line i 0 ≡ getD name i 0 → Agreeing (i + 1)
+  agree-step i a h k e =
       let s : agree (i + 1) ≡ agree i =
       ap agree (add-one i) ∙ sym (at-both i h k ∙ ap (λ (b : Bool). b && agree (suc i)) (eq-eqb (getD line i 0) (getD name i 0) e)) in
       record { in-name = omega arith; in-line = omega arith; same = s ∙ a .same }

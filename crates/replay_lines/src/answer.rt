@@ -100,7 +100,7 @@ pub fn checked_answer(out: &mut [u8], checked: Checked) -> usize
     ensures { λ r. ⌜ with r (now (out .exit)) ≡ written 0 (checkedText (checkedOutcome checked)) (now (out .entry)) ⌝ }
 {
     match checked {
-        Checked::Fine => done(out),
+        Checked::Passed => done(out),
         Checked::Refused(r) => refused(out, r),
     }
 }

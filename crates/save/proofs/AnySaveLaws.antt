@@ -25,7 +25,7 @@ use Rattle.fsm_sections.specs.declared.FreeSection.{FreeSection}
 use Rattle.fsm_sections.specs.Sections.{bySizeThenAddr, flat, All}
 use Rattle.fsm_sections.specs.Pages.{holding}
 use Rattle.fsm_sections.proofs.PagesLaws.{slots-hold}
-use Rattle.fsm_blocks.specs.Managers.{startingSet}
+use Rattle.fsm_blocks.specs.Settings.{startingSet}
 use Rattle.fsm_blocks.specs.Reading.{joined}
 use Rattle.file_space_info.specs.declared.FileSpaceStrategy.the-variants as strategy
 use Rattle.file_space_info.specs.Infos.{made}
@@ -186,7 +186,7 @@ module _ (rs : Regions) (page start place : ℕ) (image scratch : List ℕ) (sav
 
   -- ---- the steps
 
-  -- a scratch as the beginning leaves it: blocks, message, and what it had behind them
+  -- a scratch as the beginning leaves it: blocks, message, and what it had after them
   abbrev more : List ℕ → List ℕ
   more scratch₂ = drop (length (B ++ M)) scratch₂
 

@@ -29,7 +29,7 @@ use Rattle.fsm_writer.specs.declared.writer.Written.{Written}
 use Rattle.fsm_writer.specs.Serializing.{blocksSize, writtenOutcome}
 use Rattle.fsm_writer.specs.Slots.{runTests, sizeTests, slotBytes, lenOf, slotLen, writtenBlocks, writtenSlot}
 use Rattle.fsm_writer.proofs.MeasureLaws.{part-room, part-back}
-use Rattle.fsm_writer.proofs.RowLaws.{over-behind}
+use Rattle.fsm_writer.proofs.RowLaws.{over-after}
 use Rattle.file_space_info.specs.declared.FileSpaceInfo.{FileSpaceInfo}
 use Rattle.file_space_info.specs.declared.FileSpaceStrategy.the-variants as strategy
 use Rattle.file_space_info.specs.declared.WithSlots.{WithSlots}
@@ -37,9 +37,9 @@ use Rattle.file_space_info.specs.Infos.{made, persistentManagers}
 use Rattle.file_space_info.specs.Message.{messageBytes, serialized}
 use Rattle.file_space_info.proofs.MessageLaws.{length-twelve}
 use Rattle.save_step.specs.Stores.{messageLen}
-use Rattle.save.specs.declared.tests.Offsets.{Offsets}
-use Rattle.save.specs.declared.tests.Tested.{Tested}
-use Rattle.save.specs.declared.tests.Tested.the-variants as code
+use Rattle.save.specs.declared.conditions.Offsets.{Offsets}
+use Rattle.save.specs.declared.conditions.Tested.{Tested}
+use Rattle.save.specs.declared.conditions.Tested.the-variants as code
 use Rattle.save.specs.Saving.{small, smallRaw, large, blockLen, blockBytes, messageOf, begun}
 use Rattle.save.specs.Beginning.{offsetsOf, conditions, testedOutcome, slotAt, slotsAt, messageBy, slotIn, SlotFits, ScratchFits}
 use Rattle.save.proofs.BeginLaws.{begun-is}
@@ -133,9 +133,9 @@ slot-fits slot xs k ys l zs m page start at given some f g h s e a b c =
       room = omega (arith, size);
     }
 
--- what is put behind what is there
-behind : (u v d d₁ d₂ : List ℕ) (n : ℕ) → d₁ ≡ over 0 u d → n ≡ length u → d₂ ≡ over n v d₁ → d₂ ≡ over 0 (u ++ v) d
-behind u v d d₁ d₂ n e h g = g ∙ ap₂ (λ (i : ℕ) (q : List ℕ). over i v q) h e ∙ over-behind u v d
+-- what is put after what is there
+written-after : (u v d d₁ d₂ : List ℕ) (n : ℕ) → d₁ ≡ over 0 u d → n ≡ length u → d₂ ≡ over n v d₁ → d₂ ≡ over 0 (u ++ v) d
+written-after u v d d₁ d₂ n e h g = g ∙ ap₂ (λ (i : ℕ) (q : List ℕ). over i v q) h e ∙ over-after u v d
 
 module _ (xs ys zs : List ℕ) (f : FileLists) (page start : ℕ) (o : Offsets) (d : List ℕ)
     (g : ScratchFits (listsIn xs ys zs f) page start o (length d)) where
@@ -209,14 +209,14 @@ module _ (xs ys zs : List ℕ) (f : FileLists) (page start : ℕ) (o : Offsets) 
             let m6 : length ((b0 ++ b2) ++ b6) ≡ x + y + z = length-append (b0 ++ b2) b6 ∙ ap₂ (λ (i j : ℕ). i + j) m2 n6 in
             let p1 : d₁ ≡ over 0 b0 d = e₁ ∙ ap₂ (λ (a : ℕ) (s : List FreeSection). over 0 (slotBytes a 1 s) d) (add-zero start) (small-is xs ys zs f page) in
             let p2 : d₂ ≡ over 0 (b0 ++ b2) d =
-            behind b0 b2 d d₁ d₂ (o .raw) p1 (raw-at ∙ sym n0)
+            written-after b0 b2 d d₁ d₂ (o .raw) p1 (raw-at ∙ sym n0)
             (e₂ ∙ ap₂ (λ (a : ℕ) (s : List FreeSection). over (o .raw) (slotBytes (start + a) 1 s) d₁) raw-at (raw-is xs ys zs f page)) in
             let p3 : d₃ ≡ over 0 ((b0 ++ b2) ++ b6) d =
-            behind (b0 ++ b2) b6 d d₂ d₃ (o .large) p2 (large-at ∙ sym m2)
+            written-after (b0 ++ b2) b6 d d₂ d₃ (o .large) p2 (large-at ∙ sym m2)
             (e₃ ∙ ap₂ (λ (a : ℕ) (s : List FreeSection). over (o .large) (slotBytes (start + a) 2 s) d₂) large-at (large-is xs ys zs f page)) in
             let message : messageBy page start o ≡ messageOf page start rs =
             ap (λ (s : List ℕ). messageBytes 8 8 (made true strategy.Page 1 page start) s) (ap (slotsAt start) (g .offsets) ∙ sym (slots-are page rs start)) in
-            behind ((b0 ++ b2) ++ b6) (messageBy page start o) d d₃ d₄ (o .len) p3 (len-at ∙ sym m6) e₄
+            written-after ((b0 ++ b2) ++ b6) (messageBy page start o) d d₃ d₄ (o .len) p3 (len-at ∙ sym m6) e₄
             ∙ ap₂ (λ (u v : List ℕ). over 0 (u ++ v) d) (sym (blocks-are page rs start)) message
 
 -- ---- the beginning
@@ -235,7 +235,7 @@ module _ (xs ys zs : List ℕ) (f : FileLists) (page start place : ℕ) (image s
       (first-refuses (conditions all page start place image (length scratch)) (offsetsOf page regions) r _ (ap testedOutcome (sym h) ∙ ce)
       ∙ sym (begun-is all page start place image scratch))
 
-  module _ (o : Offsets) (h : c ≡ code.Fine o) where
+  module _ (o : Offsets) (h : c ≡ code.Passed o) where
     passed : NoneHolds (conditions all page start place image (length scratch)) × (offsetsOf page regions ≡ o)
     passed = first-answers (conditions all page start place image (length scratch)) (offsetsOf page regions) o (sym ce ∙ ap testedOutcome h)
 

@@ -23,7 +23,7 @@ use Rattle.fsm_sections.specs.Sections.{section, space, All}
 use Rattle.fsm_sections.specs.Pages.{end, cutAt, piecesFrom, pieces, split, belowPage, fromPage}
 use Rattle.fsm_sections.proofs.AllLaws.{all-append, all-map}
 use Rattle.fsm_blocks.specs.Fshd.{fshdSize}
-use Rattle.fsm_blocks.specs.Managers.{Settings, startingSet, fsseUsed}
+use Rattle.fsm_blocks.specs.Settings.{Settings, startingSet, fsseUsed}
 use Rattle.fsm_plan.specs.Managers.{Manager, managerSize, sizeOf, slotsFrom}
 use Rattle.file_space_info.specs.Message.{addressRow}
 use Rattle.save.specs.Saving.{asSections, small, smallRaw, large, plan}

@@ -18,9 +18,9 @@ use Rattle.fields.specs.Ranges.{top}
 use Rattle.free_lists.specs.declared.FileLists.{FileLists}
 use Rattle.free_lists.specs.Lists.{together, Lists, Regions, listsIn, regionsIn, areLists, sharedByte}
 use Rattle.save_step.specs.Stores.{messageLen}
-use Rattle.save.specs.declared.tests.Offsets.{Offsets}
-use Rattle.save.specs.declared.tests.Tested.{Tested}
-use Rattle.save.specs.declared.tests.Tested.the-variants as code
+use Rattle.save.specs.declared.conditions.Offsets.{Offsets}
+use Rattle.save.specs.declared.conditions.Tested.{Tested}
+use Rattle.save.specs.declared.conditions.Tested.the-variants as code
 use Rattle.save.specs.Saving.{blockLen, tooLarge, messageIn, blocksOut, anyInTheWay, placeTests, lateTests}
 use Rattle.save.specs.Beginning.{offsetsOf, conditions, testedOutcome}
 use Rattle.save.proofs.TieLaws.{total}
@@ -132,7 +132,7 @@ module _ (xs ys zs : List ℕ) (f : FileLists) (lists : areLists (listsIn xs ys 
   shared-refused r h =
       first-refuses (share ∷ []) tt r (firstOf cs (answer tt)) (ap checkedOutcome (sym h) ∙ shared-only) ∙ sym (first-append (share ∷ []) cs (answer tt))
 
-  pub shared-not : c ≡ checked.Fine → (o : Outcome (Unit {0})) → o ≡ firstOf cs (answer tt) → o ≡ firstOf (share ∷ cs) (answer tt)
+  pub shared-not : c ≡ checked.Passed → (o : Outcome (Unit {0})) → o ≡ firstOf cs (answer tt) → o ≡ firstOf (share ∷ cs) (answer tt)
   shared-not h o q =
       let f = first-answers (share ∷ []) tt tt (sym shared-only ∙ ap checkedOutcome h) .0 .0 in
       q ∙ sym (first-passes _ SharedAddress cs (answer tt) f)
@@ -163,17 +163,17 @@ module _ (xs ys zs : List ℕ) (f : FileLists) (page start place : ℕ) (image :
       pub begin-asks : (0 < page) × (areLists lists3 ≡ true)
       begin-asks = (omega arith, sym ve ∙ not-false v t)
 
-      behind : B ≡ firstOf (when (tooLarge page start rs3) Overflow ∷ []) (firstOf (late (blockLen page rs3)) (answer (offsetsOf page rs3)))
-      behind =
+      after-early : B ≡ firstOf (when (tooLarge page start rs3) Overflow ∷ []) (firstOf (late (blockLen page rs3)) (answer (offsetsOf page rs3)))
+      after-early =
           first-passes _ Page _ _ (ne-eqb page 0 n) ∙ first-passes _ NotAList _ _ (ap not (begin-asks .1))
           ∙ first-append (when (tooLarge page start rs3) Overflow ∷ []) (late (blockLen page rs3)) (answer (offsetsOf page rs3))
 
       module _ (c : Tested) (ce : testedOutcome c ≡ firstOf (when (tooLarge page start rs3) Overflow ∷ []) (answer (offsetsOf page rs3))) where
         pub begin-large : (r : Refusal) → c ≡ code.Refused r → refused r ≡ B
         begin-large r h =
-            first-refuses (when (tooLarge page start rs3) Overflow ∷ []) (offsetsOf page rs3) r _ (ap testedOutcome (sym h) ∙ ce) ∙ sym behind
+            first-refuses (when (tooLarge page start rs3) Overflow ∷ []) (offsetsOf page rs3) r _ (ap testedOutcome (sym h) ∙ ce) ∙ sym after-early
 
-        module _ (o : Offsets) (h : c ≡ code.Fine o) where
+        module _ (o : Offsets) (h : c ≡ code.Passed o) where
           passed : NoneHolds (when (tooLarge page start rs3) Overflow ∷ []) × (offsetsOf page rs3 ≡ o)
           passed = first-answers (when (tooLarge page start rs3) Overflow ∷ []) (offsetsOf page rs3) o (sym ce ∙ ap testedOutcome h)
 
@@ -185,7 +185,7 @@ module _ (xs ys zs : List ℕ) (f : FileLists) (page start place : ℕ) (image :
 
           rest : B ≡ firstOf (late (o .len)) (answer o)
           rest =
-              behind ∙ first-passes _ Overflow _ _ (passed .0 .0) ∙ first-none _
+              after-early ∙ first-passes _ Overflow _ _ (passed .0 .0) ∙ first-none _
               ∙ ap (λ (L : ℕ). firstOf (late L) (answer (offsetsOf page rs3))) (sym len-is)
               ∙ ap (λ (q : Offsets). firstOf (late (o .len)) (answer q)) (passed .1)
 
@@ -193,7 +193,7 @@ module _ (xs ys zs : List ℕ) (f : FileLists) (page start place : ℕ) (image :
             pub begin-late : (r : Refusal) → d ≡ checked.Refused r → refused r ≡ B
             begin-late r g = first-refuses (late (o .len)) tt r (answer o) (ap checkedOutcome (sym g) ∙ de) ∙ sym rest
 
-            pub begin-fine : d ≡ checked.Fine → answer o ≡ B
+            pub begin-fine : d ≡ checked.Passed → answer o ≡ B
             begin-fine g =
                 let q = first-answers (late (o .len)) tt tt (sym de ∙ ap checkedOutcome g) .0 in
                 sym (rest ∙ first-pass (late (o .len)) (answer o) q)

@@ -103,8 +103,8 @@ module _ (start place : ℕ) where
       pub way-found : t ≡ true → true ≡ ways all
       way-found f = or-decides t (way (regionAt xs i)) (ways (drop (i + 1) all)) te f ∙ sym head
 
-      pub way-turn : t ≡ false → ways (drop (i + 1) all) ≡ ways all
-      way-turn f = or-leaves t (way (regionAt xs i)) (ways (drop (i + 1) all)) te f ∙ sym head
+      pub way-step : t ≡ false → ways (drop (i + 1) all) ≡ ways all
+      way-step f = or-leaves t (way (regionAt xs i)) (ways (drop (i + 1) all)) te f ∙ sym head
 
     pub way-none : l .count ≤ i → false ≡ ways all
     way-none h = sym (sym inv ∙ ap ways (decode-end region (l .count) i xs h (listed xs l e .room)))

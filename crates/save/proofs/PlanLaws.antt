@@ -1,6 +1,6 @@
 -- Laws of managers on file, at any offset size, settings and base: how long their blocks are, where they stand, and that they are read back. Assumes nothing.
 --   ManagerFits   what the blocks of sections at an address need in order to be read back: they end within 64 bits, and their fields hold their numbers
---   PlanFits      the same of managers one behind another
+--   PlanFits      the same of managers one after another
 --   sorted        what a slot reads as
 use mathlib.Core.Path.{_≡_, refl, sym, ap, ap₂, _∙_}
 use Prim.Native.Nat.{ℕ, suc, _+_, _≤_, _<_}
@@ -20,7 +20,7 @@ use Rattle.fsm_sections.specs.declared.FreeSection.{FreeSection}
 use Rattle.fsm_sections.specs.Sections.{bySizeThenAddr, All}
 use Rattle.fsm_blocks.specs.Fshd.{fshdRow, fshdBytes, fshdSize}
 use Rattle.fsm_blocks.specs.Groups.{SectionFits}
-use Rattle.fsm_blocks.specs.Managers.{Settings, widthsFor, headerFor, fsseFor, fsseUsed}
+use Rattle.fsm_blocks.specs.Settings.{Settings, widthsFor, headerFor, fsseFor, fsseUsed}
 use Rattle.fsm_blocks.specs.Reading.{readManager, readSlots}
 use Rattle.fsm_blocks.proofs.WrittenLaws.{length-fshd, length-fsse}
 use Rattle.fsm_blocks.proofs.ImageLaws.{manager-read, slots-none, slots-more}
@@ -95,7 +95,7 @@ module _ (O : ℕ) (set : Settings) (base : ℕ) where
   PlanFits a (m ∷ ms) = (0 < length (m .sections) → ManagerFits a (m .sections)) × PlanFits (a + managerSize O set m) ms
 
   module _ (sum : List ℕ → ℕ) (image : List ℕ) where
-    -- FSHD at a with its FSSE behind it
+    -- FSHD at a with its FSSE after it
     pair-read : (a class : ℕ) (l : List FreeSection) → window (a + base) (pairSize O set l) image ≡ pairBytes O set sum a class l → ManagerFits a l
         → readManager O base a image ≡ answer (bySizeThenAddr l)
     pair-read a class l e f =
@@ -106,7 +106,7 @@ module _ (O : ℕ) (set : Settings) (base : ℕ) where
         let lenA : length A ≡ fshdSize O = length-fshd sum O (headerFor O set (a + fshdSize O) l) in
         let lenB : length B ≡ fsseUsed O set l = length-list O set sum a class l in
         let lenBZ : length (B ++ Z) ≡ u = length-both O set sum a class l in
-        let behind : window (a + base + fshdSize O) u image ≡ B ++ Z = second-stands (a + base) (fshdSize O) u image A (B ++ Z) e lenA lenBZ in
+        let list-there : window (a + base + fshdSize O) u image ≡ B ++ Z = second-stands (a + base) (fshdSize O) u image A (B ++ Z) e lenA lenBZ in
         let order : a + fshdSize O + base ≡ a + base + fshdSize O = omega arith in
         manager-read sum O base set a (a + fshdSize O) class l image (record {
           slot-defined = λ z. omega (arith, f .room);
@@ -119,7 +119,7 @@ module _ (O : ℕ) (set : Settings) (base : ℕ) where
           sections-fit = f .sections-fit;
           header-there = first-stands (a + base) (fshdSize O) u image A (B ++ Z) e lenA lenBZ;
           list-there = ap (λ (q : ℕ). window q (fsseUsed O set l) image) order
-              ∙ first-stands (a + base + fshdSize O) (fsseUsed O set l) (set .surplus) image B Z behind lenB (length-replicate (set .surplus) 0);
+              ∙ first-stands (a + base + fshdSize O) (fsseUsed O set l) (set .surplus) image B Z list-there lenB (length-replicate (set .surplus) 0);
         })
 
     slot-read : (a class : ℕ) (l : List FreeSection) → window (a + base) (managerSize O set (manager class l)) image ≡ managerBytes O set sum a (manager class l)
@@ -128,7 +128,7 @@ module _ (O : ℕ) (set : Settings) (base : ℕ) where
     slot-read a class [] e f = refl
     slot-read a class (s ∷ l) e f = rw (filled s l) (pair-read a class (s ∷ l) (rw (filled s l) at e) (f (zero-lt-suc (length l))))
 
-    -- each slot of managers whose blocks stand in the image, one behind another
+    -- each slot of managers whose blocks stand in the image, one after another
     pub slots-read : (ms : List Manager) (a : ℕ) → window (a + base) (sizeOf O set ms) image ≡ blocksFrom O set sum a ms → PlanFits a ms
         → readSlots O base (slotsFrom O set a ms) image ≡ answer (map sorted ms)
     unfolding sizeOf slotsFrom blocksFrom

@@ -25,7 +25,7 @@ use Rattle.fsm_sections.specs.Sections.{space}
 use Rattle.fsm_writer.specs.declared.slots.Slot.the-variants.{Small, Large}
 use Rattle.fsm_writer.specs.Serializing.{blocksSize}
 use Rattle.fsm_writer.specs.Slots.{slotLen, lenOf}
-use Rattle.save.specs.declared.tests.Offsets.{Offsets}
+use Rattle.save.specs.declared.conditions.Offsets.{Offsets}
 use Rattle.save.specs.Saving.{small, smallRaw, large, blockLen, tooLarge}
 use Rattle.save.specs.Beginning.{offsetsOf}
 use Rattle.save.proofs.TieLaws.{length-is, len-known, len-over, total, small-is, raw-is, large-is}

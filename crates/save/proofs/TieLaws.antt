@@ -1,5 +1,5 @@
 -- The slots of the writer, by runs of regions, are the managers of the plan: their sections, their bytes, their lengths and their addresses. Assumes nothing.
---   Fine    what refusal 3's test leaves of a run for the writer's own tests
+--   Passed    what refusal 3's test leaves of a run for the writer's own tests
 use mathlib.Core.Path.{_≡_, refl, sym, ap, ap₂, _∙_}
 use mathlib.Core.Logic.{_⊎_, inl, inr, ⊎-elim}
 use Prim.Native.Nat.{ℕ, _+_, _/_, _%_, _≤_, _<_}
@@ -32,7 +32,7 @@ use Rattle.fsm_sections.specs.declared.FreeSection.{FreeSection}
 use Rattle.fsm_sections.specs.Sections.{section, decode, space, All}
 use Rattle.fsm_sections.specs.Pages.{end, slot0, slot6}
 use Rattle.fsm_blocks.specs.Fshd.{fshdBytes, fshdSize}
-use Rattle.fsm_blocks.specs.Managers.{startingSet, headerFor, fsseFor, fsseUsed}
+use Rattle.fsm_blocks.specs.Settings.{startingSet, headerFor, fsseFor, fsseUsed}
 use Rattle.fsm_writer.specs.declared.slots.Slot.{Slot}
 use Rattle.fsm_writer.specs.declared.slots.Slot.the-variants.{Small, Large}
 use Rattle.fsm_writer.specs.Serializing.{blocksSize}
@@ -54,11 +54,11 @@ none-late : (rs : List FreeSection) → All (Ends top) rs → endsAbove rs ≡ f
 none-late [] h = refl
 none-late (r ∷ rs) h = rw (le-ltb top (end r) (h .0)) (none-late rs (h .1))
 
-record Fine (xs : List ℕ) (l : FreeList) : Type 0 where
+record Passed (xs : List ℕ) (l : FreeList) : Type 0 where
   run : isRun xs (l .count) ≡ true
   ends : endsAbove (decode (l .count) xs) ≡ false
 
-fine : (xs : List ℕ) (l : FreeList) → isList xs l ≡ true → Fine xs l
+fine : (xs : List ℕ) (l : FreeList) → isList xs l ≡ true → Passed xs l
 fine xs l e =
     let p = listed xs l e in
     let n = l .count in

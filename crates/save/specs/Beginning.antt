@@ -25,9 +25,9 @@ use Rattle.file_space_info.specs.declared.FileSpaceStrategy.the-variants as str
 use Rattle.file_space_info.specs.Message.{messageBytes}
 use Rattle.file_space_info.specs.Infos.{made}
 use Rattle.save_step.specs.Stores.{messageLen}
-use Rattle.save.specs.declared.tests.Offsets.{Offsets}
-use Rattle.save.specs.declared.tests.Tested.{Tested}
-use Rattle.save.specs.declared.tests.Tested.the-variants as code
+use Rattle.save.specs.declared.conditions.Offsets.{Offsets}
+use Rattle.save.specs.declared.conditions.Tested.{Tested}
+use Rattle.save.specs.declared.conditions.Tested.the-variants as code
 use Rattle.save.specs.Saving.{small, smallRaw, large, tooLarge, regionTests, listTests}
 
 abbrev pub offsetsOf : ℕ → Regions → Offsets
@@ -43,7 +43,7 @@ abbrev pub conditions : Lists → ℕ → ℕ → ℕ → List ℕ → ℕ → L
 conditions ls page start place image given = listTests ls page ++ regionTests (regionsIn ls) page start place image given
 
 abbrev pub testedOutcome : Tested → Outcome Offsets
-testedOutcome (code.Fine o) = answer o
+testedOutcome (code.Passed o) = answer o
 testedOutcome (code.Refused r) = refused r
 
 -- ---- the writing

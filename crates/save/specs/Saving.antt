@@ -39,7 +39,7 @@ use Rattle.free_lists.specs.Lists.{Lists, Regions, regionsIn, areLists, sharedB
 use Rattle.fsm_sections.specs.declared.FreeSection.{FreeSection}
 use Rattle.fsm_sections.specs.Sections.{section, space}
 use Rattle.fsm_sections.specs.Pages.{slot0, slot2, slot6}
-use Rattle.fsm_blocks.specs.Managers.{startingSet}
+use Rattle.fsm_blocks.specs.Settings.{startingSet}
 use Rattle.fsm_plan.specs.Managers.{Manager, managersOf, sizeOf, blocksFrom, slotsFrom}
 use Rattle.file_space_info.specs.declared.FileSpaceStrategy.the-variants as strategy
 use Rattle.file_space_info.specs.Message.{messageBytes}

@@ -1,4 +1,4 @@
-// What an accepted beginning writes into the scratch: the blocks of slots 0, 2 and 6, and behind them the message.
+// What an accepted beginning writes into the scratch: the blocks of slots 0, 2 and 6, and after them the message.
 ghost use mathlib.Core.Path.{_≡_};
 ghost use Prim.Native.Nat.{_+_, _≤_};
 ghost use mathlib.Core.List.{_++_};
@@ -10,7 +10,7 @@ ghost use Rattle.free_lists.specs.Lists.{listsIn, regionsIn};
 ghost use Rattle.save.specs.Saving.{blockBytes, messageOf};
 ghost use Rattle.save.specs.Beginning.{slotAt, messageBy, slotIn, SlotFits, ScratchFits};
 use crate::Target;
-use crate::tests::Offsets;
+use crate::conditions::Offsets;
 use file_space_info::DEFAULT_THRESHOLD;
 use file_space_info::FileSpaceInfo;
 use file_space_info::FileSpaceStrategy;
@@ -24,7 +24,7 @@ const SMALL_CLASS: u8 = 1;
 
 const LARGE_CLASS: u8 = 2;
 
-// Writes the blocks of a slot, `at` bytes behind the first block.
+// Writes the blocks of a slot, `at` bytes after the first block.
 fn put_slot(
     slot: Slot,
     a: &[u64],
@@ -69,7 +69,7 @@ fn slot_addr(start: u64, from: u64, to: u64) -> u64
     start + from
 }
 
-// Writes the message behind the blocks.
+// Writes the message after the blocks.
 fn put_message(page: u64, start: u64, o: Offsets, scratch: &mut [u8])
     requires order { ⌜ (o .raw ≤ o .large) × (o .large ≤ o .len) ⌝ }
     requires room { ⌜ (start + o .len ≤ top) × (o .len + 125 ≤ length (now scratch)) ⌝ }

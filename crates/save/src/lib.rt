@@ -4,12 +4,12 @@ ghost use Rattle.error.specs.Lent.{left, leaving};
 ghost use Rattle.free_lists.specs.Lists.{listsIn};
 ghost use Rattle.save.specs.Saving.{begun, beginOutcome};
 
+mod conditions;
 mod fill;
-mod tests;
 
+use crate::conditions::Tested;
+use crate::conditions::test_begin;
 use crate::fill::fill_scratch;
-use crate::tests::Tested;
-use crate::tests::test_begin;
 use error::Refusal;
 use free_lists::FileLists;
 use save_step::Save;
@@ -42,7 +42,7 @@ pub fn save_begin(
     let tested = test_begin(meta, raw, unclassified, lists, to, image, scratch.len());
     match tested {
         Tested::Refused(r) => Begin::Refused(r),
-        Tested::Fine(offsets) => {
+        Tested::Passed(offsets) => {
             fill_scratch(meta, raw, unclassified, lists, to, offsets, scratch);
             Begin::Begun(Save {
                 start: to.start,

@@ -26,7 +26,7 @@ getD-ascending p [] k h = absurd (not-suc-le-zero h)
 getD-ascending p (x ∷ b) zero h = rw add-zero
 getD-ascending p (x ∷ b) (suc k) h = getD-ascending (suc p) b k (le-of-suc-le-suc h) ∙ ap (λ (n : ℕ). store n (getD b k 0)) (suc-add p k ∙ sym (add-suc p k))
 
--- the number of the store of message byte j, with L block bytes: persist is left out, so the bytes behind it come one store earlier
+-- the number of the store of message byte j, with L block bytes: persist is left out, so the bytes after it come one store earlier
 unfoldable pub byteNumber : ℕ → ℕ → ℕ
 byteNumber L j = cond (ltb j persist) (suc (L + j)) (L + j)
 
@@ -34,14 +34,14 @@ pub number-before : (L j : ℕ) → j < persist → byteNumber L j ≡ suc (L + 
 unfolding byteNumber
 number-before L j h = rw (lt-ltb j persist h)
 
-pub number-behind : (L j : ℕ) → persist < j → byteNumber L j ≡ L + j
+pub number-after : (L j : ℕ) → persist < j → byteNumber L j ≡ L + j
 unfolding byteNumber
-number-behind L j h = let h′ : persist ≤ j = omega arith in rw (le-ltb j persist h′)
+number-after L j h = let h′ : persist ≤ j = omega arith in rw (le-ltb j persist h′)
 
 pub number-in : (L j : ℕ) → j < messageLen → j ≢ persist → byteNumber L j < stores L
 number-in L j h n =
     ⊎-elim
-    (λ (l : persist ≤ j). omega (arith, number-behind L j (omega arith)))
+    (λ (l : persist ≤ j). omega (arith, number-after L j (omega arith)))
     (λ (l : j < persist). omega (arith, number-before L j l))
     (le-or-lt persist j)
 
@@ -83,13 +83,13 @@ module _ (place start : ℕ) (blocks message : List ℕ) (len : length message �
   unfolding saveStores
   store-block i h = List·getD-append (ascending start blocks) rest noStore i (rw length-ascending h) ∙ getD-ascending start blocks i h
 
-  behind-blocks : (n : ℕ) → getD ss (suc (L + n)) noStore ≡ getD rest n noStore
+  after-blocks : (n : ℕ) → getD ss (suc (L + n)) noStore ≡ getD rest n noStore
   unfolding saveStores
-  behind-blocks n =
+  after-blocks n =
       ap (λ (l : ℕ). getD (ascending start blocks ++ rest) (l + n) noStore) (sym (length-ascending start blocks)) ∙ getD-append-add (ascending start blocks) rest n noStore
 
   in-message : (n : ℕ) → n < 124 → getD ss (suc (L + n)) noStore ≡ getD (but persist whole) n noStore
-  in-message n h = behind-blocks n ∙ List·getD-append (but persist whole) (store (place + persist) 1 ∷ []) noStore n (omega (arith, length-but))
+  in-message n h = after-blocks n ∙ List·getD-append (but persist whole) (store (place + persist) 1 ∷ []) noStore n (omega (arith, length-but))
 
   in-whole : (j : ℕ) → j < messageLen → getD whole j noStore ≡ store (place + j) (getD message j 0)
   in-whole j h = getD-ascending place message j (omega arith)
@@ -101,8 +101,8 @@ module _ (place start : ℕ) (blocks message : List ℕ) (len : length message �
       ∙ getD-take persist whole j noStore h
       ∙ in-whole j (omega arith)
 
-  pub store-behind : (j : ℕ) → persist < j → j < messageLen → getD ss (L + j) noStore ≡ store (place + j) (getD message j 0)
-  store-behind j h l =
+  pub stored-after : (j : ℕ) → persist < j → j < messageLen → getD ss (L + j) noStore ≡ store (place + j) (getD message j 0)
+  stored-after j h l =
       let e : L + j ≡ suc (L + (j - 1)) = omega arith in
       let f : j - 1 ≡ length (take persist whole) + (j - 3) = omega (arith, length-front) in
       let g : suc persist + (j - 3) ≡ j = omega arith in
@@ -119,14 +119,14 @@ module _ (place start : ℕ) (blocks message : List ℕ) (len : length message �
       let e : L + 125 ≡ suc (L + 124) = omega arith in
       let f : 124 ≡ length (but persist whole) + 0 = omega (arith, length-but) in
       ap (λ (n : ℕ). getD ss n noStore) e
-      ∙ behind-blocks 124
+      ∙ after-blocks 124
       ∙ ap (λ (n : ℕ). getD rest n noStore) f
       ∙ getD-append-add (but persist whole) (store (place + persist) 1 ∷ []) 0 noStore
 
   pub store-message : (j : ℕ) → j < messageLen → j ≢ persist → getD ss (byteNumber L j) noStore ≡ store (place + j) (getD message j 0)
   store-message j h n =
       ⊎-elim
-      (λ (l : persist ≤ j). let m : persist < j = omega arith in rw (number-behind L j m) (store-behind j m h))
+      (λ (l : persist ≤ j). let m : persist < j = omega arith in rw (number-after L j m) (stored-after j m h))
       (λ (l : j < persist). rw (number-before L j l) (store-before j l))
       (le-or-lt persist j)
 
@@ -147,5 +147,5 @@ module _ (place start : ℕ) (blocks message : List ℕ) (len : length message �
           at (byteNumber L j) _ (omega (arith, number-before L j (omega arith))) (store-message j (omega arith) (λ e. omega arith)) (byte j (omega arith) (λ e. omega arith))
       pick (inl a) (inl b) (inr c) =
           let j : ℕ = suc i - L in
-          at (byteNumber L j) _ (omega (arith, number-behind L j (omega arith))) (store-message j (omega arith) (λ e. omega arith)) (byte j (omega arith) (λ e. omega arith))
+          at (byteNumber L j) _ (omega (arith, number-after L j (omega arith))) (store-message j (omega arith) (λ e. omega arith)) (byte j (omega arith) (λ e. omega arith))
       pick (inl a) (inl b) (inl c) = at (L + 125) _ (omega arith) store-last last

@@ -17,7 +17,7 @@ use Rattle.error.proofs.TestLaws.{le-or-lt}
 use Rattle.fields.specs.Layout.{window}
 use Rattle.save_step.specs.declared.Save.{Save}
 use Rattle.save_step.specs.Stores.{noStore, run, after, messageLen, saveStores}
-use Rattle.save_step.specs.Steps.{Progress, stored, finished, stores, leaves, nextStore, counted, stepped, Saving, saving, recordAfter, goOn, stepOn, steps}
+use Rattle.save_step.specs.Steps.{Progress, stored, finished, stores, leaves, nextStore, oneMore, stepped, Saving, saving, recordAfter, goOn, stepOn, steps}
 use Rattle.save_step.proofs.StoreLaws.{after-suc}
 use Rattle.save_step.proofs.CutLaws.{Savable, number-of-stores, cut-length}
 use Rattle.save_step.proofs.StepLaws.{step-ends, step-made}
@@ -67,12 +67,12 @@ module _ (c : Save) (image scratch : List ℕ) where
       step-ends c image scratch (λ x. left o new ≡ leaving image x → (new ≡ image) × (goOn (saving c image) x ≡ saving c image))
       (λ e. (both e .1, refl))
       (λ e. (both e .1, refl))
-      (λ e. absurd (n (counted c) (both e .0)))
+      (λ e. absurd (n (oneMore c) (both e .0)))
 
-  pub steps-turn : (x : Saving) (i : ℕ) → saving c image ≡ steps i scratch x → (new : List ℕ) (o : Outcome Progress) (t : Save) → o ≡ answer (stored t)
+  pub steps-step : (x : Saving) (i : ℕ) → saving c image ≡ steps i scratch x → (new : List ℕ) (o : Outcome Progress) (t : Save) → o ≡ answer (stored t)
       → left o new ≡ leaving image (stepped c image scratch) → saving t new ≡ steps (i + 1) scratch x
   unfolding steps
-  steps-turn x i h new o t s e =
+  steps-step x i h new o t s e =
       goes new (stored t) (stepped c image scratch) (ap (λ (q : Outcome Progress). left q new) (sym s) ∙ e) ∙ ap (stepOn scratch) h ∙ rw add-one
 
   pub steps-stop : (x : Saving) (i : ℕ) → saving c image ≡ steps i scratch x → (new : List ℕ) (o : Outcome Progress) → ((t : Save) → o ≡ answer (stored t) → ⊥)

@@ -17,8 +17,8 @@ use Rattle.fields.specs.Layout.{window}
 use Rattle.save_step.specs.declared.Save.{Save}
 use Rattle.save_step.specs.declared.Store.{Store}
 use Rattle.save_step.specs.Stores.{noStore, store, make, messageLen, persist, saveStores}
-use Rattle.save_step.specs.Steps.{Progress, stored, finished, stores, allMade, leaves, Inside, nextStore, counted, stepped}
-use Rattle.save_step.proofs.NumberLaws.{store-first, store-block, store-before, store-behind, store-last, each}
+use Rattle.save_step.specs.Steps.{Progress, stored, finished, stores, allMade, leaves, Inside, nextStore, oneMore, stepped}
+use Rattle.save_step.proofs.NumberLaws.{store-first, store-block, store-before, stored-after, store-last, each}
 
 -- ---- the tests, without a sum that could wrap
 
@@ -109,9 +109,9 @@ module _ (s : Save) (scratch : List ℕ) (room : s .len + messageLen ≤ length 
   next-before j e h =
       is-next (suc (length blocks + j)) _ _ (store-before (s .place) (s .start) blocks message message-len j h) (omega (arith, blocks-len)) _ _ refl (message-byte j (s .len + j) (omega arith) refl)
 
-  pub next-behind : (i j : ℕ) → s .done ≡ s .len + j → j ≡ suc i → persist ≤ i → i < 124 → store (s .place + 1 + i) (getD scratch (s .len + 1 + i) 0) ≡ nextStore s scratch
-  next-behind i j e f h l =
-      is-next (length blocks + j) _ _ (store-behind (s .place) (s .start) blocks message message-len j (omega arith) (omega arith)) (omega (arith, blocks-len)) _ _ (omega arith) (message-byte j (s .len + 1 + i) (omega arith) (omega arith))
+  pub next-after : (i j : ℕ) → s .done ≡ s .len + j → j ≡ suc i → persist ≤ i → i < 124 → store (s .place + 1 + i) (getD scratch (s .len + 1 + i) 0) ≡ nextStore s scratch
+  next-after i j e f h l =
+      is-next (length blocks + j) _ _ (stored-after (s .place) (s .start) blocks message message-len j (omega arith) (omega arith)) (omega (arith, blocks-len)) _ _ (omega arith) (message-byte j (s .len + 1 + i) (omega arith) (omega arith))
 
   pub next-last : s .done ≡ s .len + 125 → store (s .place + 2) 1 ≡ nextStore s scratch
   next-last e = is-next (length blocks + 125) _ _ (store-last (s .place) (s .start) blocks message message-len) (omega (arith, blocks-len)) _ _ refl refl
@@ -139,11 +139,11 @@ module _ (s : Save) (image scratch : List ℕ) where
 
   -- in one of three ways
   pub step-ends : (P : Outcome (With Progress (List ℕ)) → Type 0) → P (answer (with finished image)) → P (refused Place)
-      → P (answer (with (stored (counted s)) (make (nextStore s scratch) image))) → P (stepped s image scratch)
+      → P (answer (with (stored (oneMore s)) (make (nextStore s scratch) image))) → P (stepped s image scratch)
   unfolding stepped firstOf
   step-ends P last outside next = pick (allMade s) (leaves s (length image) (length scratch))
     where
-      pick : (a b : Bool) → P (cond a (answer (with finished image)) (cond b (refused Place) (answer (with (stored (counted s)) (make (nextStore s scratch) image)))))
+      pick : (a b : Bool) → P (cond a (answer (with finished image)) (cond b (refused Place) (answer (with (stored (oneMore s)) (make (nextStore s scratch) image)))))
       pick true b = last
       pick false true = outside
       pick false false = next
@@ -156,10 +156,10 @@ module _ (s : Save) (image scratch : List ℕ) where
     unfolding stepped firstOf
     step-refused e = rw (f, e)
 
-    pub step-made : leaves s (length image) (length scratch) ≡ false → stepped s image scratch ≡ answer (with (stored (counted s)) (make (nextStore s scratch) image))
+    pub step-made : leaves s (length image) (length scratch) ≡ false → stepped s image scratch ≡ answer (with (stored (oneMore s)) (make (nextStore s scratch) image))
     unfolding stepped firstOf
     step-made e = rw (f, e)
 
     pub step-stored : leaves s (length image) (length scratch) ≡ false → {next : Store} → next ≡ nextStore s scratch
-        → left (answer (stored (counted s))) (make next image) ≡ leaving image (stepped s image scratch)
+        → left (answer (stored (oneMore s))) (make next image) ≡ leaving image (stepped s image scratch)
     step-stored e h = rw (step-made e, h)

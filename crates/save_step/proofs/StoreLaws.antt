@@ -32,9 +32,9 @@ pub after-all : (k : ℕ) (image : List ℕ) (ss : List Store) → length ss ≤
 after-all k image ss h = ap (run image) (take-all k ss h)
 
 -- from k stores to k + 1, at every k: past the last store nothing more is made
-after-turn : (P : List ℕ → Type 0) (k : ℕ) (image : List ℕ) (ss : List Store) → P (after k image ss) → (k < length ss → P (make (getD ss k noStore) (after k image ss)))
+after-step : (P : List ℕ → Type 0) (k : ℕ) (image : List ℕ) (ss : List Store) → P (after k image ss) → (k < length ss → P (make (getD ss k noStore) (after k image ss)))
     → P (after (suc k) image ss)
-after-turn P k image ss old new =
+after-step P k image ss old new =
     ⊎-elim
     (λ (h : length ss ≤ k). let h′ : length ss ≤ suc k = omega arith in rw (take-all (suc k) ss h′) (rw (take-all k ss h) at old))
     (λ (h : k < length ss). rw (after-suc k image ss h) (new h))
@@ -55,7 +55,7 @@ module _ (image : List ℕ) (ss : List Store) (q : ℕ) where
   cut-other zero f = refl
   cut-other (suc k) f =
       let ih : getD (after k image ss) q 0 ≡ getD image q 0 = cut-other k (λ j h. f j (omega arith)) in
-      after-turn (λ i. getD i q 0 ≡ getD image q 0) k image ss ih (λ h. make-other (getD ss k noStore) (after k image ss) q (f k (omega arith) h) ∙ ih)
+      after-step (λ i. getD i q 0 ≡ getD image q 0) k image ss ih (λ h. make-other (getD ss k noStore) (after k image ss) q (f k (omega arith) h) ∙ ih)
 
   -- store number n before the cut names q, and no later one before the cut does
   pub cut-last : (n : ℕ) → getD ss n noStore .place ≡ q → n < length ss → q < length image → (k : ℕ) → n < k
@@ -70,7 +70,7 @@ module _ (image : List ℕ) (ss : List Store) (q : ℕ) where
           rw (after-suc k image ss m, z) (make-same (getD ss k noStore) (after k image ss) q e′ (rw length-run i))
       pick (no z) ih =
           let m : n < k = omega arith in
-          after-turn (λ x. getD x q 0 ≡ getD ss n noStore .byte) k image ss (ih m) (λ h. make-other (getD ss k noStore) (after k image ss) q (f k m (omega arith) h) ∙ ih m)
+          after-step (λ x. getD x q 0 ≡ getD ss n noStore .byte) k image ss (ih m) (λ h. make-other (getD ss k noStore) (after k image ss) q (f k m (omega arith) h) ∙ ih m)
 
   -- store number n is the only one that names q
   abbrev pub Sole : ℕ → Type 0
@@ -106,4 +106,4 @@ unfolding run
 run-twice zero image ss = refl
 run-twice (suc k) image ss =
     let ih : run (after k image ss) ss ≡ run image ss = run-twice k image ss in
-    after-turn (λ i. run i ss ≡ run image ss) k image ss ih (λ h. run-over (after k image ss) (getD ss k noStore .place) (getD ss k noStore .byte) ss k h refl ∙ ih)
+    after-step (λ i. run i ss ≡ run image ss) k image ss ih (λ h. run-over (after k image ss) (getD ss k noStore .place) (getD ss k noStore .byte) ss k h refl ∙ ih)

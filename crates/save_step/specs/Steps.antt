@@ -9,7 +9,7 @@
 --   Inside        what it means that they do not, for proofs
 --   nextStore     the store that a step makes ("the stores are, one a step"): number `done` of the save whose blocks are the first bytes of the
 --                 scratch and whose message stands after them
---   counted       the record with one store more
+--   oneMore       the record with one store more
 --   stepped       a step: "A step after the last changes nothing and says finished"; before, it is refusal 13 where places leave, and else makes
 --                 one store
 --   Saving        a save's record and image, "as the beginning or the last step left them"
@@ -65,14 +65,14 @@ unfoldable pub nextStore : Save → List ℕ → Store
 nextStore s scratch =
     getD (saveStores (s .place) (s .start) (take (s .len) scratch) (window (s .len) messageLen scratch)) (s .done) noStore
 
-abbrev pub counted : Save → Save
-counted s = record { start = s .start; place = s .place; len = s .len; done = s .done + 1 }
+abbrev pub oneMore : Save → Save
+oneMore s = record { start = s .start; place = s .place; len = s .len; done = s .done + 1 }
 
 unfoldable pub stepped : Save → List ℕ → List ℕ → Outcome (With Progress (List ℕ))
 stepped s image scratch =
     cond (allMade s) (answer (with finished image))
     (firstOf (when (leaves s (length image) (length scratch)) Place ∷ [])
-    (answer (with (stored (counted s)) (make (nextStore s scratch) image))))
+    (answer (with (stored (oneMore s)) (make (nextStore s scratch) image))))
 
 -- ---- steps in a row
 

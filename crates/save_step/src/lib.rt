@@ -77,8 +77,8 @@ fn leaves_lent(s: Save, image: usize, scratch: usize) -> bool
     passes(s.start, len, image)
 }
 
-// Store number `done`. The scratch has the blocks and behind them the message; persist is left out of the message's bytes,
-// so those behind it come one store earlier.
+// Store number `done`. The scratch has the blocks and after them the message; persist is left out of the message's bytes,
+// so those after it come one store earlier.
 fn next_store(s: Save, scratch: &[u8]) -> Store
     requires inside { ⌜ Inside s top (length (now scratch)) ⌝ }
     requires number { ⌜ s .done < stores (s .len) ⌝ }

@@ -29,15 +29,15 @@ pub all-left : (xs : List ℕ) (n page : ℕ) → piecesLeft page n xs 0 0 ≡ s
 unfolding piecesLeft
 all-left xs n page = ap (split page) (cut-none (decode n xs))
 
--- where no section ends above, none of those behind the first i does
-fits-behind : (i : ℕ) (l : List FreeSection) → endsAbove l ≡ false → endsAbove (drop i l) ≡ false
-fits-behind zero l h = h
-fits-behind (suc i) [] h = h
-fits-behind (suc i) (s ∷ l) h = fits-behind i l (or-false (ltb top (end s)) (endsAbove l) h .1)
+-- where no section ends above, none of those after the first i does
+fits-after : (i : ℕ) (l : List FreeSection) → endsAbove l ≡ false → endsAbove (drop i l) ≡ false
+fits-after zero l h = h
+fits-after (suc i) [] h = h
+fits-after (suc i) (s ∷ l) h = fits-after i l (or-false (ltb top (end s)) (endsAbove l) h .1)
 
 -- the end of section i is a number
 pub fits-here : (n : ℕ) (xs : List ℕ) → 2 * n ≤ length xs → endsAbove (decode n xs) ≡ false → (i : ℕ) → i < n → sectionAt xs i .addr + sectionAt xs i .size < 2 ^ 64
-fits-here n xs run f i h = fits-at n xs run i h (fits-behind i (decode n xs) f) .0
+fits-here n xs run f i h = fits-at n xs run i h (fits-after i (decode n xs) f) .0
 
 -- where nothing is left of a section, it has no piece
 no-piece : (page a z : ℕ) → z ≡ 0 → pieces page (section a z) ≡ []

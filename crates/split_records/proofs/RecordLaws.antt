@@ -44,20 +44,20 @@ module _ (xs : List ℕ) (n page : ℕ) where
     planned-refused r e = first-refuses (splitTests xs n page) (sat (length all)) r (firstOf last (answer (length all))) e ∙ sym in-order
 
     module _ (m : ℕ) (s : Splits xs n page m) where
-      behind : splitAnswer xs n page room ≡ firstOf last (answer (length all))
-      behind = in-order ∙ first-pass (splitTests xs n page) (firstOf last (answer (length all))) (s .passed)
+      after-tests : splitAnswer xs n page room ≡ firstOf last (answer (length all))
+      after-tests = in-order ∙ first-pass (splitTests xs n page) (firstOf last (answer (length all))) (s .passed)
 
       pub planned-over : room < m → refused (OverCapacity m room) ≡ splitAnswer xs n page room
       unfolding sat
       planned-over h =
           let k : room < length all = omega (arith, s .number) in
-          ap (λ (x : ℕ). refused (OverCapacity x room)) (s .number) ∙ refuses (ltb room (length all)) (OverCapacity (sat (length all)) room) (answer (length all)) (lt-ltb room (length all) k) ∙ sym behind
+          ap (λ (x : ℕ). refused (OverCapacity x room)) (s .number) ∙ refuses (ltb room (length all)) (OverCapacity (sat (length all)) room) (answer (length all)) (lt-ltb room (length all) k) ∙ sym after-tests
 
       pub planned-some : m ≤ room → room < 2 ^ 64 - 1 → answer m ≡ splitAnswer xs n page room
       unfolding sat
       planned-some h b =
           let k : m ≡ length all = omega (arith, s .number) in
-          ap answer k ∙ passes (ltb room (length all)) (OverCapacity (sat (length all)) room) (answer (length all)) (le-ltb room (length all) (omega arith)) ∙ sym behind
+          ap answer k ∙ passes (ltb room (length all)) (OverCapacity (sat (length all)) room) (answer (length all)) (le-ltb room (length all) (omega arith)) ∙ sym after-tests
 
   -- ---- from the answer to the records
 

@@ -12,7 +12,7 @@ use lib.ListN.{length, getD, drop, set, length-append, List·getD-append}
 use lib.Seq.{getD-append-seam, drop-length}
 use Rattle.error.specs.Lent.{over}
 use Rattle.error.proofs.TestLaws.{le-or-lt}
-use Rattle.error.proofs.OverLaws.{over-nil, up-turn}
+use Rattle.error.proofs.OverLaws.{over-nil, up-next}
 use Rattle.text.specs.Decimal.{digit, digits, decimal}
 
 -- ---- how many
@@ -30,11 +30,11 @@ pub count-start : (n : ℕ) → length (decimal n) + 1 ≡ 1 + length (digits 19
 unfolding decimal
 count-start n = omega arith
 
--- a turn that counts a digit: `count` digits are counted, and those of rest are to come
+-- an iteration that counts a digit: `count` digits are counted, and those of rest are to come
 module _ (n count rest : ℕ) where
-  pub count-turn : 9 < rest → count ≤ 19 → length (decimal n) + 1 ≡ count + length (digits (20 - count) rest)
+  pub count-next : 9 < rest → count ≤ 19 → length (decimal n) + 1 ≡ count + length (digits (20 - count) rest)
       → length (decimal n) + 1 ≡ count + 1 + length (digits (20 - (count + 1)) (rest / 10))
-  count-turn h l e =
+  count-next h l e =
       let s : 20 - count ≡ suc (20 - (count + 1)) = omega arith in
       let m = length-more (20 - (count + 1)) rest h in
       let q : length (digits (20 - count) rest) ≡ length (digits (suc (20 - (count + 1))) rest) = ap (λ (f : ℕ). length (digits f rest)) s in
@@ -74,9 +74,9 @@ digit-at (suc f) n j h = pick (ltb n 10) (ltb-true n 10) (digit-at f (n / 10)) h
     last : ℕ
     last = digit (n % 10)
 
-    behind : (j : ℕ) → ((j : ℕ) → j < k → getD (digits f (n / 10)) j 0 ≡ digit (n / 10 / 10 ^ (k - 1 - j) % 10)) → j < k + 1
+    later : (j : ℕ) → ((j : ℕ) → j < k → getD (digits f (n / 10)) j 0 ≡ digit (n / 10 / 10 ^ (k - 1 - j) % 10)) → j < k + 1
         → getD (digits f (n / 10) ++ (last ∷ [])) j 0 ≡ digit (n / 10 ^ (k - j) % 10)
-    behind j ih l =
+    later j ih l =
         ⊎-elim
         (λ (q : k ≤ j).
         let e : j ≡ k = omega arith in
@@ -104,30 +104,30 @@ digit-at (suc f) n j h = pick (ltb n 10) (ltb-true n 10) (digit-at f (n / 10)) h
     pick false s ih l =
         let m : length (digits f (n / 10) ++ (last ∷ [])) ≡ k + 1 = length-append (digits f (n / 10)) (last ∷ []) in
         let e : length (digits f (n / 10) ++ (last ∷ [])) - 1 - j ≡ k - j = omega arith in
-        behind j ih (omega arith) ∙ ap (λ (i : ℕ). digit (n / 10 ^ i % 10)) (sym e)
+        later j ih (omega arith) ∙ ap (λ (i : ℕ). digit (n / 10 ^ i % 10)) (sym e)
 
 pub decimal-at : (n j : ℕ) → j < length (decimal n) → getD (decimal n) j 0 ≡ digit (n / 10 ^ (length (decimal n) - 1 - j) % 10)
 unfolding decimal
 decimal-at n j h = digit-at 19 n j h
 
-pub rest-turn : (n i : ℕ) {rest : ℕ} → rest ≡ n / 10 ^ i → rest / 10 ≡ n / 10 ^ suc i
-rest-turn n i r =
+pub rest-iteration : (n i : ℕ) {rest : ℕ} → rest ≡ n / 10 ^ i → rest / 10 ≡ n / 10 ^ suc i
+rest-iteration n i r =
     ap (λ (k : ℕ). k / 10) r ∙ div-div-eq-div-mul n (10 ^ i) 10 ∙ ap (λ (k : ℕ). n / k) (sym (pow-suc 10 i))
 
--- a turn that writes digit j, from the last one down
+-- an iteration that writes digit j, from the last one down
 module _ (n at j : ℕ) (d : List ℕ) {out : List ℕ} {rest : ℕ} (h : j < length (decimal n)) (r : rest ≡ n / 10 ^ (length (decimal n) - suc j))
     (e : out ≡ over (at + suc j) (drop (suc j) (decimal n)) d) where
-  pub put-turn : set out (at + j) (48 + rest % 10) ≡ over (at + j) (drop j (decimal n)) d
-  put-turn =
+  pub put-iteration : set out (at + j) (48 + rest % 10) ≡ over (at + j) (drop j (decimal n)) d
+  put-iteration =
       let s : length (decimal n) - 1 - j ≡ length (decimal n) - suc j = omega arith in
       let v : 48 + rest % 10 ≡ getD (decimal n) j 0 =
       ap (λ (k : ℕ). digit (k % 10)) r ∙ ap (λ (k : ℕ). digit (n / 10 ^ k % 10)) (sym s) ∙ sym (decimal-at n j h) in
-      ap₂ (λ (l : List ℕ) (x : ℕ). set l (at + j) x) e v ∙ up-turn at j (decimal n) d h
+      ap₂ (λ (l : List ℕ) (x : ℕ). set l (at + j) x) e v ∙ up-next at j (decimal n) d h
 
   pub rest-next : rest / 10 ≡ n / 10 ^ (length (decimal n) - j)
   rest-next =
       let s : suc (length (decimal n) - suc j) ≡ length (decimal n) - j = omega arith in
-      rest-turn n (length (decimal n) - suc j) r ∙ ap (λ (k : ℕ). n / 10 ^ k) s
+      rest-iteration n (length (decimal n) - suc j) r ∙ ap (λ (k : ℕ). n / 10 ^ k) s
 
 -- before the first digit is written
 pub none-written : (n at : ℕ) (d : List ℕ) → d ≡ over (at + length (decimal n)) (drop (length (decimal n)) (decimal n)) d

@@ -1,4 +1,4 @@
--- Laws of text in lent bytes: one text behind another, a byte, and the loop that copies bytes. Assumes nothing.
+-- Laws of text in lent bytes: one text after another, a byte, and the loop that copies bytes. Assumes nothing.
 use mathlib.Core.Path.{_≡_, refl, sym, ap, ap₂, _∙_}
 use mathlib.Core.List.{List, [], _∷_, _++_}
 use mathlib.Core.Logic.{⊎-elim}
@@ -9,7 +9,7 @@ use lib.ListN.{length, take, getD, set, length-append}
 use lib.Seq.{take-append-seam, take-length}
 use Rattle.error.specs.Lent.{With, with, over}
 use Rattle.error.proofs.TestLaws.{le-or-lt}
-use Rattle.error.proofs.OverLaws.{length-over, over-nil, over-right, over-cut, set-over, down-turn}
+use Rattle.error.proofs.OverLaws.{length-over, over-nil, over-right, over-cut, set-over, down-next}
 use Rattle.text.specs.Decimal.{decimal}
 use Rattle.text.specs.Text.{written}
 
@@ -17,7 +17,7 @@ use Rattle.text.specs.Text.{written}
 over-end : (i : ℕ) (vs xs : List ℕ) → length xs ≤ i → over i vs xs ≡ xs
 over-end i vs xs h = sym (over-cut i 0 vs xs (omega arith)) ∙ over-nil i xs
 
--- ---- one text behind another
+-- ---- one text after another
 
 module _ (at : ℕ) (a b out : List ℕ) where
   both : over (min (at + length a) (length out)) b (over at a out) ≡ over at (a ++ b) out
@@ -47,9 +47,9 @@ pub record Printing (whole : With ℕ (List ℕ)) (to : ℕ) (rest out : List �
   pub inside : to ≤ length out
   pub same : written to rest out ≡ whole
 
--- the place behind a text is inside
-pub behind-inside : (at : ℕ) (a out : List ℕ) {r : ℕ} {m : List ℕ} → with r m ≡ written at a out → r ≤ length m
-behind-inside at a out e =
+-- the place after a text is inside
+pub after-inside : (at : ℕ) (a out : List ℕ) {r : ℕ} {m : List ℕ} → with r m ≡ written at a out → r ≤ length m
+after-inside at a out e =
     let v = ap (λ (w : With ℕ (List ℕ)). w .value) e in
     let n = ap (λ (w : With ℕ (List ℕ)). length (w .memory)) e in
     omega (arith, length-over at a out)
@@ -58,7 +58,7 @@ pub whole-left : (at : ℕ) (text out : List ℕ) → at ≤ length out → Prin
 whole-left at text out h = record { inside = h; same = refl }
 
 pub piece : {whole : With ℕ (List ℕ)} (to : ℕ) (a b out : List ℕ) {r : ℕ} {m : List ℕ} → Printing whole to (a ++ b) out → with r m ≡ written to a out → Printing whole r b m
-piece to a b out p e = record { inside = behind-inside to a out e; same = after to a b out e ∙ p .same }
+piece to a b out p e = record { inside = after-inside to a out e; same = after to a b out e ∙ p .same }
 
 pub printed : {whole : With ℕ (List ℕ)} (to : ℕ) (out : List ℕ) → Printing whole to [] out → with to out ≡ whole
 printed to out p =
@@ -80,7 +80,7 @@ byte-in at v out h = let n : at + 1 ≡ min (at + 1) (length out) = omega arith 
 pub byte-out : (at v : ℕ) (out : List ℕ) → length out ≤ at → with (length out) out ≡ written at (v ∷ []) out
 byte-out at v out h = let n : length out ≡ min (at + 1) (length out) = omega arith in ap₂ with n (sym (over-end at (v ∷ []) out h))
 
--- ---- a word: digits, whose number is counted, and the byte behind them
+-- ---- a word: digits, whose number is counted, and the byte after them
 
 pub digits-written : (n at : ℕ) (out : List ℕ) {count p : ℕ} {m : List ℕ} → count ≡ length (decimal n) → m ≡ over at (decimal n) out → p ≡ min (at + count) (length m)
     → with p m ≡ written at (decimal n) out
@@ -97,13 +97,13 @@ module _ (at : ℕ) (bytes out₀ : List ℕ) where
       let z : at - at ≡ 0 = omega arith in
       sym (ap (λ (k : ℕ). over at (take k bytes) out₀) z ∙ over-nil at out₀)
 
-  pub copy-turn : (to : ℕ) {out : List ℕ} → at ≤ to → to - at < length bytes → out ≡ over at (take (to - at) bytes) out₀
+  pub copy-step : (to : ℕ) {out : List ℕ} → at ≤ to → to - at < length bytes → out ≡ over at (take (to - at) bytes) out₀
       → set out to (getD bytes (to - at) 0) ≡ over at (take (to + 1 - at) bytes) out₀
-  copy-turn to l h e =
+  copy-step to l h e =
       let p : to ≡ at + (to - at) = omega arith in
       let q : to - at + 1 ≡ to + 1 - at = omega arith in
       ap₂ (λ (m : List ℕ) (i : ℕ). set m i (getD bytes (to - at) 0)) e p
-      ∙ down-turn at (to - at) bytes out₀ h
+      ∙ down-next at (to - at) bytes out₀ h
       ∙ ap (λ (k : ℕ). over at (take k bytes) out₀) q
 
   pub copy-end : (to end : ℕ) {out : List ℕ} → at ≤ to → end ≤ to → to - at ≤ length bytes → end ≡ min (at + length bytes) (length out₀)

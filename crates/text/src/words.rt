@@ -6,8 +6,8 @@ ghost use Rattle.error.specs.Lent.{with};
 ghost use Rattle.text.specs.Text.{written, word};
 use crate::decimal::write_decimal;
 
-// The place behind `count` bytes at `at`, at most the end.
-fn behind(at: usize, count: usize, len: usize) -> usize
+// The place after `count` bytes at `at`, at most the end.
+fn place_after(at: usize, count: usize, len: usize) -> usize
     ensures { λ r. ⌜ r ≡ min (at + count) len ⌝ }
 {
     if len <= at {
@@ -19,11 +19,11 @@ fn behind(at: usize, count: usize, len: usize) -> usize
     at + count
 }
 
-// Writes bytes at `at`, and answers the place behind them.
+// Writes bytes at `at`, and answers the place after them.
 pub fn write_bytes(out: &mut [u8], at: usize, bytes: &[u8]) -> usize
     ensures { λ r. ⌜ with r (now (out .exit)) ≡ written at (now (bytes .entry)) (now (out .entry)) ⌝ }
 {
-    let end = behind(at, bytes.len(), out.len());
+    let end = place_after(at, bytes.len(), out.len());
     let mut to = at;
     while to < end {
         out[to] = bytes[to - at];
@@ -43,11 +43,11 @@ fn write_byte(out: &mut [u8], at: usize, byte: u8) -> usize
     out.len()
 }
 
-// Writes a number in decimal and the byte that stands behind it.
+// Writes a number in decimal and the byte that stands after it.
 pub fn write_word(out: &mut [u8], at: usize, n: u64, stop: u8) -> usize
     ensures { λ r. ⌜ with r (now (out .exit)) ≡ written at (word n stop) (now (out .entry)) ⌝ }
 {
     let count = write_decimal(out, at, n);
-    let second = behind(at, count, out.len());
+    let second = place_after(at, count, out.len());
     write_byte(out, second, stop)
 }

@@ -4,7 +4,7 @@ use Prim.Native.Nat.{_≤_, _-_}
 use native.Mathlib.Omega.{arith}
 use lib.ListN.{length, drop}
 use Rattle.checksum.specs.Lookup3.{hashOf}
-use Rattle.checksum.proofs.HashLaws.{hash, hash-start, hash-turn, hash-none, hash-some}
+use Rattle.checksum.proofs.HashLaws.{hash, hash-start, hash-step, hash-none, hash-some}
 use borrow.Author.Needs.{needs}
 use Rattle.checksum.proofs.hashlittle.Statement.{statement}
 use Rattle.checksum.proofs.hashlittle.Tie as tie
@@ -48,7 +48,7 @@ loop-again : tie.Need-loop-again Inv-loop μ-loop
 loop-again c =
     let l = c .before .before .before .loop in
     let k = c .before .before .before .before .before .before .before .before .args .«data» .now in
-    (search needs, rw (c .mix .ensures, c .before .add-block .ensures) (sym (hash-turn (l .at) k (l .w) (c .before .before .loop-test .taken)) ∙ l .inv .1))
+    (search needs, rw (c .mix .ensures, c .before .add-block .ensures) (sym (hash-step (l .at) k (l .w) (c .before .before .loop-test .taken)) ∙ l .inv .1))
 
 returns : tie.Need-returns Inv-loop μ-loop
 returns c =

@@ -9,7 +9,7 @@ use denote.Ref.{now}
 use Rattle.error.specs.Lent.{over}
 use Rattle.error.proofs.OverLaws.{length-over, over-nil}
 use Rattle.file_space_info.specs.Message.{numbersAt}
-use Rattle.file_space_info.proofs.ReadLaws.{length-numbers, read-turn, next-within}
+use Rattle.file_space_info.proofs.ReadLaws.{length-numbers, read-step, next-within}
 use Rattle.file_space_info.proofs.read_addrs.Statement.{statement}
 use Rattle.file_space_info.proofs.read_addrs.Tie as tie
 
@@ -50,7 +50,7 @@ loop-again c =
     let a = c .before .before .before .before .before .args in
     let l = c .before .before .loop in
     let p : l .pos + a .width ≡ a .at + (l .i + 1) * a .width = omega arith in
-    let o = read-turn (a .width) (a .n) (a .at) (l .i) (now (a .bytes)) (now (a .addrs)) (c .before .before .before .before .before .pre .0) (c .before .loop-test .taken) (rw (l .inv .1) at (c .read-uint-le .ensures)) (l .inv .3) in
+    let o = read-step (a .width) (a .n) (a .at) (l .i) (now (a .bytes)) (now (a .addrs)) (c .before .before .before .before .before .pre .0) (c .before .loop-test .taken) (rw (l .inv .1) at (c .read-uint-le .ensures)) (l .inv .3) in
     (omega arith, p, ap length o ∙ length-over 0 _ (now (a .addrs)), o)
 
 same-length : tie.Need-same-length Inv-loop μ-loop

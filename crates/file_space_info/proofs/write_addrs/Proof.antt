@@ -10,7 +10,7 @@ use Rattle.error.specs.Lent.{over}
 use Rattle.error.proofs.OverLaws.{length-over, over-nil}
 use Rattle.fields.specs.Layout.{layout}
 use Rattle.file_space_info.specs.Message.{addressRow}
-use Rattle.file_space_info.proofs.WriteLaws.{write-turn}
+use Rattle.file_space_info.proofs.WriteLaws.{write-step}
 use Rattle.file_space_info.proofs.write_addrs.Statement.{statement}
 use Rattle.file_space_info.proofs.write_addrs.Tie as tie
 
@@ -51,7 +51,7 @@ loop-again : tie.Need-loop-again Inv-loop μ-loop
 loop-again c =
     let a = c .before .before .before .before .before .before .before .before .before .args in
     let l = c .before .before .before .before .before .before .loop in
-    let o = c .before .before .write-uint-le .ensures ∙ write-turn 29 8 (l .i) (now (a .addrs)) (now (a .out)) (c .before .before .before .before .before .loop-test .taken) (l .inv .2) in
+    let o = c .before .before .write-uint-le .ensures ∙ write-step 29 8 (l .i) (now (a .addrs)) (now (a .out)) (c .before .before .before .before .before .loop-test .taken) (l .inv .2) in
     (omega arith, ap length o ∙ length-over 29 _ (now (a .out)), o)
 
 same-length : tie.Need-same-length Inv-loop μ-loop

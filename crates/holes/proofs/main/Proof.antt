@@ -3,7 +3,7 @@ use mathlib.Core.Path.{sym}
 use Prim.Native.Nat.{_≤_}
 use lib.ListN.{length, take}
 use lib.Seq.{length-take-le}
-use Rattle.text.proofs.TextLaws.{behind-inside}
+use Rattle.text.proofs.TextLaws.{after-inside}
 use Rattle.holes_text.specs.Holes.{holesText}
 use Rattle.holes.proofs.main.Statement.{statement}
 use Rattle.holes.proofs.main.Tie as tie
@@ -37,7 +37,7 @@ inside : (c : tie.After-holes-text) → c .holes-text .result ≤ length (c .hol
 inside c =
     let b = c .before .before .before in
     let r = b .before .before .read-full in
-    behind-inside 0 (holesText (take (r .result) (r .last .1 .0))) (b .text-buffer .result) (c .holes-text .ensures)
+    after-inside 0 (holesText (take (r .result) (r .last .1 .0))) (b .text-buffer .result) (c .holes-text .ensures)
 
 array-share-prefix-text : tie.Need-array-share-prefix-text
 array-share-prefix-text c = inside (c .before)

@@ -6,8 +6,8 @@ use denote.Ref.{now}
 use lib.ListN.{length}
 use Rattle.text.specs.Text.{written}
 use Rattle.listing.specs.Listing.{header, listingText}
-use Rattle.text.proofs.TextLaws.{Printing, whole-left, behind-inside, printing-length, then}
-use Rattle.listing.proofs.ListingLaws.{slotsFrom, slots-turn, slots-end}
+use Rattle.text.proofs.TextLaws.{Printing, whole-left, after-inside, printing-length, then}
+use Rattle.listing.proofs.ListingLaws.{slotsFrom, slots-step, slots-end}
 use Rattle.listing.proofs.write_listing.Statement.{statement}
 use Rattle.listing.proofs.write_listing.Tie as tie
 
@@ -28,7 +28,7 @@ loop-holds : tie.Need-loop-holds Inv-loop μ-loop
 loop-holds c =
     let w = c .before .before .write-bytes in
     let a = c .before .before .before .before .before .before .before .before .args in
-    (omega arith, whole-left (w .result) (slotsFrom (now (a .counts)) (now (a .run)) 0 0) (w .last .0) (behind-inside 0 header (now (a .out)) (w .ensures)))
+    (omega arith, whole-left (w .result) (slotsFrom (now (a .counts)) (now (a .run)) 0 0) (w .last .0) (after-inside 0 header (now (a .out)) (w .ensures)))
 
 mul-count : tie.Need-mul-count Inv-loop μ-loop
 mul-count c = omega arith
@@ -51,8 +51,8 @@ part-write-slot-end c = search needs
 write-slot-requires : tie.Need-write-slot-requires Inv-loop μ-loop
 write-slot-requires c κs = c .before .before .before .before .loop .inv .1 .inside
 
-behind-pairs-requires : tie.Need-behind-pairs-requires Inv-loop μ-loop
-behind-pairs-requires c κs = c .before .before .before .before .before .before .before .loop .inv .0
+after-pairs-requires : tie.Need-after-pairs-requires Inv-loop μ-loop
+after-pairs-requires c κs = c .before .before .before .before .before .before .before .loop .inv .0
 
 add-slot : tie.Need-add-slot Inv-loop μ-loop
 add-slot c = omega arith
@@ -66,8 +66,8 @@ loop-again c =
     let b = c .before .before .before .before .before .before .before in
     let l = b .before .loop in
     let a = b .before .before .before .before .before .before .before .before .before .before .args in
-    let e = c .behind-pairs .ensures in
-    (omega arith, slots-turn (now (a .counts)) (now (a .run)) (l .slot) (l .from) (l .to) (l .out) (b .loop-test .taken) (l .inv .1) (w .ensures) e)
+    let e = c .after-pairs .ensures in
+    (omega arith, slots-step (now (a .counts)) (now (a .run)) (l .slot) (l .from) (l .to) (l .out) (b .loop-test .taken) (l .inv .1) (w .ensures) e)
 
 same-length : tie.Need-same-length Inv-loop μ-loop
 same-length c =
@@ -102,7 +102,7 @@ write-listing-spec =
     part-write-slot-start
     part-write-slot-end
     write-slot-requires
-    behind-pairs-requires
+    after-pairs-requires
     add-slot
     loop-less
     loop-again

@@ -6,7 +6,7 @@ use Rattle.fsm_sections.specs.Sections.{decode}
 use Rattle.text.specs.Text.{written}
 use Rattle.listing.specs.Listing.{slotText}
 use Rattle.text.proofs.TextLaws.{Printing, printing-length}
-use Rattle.listing.proofs.ListingLaws.{linesFrom, lines-start, lines-turn, lines-end}
+use Rattle.listing.proofs.ListingLaws.{linesFrom, lines-start, lines-step, lines-end}
 use Rattle.listing.proofs.write_slot.Statement.{statement}
 use Rattle.listing.proofs.write_slot.Tie as tie
 
@@ -58,7 +58,7 @@ loop-again c =
     let l = b .before .loop in
     let a = b .before .before .before .before .before .args in
     let n = b .before .before .least .result in
-    (omega arith, lines-turn (a .slot) n (now (a .run)) (omega arith) (l .i) (l .to) (l .out) (l .inv .1) (b .loop-test .taken) (c .before .before .write-row .ensures))
+    (omega arith, lines-step (a .slot) n (now (a .run)) (omega arith) (l .i) (l .to) (l .out) (l .inv .1) (b .loop-test .taken) (c .before .before .write-row .ensures))
 
 same-length : tie.Need-same-length Inv-loop μ-loop
 same-length c =

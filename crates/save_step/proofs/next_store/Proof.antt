@@ -2,7 +2,7 @@ use Prim.Native.Nat.{_-_}
 use native.Mathlib.Omega.{arith}
 use borrow.Author.Needs.{needs}
 use denote.Ref.{now}
-use Rattle.save_step.proofs.StepLaws.{next-first, next-block, next-before, next-behind, next-last}
+use Rattle.save_step.proofs.StepLaws.{next-first, next-block, next-before, next-after, next-last}
 use Rattle.save_step.proofs.next_store.Statement.{statement}
 use Rattle.save_step.proofs.next_store.Tie as tie
 
@@ -64,7 +64,7 @@ returns-4 : tie.Need-returns-4
 returns-4 c =
     let s = c .before .before .before .before .before in
     let a = s .args in
-    next-behind (a .s) (now (a .scratch)) (s .pre .0 .both-lent) _ (a .s .done - a .s .len) (omega arith) (omega arith) (omega arith) (omega arith)
+    next-after (a .s) (now (a .scratch)) (s .pre .0 .both-lent) _ (a .s .done - a .s .len) (omega arith) (omega arith) (omega arith) (omega arith)
 
 add-t24 : tie.Need-add-t24
 add-t24 c = search needs

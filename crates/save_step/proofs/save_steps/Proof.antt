@@ -14,7 +14,7 @@ use Rattle.save_step.specs.declared.Step.{Step}
 use Rattle.save_step.specs.declared.Step.the-variants as step
 use Rattle.save_step.specs.Steps.{stored, stepOutcome, saving, steps}
 use Rattle.save_step.proofs.Step.{the-type}
-use Rattle.save_step.proofs.RowLaws.{steps-turn, steps-stop}
+use Rattle.save_step.proofs.RowLaws.{steps-step, steps-stop}
 use Rattle.save_step.proofs.save_steps.Statement.{statement}
 use Rattle.save_step.proofs.save_steps.Tie as tie
 
@@ -65,7 +65,7 @@ loop-again c =
     let n = c .before .next .given in (
       search needs,
       search needs,
-      steps-turn (l .c) (l .image) (now (a .scratch)) (saving (a .s) (now (a .image))) (l .i) (l .inv .2) _ (stepOutcome (e .save-step .result)) (n .0 .0) (ap stepOutcome (n .1)) (e .save-step .ensures),
+      steps-step (l .c) (l .image) (now (a .scratch)) (saving (a .s) (now (a .image))) (l .i) (l .inv .2) _ (stepOutcome (e .save-step .result)) (n .0 .0) (ap stepOutcome (n .1)) (e .save-step .ensures),
     )
 
 same-length-2 : tie.Need-same-length-2 Inv-loop μ-loop

@@ -1,6 +1,6 @@
 -- `split_records::split_at_pages` meets its contract: a walk of its MIR, by hand. All that it knows of `planned`, `pieces_in` and `next_piece` is that each meets its contract.
 -- The sections are lent on to each call as a copy of the reference. The borrow of the records is opened once, before the loop, and closed once, after it. Between the two, the records are
--- those of `shown k`, after k turns. The variant is the number of pieces that are left.
+-- those of `shown k`, after k iterations. The variant is the number of pieces that are left.
 -- Assumes nothing.
 mod Callees
 mod Spelled
@@ -169,7 +169,7 @@ module _ {M : Type 1} (𝓤 : URA M) (H : Heap 𝓤) (A : Atoms 𝓤) (W : Given
           owned ! usize (Is usize) (uint-makes 𝓤 H A W w64) n _ (refl, gn) $ fjoin ! $
           move ! (1 ∷ 0 ∷ []) $ fjoin ! $ frame ! $ done !
 
-      -- after k turns, with d bytes of section i cut
+      -- after k iterations, with d bytes of section i cut
       abbrev At : ℕ → ℕ → ℕ → List (Item 𝓤)
       At k i d =
           ‵ (row T.the-row fullShare (shown xs n page ys k) b o) ∷ ‵ (fat fullShare sectionsTy l₁ 0 v) ∷ ‵ (fat fullShare word l₂ 0 (vint w64 n)) ∷
@@ -198,7 +198,7 @@ module _ {M : Type 1} (𝓤 : URA M) (H : Heap 𝓤) (A : Atoms 𝓤) (W : Given
       abbrev Left : Out → SProp 𝓤
       Left = afterBlock 𝓤 H (afterSeq 𝓤 H (Wp 𝓤 H C Λ En code.Mir.t-8 (atReturn 𝓤 H En Post)) (atReturn 𝓤 H En Post))
 
-      -- a turn that stores one record
+      -- an iteration that stores one record
       more : (k i d : ℕ) (X : SProp 𝓤) → k < m → Here k i d → ((r : Cut) → Cuts n page xs i d r → r .section < 2 ^ 64 → r .done < 2 ^ 64 → ent 𝓤 (⋆ 𝓤 H A (At (suc k) (r .section) (r .done))) X)
           → ent 𝓤 (⋆ 𝓤 H A (At k i d)) (Wp 𝓤 H C Λ En code.Mir.turn-1 (afterTurn 𝓤 H X Left))
       unfolding afterTurn
@@ -245,7 +245,7 @@ module _ {M : Type 1} (𝓤 : URA M) (H : Heap 𝓤) (A : Atoms 𝓤) (W : Given
           keep ! (0 ∷ 3 ∷ 4 ∷ 5 ∷ 6 ∷ 7 ∷ 8 ∷ 9 ∷ 10 ∷ 11 ∷ 12 ∷ 13 ∷ 14 ∷ 15 ∷ 16 ∷ 17 ∷ 18 ∷ 19 ∷ 20 ∷ 2 ∷ 1 ∷ 21 ∷ 22 ∷ 23 ∷ 24 ∷ 25 ∷ 26 ∷ 27 ∷ 28 ∷ 29 ∷ 30 ∷ 31 ∷ 32 ∷ 33 ∷ 34 ∷ 35 ∷
           []) $ by ! (cont r e (wt .1 .1 .0 .fits) (wt .1 .1 .1 .0 .fits)))))))
 
-      -- the turn that leaves the loop, and the rest of the body
+      -- the iteration that leaves the loop, and the rest of the body
       ends : (i d : ℕ) (X : SProp 𝓤) → ent 𝓤 (⋆ 𝓤 H A (At m i d)) (Wp 𝓤 H C Λ En code.Mir.turn-1 (afterTurn 𝓤 H X Left))
       unfolding afterTurn
       ends i d X =
@@ -270,11 +270,11 @@ module _ {M : Type 1} (𝓤 : URA M) (H : Heap 𝓤) (A : Atoms 𝓤) (W : Given
           (exI 𝓤 (λ (p : ℕ × ℕ × ℕ). guard 𝓤 (Facts t p) (⋆ 𝓤 H A (At (p .0) (p .1) (p .2)))) (suc k, i, d)))
           (via 𝓤 (guard 𝓤 (t < suc t) (Inv t)) (guardI 𝓤 (t < suc t) (Inv t) (le-refl (suc t))) (exI 𝓤 (λ (u : ℕ). guard 𝓤 (u < suc t) (Inv u)) t))
 
-      turn-at : (t k i d : ℕ) → t + k ≡ m → Here k i d → ent 𝓤 (⋆ 𝓤 H A (At k i d)) (Wp 𝓤 H C Λ En code.Mir.turn-1 (afterTurn 𝓤 H (Below t) Left))
-      turn-at zero k i d e h =
+      step-at : (t k i d : ℕ) → t + k ≡ m → Here k i d → ent 𝓤 (⋆ 𝓤 H A (At k i d)) (Wp 𝓤 H C Λ En code.Mir.turn-1 (afterTurn 𝓤 H (Below t) Left))
+      step-at zero k i d e h =
           let e′ : m ≡ k = omega arith in
           subst (λ (j : ℕ). ent 𝓤 (⋆ 𝓤 H A (At j i d)) (Wp 𝓤 H C Λ En code.Mir.turn-1 (afterTurn 𝓤 H (Below zero) Left))) e′ (ends i d (Below zero))
-      turn-at (suc t) k i d e h =
+      step-at (suc t) k i d e h =
           let small : k < m = omega arith in
           let rd = ready xs n page a (length ys) m k ea em small in
           more k i d (Below (suc t)) small h (λ r c gi gd. below t k (r .section) (r .done) (omega arith) (
@@ -285,7 +285,7 @@ module _ {M : Type 1} (𝓤 : URA M) (H : Heap 𝓤) (A : Atoms 𝓤) (W : Given
           ))
 
       turns : (t : ℕ) → ent 𝓤 (Inv t) (Wp 𝓤 H C Λ En code.Mir.turn-1 (afterTurn 𝓤 H (Below t) Left))
-      turns t = exE 𝓤 (λ (p : ℕ × ℕ × ℕ). guard 𝓤 (Facts t p) (⋆ 𝓤 H A (At (p .0) (p .1) (p .2)))) (λ p. guardE 𝓤 (Facts t p) (⋆ 𝓤 H A (At (p .0) (p .1) (p .2))) (λ h. turn-at t (p .0)
+      turns t = exE 𝓤 (λ (p : ℕ × ℕ × ℕ). guard 𝓤 (Facts t p) (⋆ 𝓤 H A (At (p .0) (p .1) (p .2)))) (λ p. guardE 𝓤 (Facts t p) (⋆ 𝓤 H A (At (p .0) (p .1) (p .2))) (λ h. step-at t (p .0)
           (p .1) (p .2) (h .0) (h .1)))
 
       loops : ent 𝓤 (⋆ 𝓤 H A (At 0 0 0)) (Wp 𝓤 H C Λ En (loop code.Mir.turn-1) Left)

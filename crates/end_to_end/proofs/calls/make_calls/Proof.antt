@@ -7,7 +7,7 @@ use borrow.Author.Needs.{needs}
 use Rattle.free_lists.specs.Lists.{listsIn}
 use Rattle.free_lists.specs.History.{run, begun}
 use Rattle.end_to_end.specs.Encoding.{callsOf, runsOf}
-use Rattle.end_to_end.proofs.CallLaws.{begun-three, run-turn, run-end}
+use Rattle.end_to_end.proofs.CallLaws.{begun-three, run-step, run-end}
 use Rattle.end_to_end.proofs.calls.make_calls.Statement.{statement}
 use Rattle.end_to_end.proofs.calls.make_calls.Tie as tie
 
@@ -98,7 +98,7 @@ loop-again c =
     let l = which .before .before .before .loop in (
       search needs,
       (search needs, search needs, search needs),
-      l .inv .2 ∙ run-turn _ (l .at) _ _ _ _ (which .which-of .ensures) (called .call-of .ensures) (omega arith) (applied .apply .ensures .0),
+      l .inv .2 ∙ run-step _ (l .at) _ _ _ _ (which .which-of .ensures) (called .call-of .ensures) (omega arith) (applied .apply .ensures .0),
     )
 
 same-length : tie.Need-same-length Inv-loop μ-loop

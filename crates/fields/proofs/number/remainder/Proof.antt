@@ -2,7 +2,7 @@ use mathlib.Core.Path.{sym, ap, _∙_}
 use Prim.Native.Nat.{ℕ, _%_}
 use native.Mathlib.Nat.{mod-zero}
 use native.Mathlib.Omega.{arith}
-use Rattle.fields.proofs.ShiftLaws.{below, behind-multiple}
+use Rattle.fields.proofs.ShiftLaws.{below, after-multiple}
 use borrow.Author.Needs.{needs}
 use Rattle.fields.proofs.number.remainder.Statement.{statement}
 use Rattle.fields.proofs.number.remainder.Tie as tie
@@ -26,7 +26,7 @@ sub-result : tie.Need-sub-result
 sub-result c = let a = c .before .before .args in below (a .n) (a .by) _ (c .before .shift-of .ensures (c .if1 .taken)) (omega arith)
 
 returns : tie.Need-returns
-returns c = let a = c .before .before .args in behind-multiple (a .n) (a .by) _ (c .before .shift-of .ensures (c .if1 .taken)) (omega arith)
+returns c = let a = c .before .before .args in after-multiple (a .n) (a .by) _ (c .before .shift-of .ensures (c .if1 .taken)) (omega arith)
 
 returns-2 : tie.Need-returns-2
 returns-2 c = let a = c .before .before .before .args in sym (ap (λ (m : ℕ). a .n % m) (c .if2 .taken) ∙ mod-zero (a .n))

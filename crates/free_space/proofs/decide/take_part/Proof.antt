@@ -8,7 +8,7 @@ use Rattle.free_space.specs.Decisions.{givenBy}
 use Rattle.free_space.proofs.ListLaws.{listed}
 use Rattle.free_space.proofs.CheckLaws.{read-fits}
 use Rattle.free_space.proofs.SpliceLaws.{given-fitted}
-use Rattle.free_space.proofs.AnswerLaws.{taken-is}
+use Rattle.free_space.proofs.AnswerLaws.{without-is}
 use Rattle.free_space.proofs.decide.take_part.Statement.{statement}
 use Rattle.free_space.proofs.decide.take_part.Tie as tie
 
@@ -46,7 +46,7 @@ returns c =
     let room = listed xs (a .list) (pre .0) .room in (
       ap (givenBy xs (a .list)) (c .change .ensures .0)
           ∙ given-fitted xs (a .list) (a .start) (a .i) (a .i + 1) (p .result) (omega arith) (omega arith) room
-          ∙ taken-is xs (a .list) (a .i) (a .r) (a .start) (a .len) (patch (p .result)) (pre .1) room (pre .2) (p .ensures),
+          ∙ without-is xs (a .list) (a .i) (a .r) (a .start) (a .len) (patch (p .result)) (pre .1) room (pre .2) (p .ensures),
       c .change .ensures .1,
     )
 

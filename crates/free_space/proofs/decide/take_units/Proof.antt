@@ -3,7 +3,7 @@ use Prim.Native.Nat.{ℕ}
 use denote.Ref.{now}
 use Rattle.free_regions.proofs.InteriorLaws.{units-serve}
 use Rattle.free_space.specs.Runs.{regions}
-use Rattle.free_space.specs.Calls.{placed, giving, taken}
+use Rattle.free_space.specs.Calls.{placed, giving, without}
 use Rattle.free_space.proofs.CheckLaws.{read-fits}
 use Rattle.free_space.proofs.decide.take_units.Statement.{statement}
 use Rattle.free_space.proofs.decide.take_units.Tie as tie
@@ -28,7 +28,7 @@ returns c =
     let xs = now (a .run) in
     let w = c .before .whole-units in
     let s = units-serve (a .unit) (a .r) (a .len) (w .result .start) (w .result .span) (pre .3) (pre .4) (w .ensures .0) (w .ensures .1) in
-    (c .take-part .ensures .0 ∙ ap (λ (from : ℕ). placed (giving from) xs (a .list) (taken (regions xs (a .list)) (a .i) from (a .len))) (s .0), c .take-part .ensures .1)
+    (c .take-part .ensures .0 ∙ ap (λ (from : ℕ). placed (giving from) xs (a .list) (without (regions xs (a .list)) (a .i) from (a .len))) (s .0), c .take-part .ensures .1)
 
 pub take-units-spec : {M : Type 1} → statement M
 take-units-spec = tie.close (tie.spec whole-units-requires take-part-requires returns)

@@ -9,7 +9,7 @@ use Rattle.free_space.specs.Runs.{decode}
 use Rattle.free_space.specs.Passes.{measureOf}
 use Rattle.free_space.specs.Searches.{soFar}
 use Rattle.free_space.proofs.CheckLaws.{pass-stops, pass-fits, pass-goes, pass-ends}
-use Rattle.free_space.proofs.FitLaws.{fit-first, fit-turn, fit-end, finds}
+use Rattle.free_space.proofs.FitLaws.{fit-first, fit-step, fit-end, finds}
 use Rattle.free_space.proofs.fit.best_after.Statement.{statement}
 use Rattle.free_space.proofs.fit.best_after.Tie as tie
 
@@ -91,7 +91,7 @@ loop-again c =
     let b = c .before .better-of2 in (
       l .inv .0 ∙ pass-goes n (l .i) (l .prev) xs (omega arith) room (g .result) (g .ensures) (t .result) (t .ensures) (c .before .before .before .if1 .left),
       l .inv .1
-          ∙ fit-turn (measureOf (a .what)) (a .len) (l .i) n xs (l .b) (b .result) (g .result) (omega arith) room (g .ensures)
+          ∙ fit-step (measureOf (a .what)) (a .len) (l .i) n xs (l .b) (b .result) (g .result) (omega arith) room (g .ensures)
           (b .ensures ∙ ap (λ (s : ℕ). lower (soFar (a .len) (l .b)) (oneAt (a .len) (l .i) s)) (w .ensures)),
     )
 

@@ -5,7 +5,7 @@ use borrow.Author.Needs.{needs}
 use denote.Ref.{now}
 use Rattle.free_regions.specs.Regions.{end}
 use Rattle.free_regions.proofs.OkLaws.{fit}
-use Rattle.free_space.proofs.QuestionLaws.{denied, held, Room, room, Passed, pass-no-room, pass-empty, pass-first, pass-none, pass-turn, pass-stop, pass-end}
+use Rattle.free_space.proofs.QuestionLaws.{denied, held, Room, room, Passed, pass-no-room, pass-empty, pass-first, pass-none, pass-step, pass-stop, pass-end}
 use Rattle.free_space.proofs.questions.greatest_of.Statement.{statement}
 use Rattle.free_space.proofs.questions.greatest_of.Tie as tie
 
@@ -84,25 +84,25 @@ loop-less : tie.Need-loop-less Inv-loop μ-loop
 loop-less c = search needs
 
 -- k is the greatest measure with the region that was read
-turn : (s : tie.After-struct-known2 Inv-loop μ-loop) (k : ℕ) → let l = s .before .before .before .before .before .before in
+iteration : (s : tie.After-struct-known2 Inv-loop μ-loop) (k : ℕ) → let l = s .before .before .before .before .before .before in
     let a = l .before .before .before .before .before .before .before .before .before .before .args in
     k ≡ max (l .loop .most) (s .before .measured2 .result)
     → Passed (a .what) (now (a .run)) (a .list .count) (l .loop .i + 1) (end (s .before .before .before .before .region-at2 .result)) k
-turn s k e =
+iteration s k e =
     let r = s .before .before .before in
     let l = r .before .before in
     let a = l .before .before .before .before .before .before .before .before .before .before .before .args in
-    pass-turn _ _ (a .list) _ _ (r .before .region-at2 .ensures) (l .loop-test .taken) _ (l .before .loop .inv)
+    pass-step _ _ (a .list) _ _ (r .before .region-at2 .ensures) (l .loop-test .taken) _ (l .before .loop .inv)
     (held (r .follows .ensures) (s .before .before .if4 .left)) (e ∙ ap (max (l .before .loop .most)) (s .before .measured2 .ensures))
 
 loop-again : tie.Need-loop-again Inv-loop μ-loop
-loop-again c = turn (c .before) _ (omega arith)
+loop-again c = iteration (c .before) _ (omega arith)
 
 loop-less-2 : tie.Need-loop-less-2 Inv-loop μ-loop
 loop-less-2 c = search needs
 
 loop-again-2 : tie.Need-loop-again-2 Inv-loop μ-loop
-loop-again-2 c = turn (c .before) _ (omega arith)
+loop-again-2 c = iteration (c .before) _ (omega arith)
 
 returns-5 : tie.Need-returns-5 Inv-loop μ-loop
 returns-5 c =

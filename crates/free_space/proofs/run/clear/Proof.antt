@@ -6,7 +6,7 @@ use borrow.Author.Needs.{needs}
 use lib.ListN.{length, replicate, set}
 use denote.Ref.{now}
 use Rattle.error.specs.Lent.{over}
-use Rattle.error.proofs.OverLaws.{length-over, fill-start, fill-turn}
+use Rattle.error.proofs.OverLaws.{length-over, fill-start, fill-next}
 use Rattle.free_space.proofs.run.clear.Statement.{statement}
 use Rattle.free_space.proofs.run.clear.Tie as tie
 
@@ -33,7 +33,7 @@ loop-less c = search needs
 
 loop-again : tie.Need-loop-again Inv-loop μ-loop
 loop-again c = let l = c .before .loop in let a = c .before .before .args in
-    (omega arith, omega arith, ap (λ (p : List ℕ). set p (l .j) 0) (l .inv .2) ∙ fill-turn (a .from) (l .j) 0 (now (a .run)) (l .inv .0))
+    (omega arith, omega arith, ap (λ (p : List ℕ). set p (l .j) 0) (l .inv .2) ∙ fill-next (a .from) (l .j) 0 (now (a .run)) (l .inv .0))
 
 same-length : tie.Need-same-length Inv-loop μ-loop
 same-length c = let l = c .before .loop in let a = c .before .before .args in simp length-over at (ap length (l .inv .2))

@@ -6,7 +6,7 @@ use lib.ListN.{length}
 use denote.Ref.{now}
 use Rattle.fsm_blocks.specs.Groups.{headSize}
 use Rattle.fsm_blocks.specs.Parts.{widthsIn}
-use Rattle.fsm_blocks.proofs.CountLaws.{Scan, scan-start, scan-end, no-head, beyond, past, turn, head-some}
+use Rattle.fsm_blocks.proofs.CountLaws.{Scan, scan-start, scan-end, no-head, beyond, past, iteration, head-some}
 use borrow.Author.Needs.{needs}
 use Rattle.fsm_blocks.proofs.groups.groups_count.Statement.{statement}
 use Rattle.fsm_blocks.proofs.groups.groups_count.Tie as tie
@@ -89,7 +89,7 @@ loop-again c =
     let f = c .before .before .before .before .before .before in
     let a = f .before .before .before .before .before .before in
     let l = f .before .before .before .before .loop in
-    turn (now (a .args .groups)) (widthsIn (a .args .w)) (a .args .total) (l .at) (l .left) (l .inv) (head-some (a .args .w) (a .pre)) (f .before .before .before .loop-test .taken)
+    iteration (now (a .args .groups)) (widthsIn (a .args .w)) (a .args .total) (l .at) (l .left) (l .inv) (head-some (a .args .w) (a .pre)) (f .before .before .before .loop-test .taken)
     (f .before .if1 .left) _ (f .field-at .ensures) (c .before .before .before .before .before .if2 .left) (fits c)
 
 returns-4 : tie.Need-returns-4 Inv-loop μ-loop

@@ -7,7 +7,7 @@ use denote.Ref.{now}
 use borrow.Author.Needs.{needs}
 use lib.ListN.{getD}
 use Rattle.error.specs.Outcome.{sat}
-use Rattle.fsm_pages.proofs.PieceLaws.{behind}
+use Rattle.fsm_pages.proofs.PieceLaws.{piecesAfter}
 use Rattle.fsm_pages.proofs.SplitLaws.{Counting, count-start, count-more, count-same, count-step, count-end, count-above}
 use Rattle.fsm_pages.proofs.pages.pieces_in.Statement.{statement}
 use Rattle.fsm_pages.proofs.pages.pieces_in.Tie as tie
@@ -82,11 +82,11 @@ add-i c = search needs
 loop-less : tie.Need-loop-less Inv-loop μ-loop
 loop-less c = search needs
 
--- the pieces behind the first of the section
+-- the pieces after the first of the section
 more-is : (c : tie.Joined3 Inv-loop μ-loop)
     → let p = c .before .before .before .before .before .before .before in
     let a = p .before .before .args in
-    c .before .if2 .more ≡ sat (p .loop .more + behind (a .page) (getD (now (a .sections)) (2 * p .loop .i) 0) (getD (now (a .sections)) (2 * p .loop .i + 1) 0))
+    c .before .if2 .more ≡ sat (p .loop .more + piecesAfter (a .page) (getD (now (a .sections)) (2 * p .loop .i) 0) (getD (now (a .sections)) (2 * p .loop .i + 1) 0))
 more-is c =
     let d = c .before .before in
     let p = d .before .before .before .before .before in

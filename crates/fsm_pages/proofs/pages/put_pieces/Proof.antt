@@ -15,9 +15,9 @@ Inv-loop page addr size out₀ from a₀ left₀ room₀ k₀ out a left room k 
 abbrev μ-loop : tie.MeasureT-loop
 μ-loop page addr size out₀ from a₀ left₀ room₀ k₀ out a left room k = left
 
--- the run has room for the piece that a turn puts, and for the last one
-turn-room : (c : tie.In-loop Inv-loop μ-loop) → let l = c .before .loop in l .k + 2 ≤ length (l .out)
-turn-room c =
+-- the run has room for the piece that an iteration puts, and for the last one
+step-room : (c : tie.In-loop Inv-loop μ-loop) → let l = c .before .loop in l .k + 2 ≤ length (l .out)
+step-room c =
     let s = c .before .before .before .before in
     let a = s .args in
     let l = c .before .loop in
@@ -40,19 +40,19 @@ loop-holds c =
     walk-start (a .page) (a .addr) (a .size) (a .from) (now (a .out)) (s .pre .0 .0) (s .pre .1) _ (c .room-in .ensures)
 
 mul-out : tie.Need-mul-out Inv-loop μ-loop
-mul-out c = omega (arith, turn-room c)
+mul-out c = omega (arith, step-room c)
 
 slice-write-out : tie.Need-slice-write-out Inv-loop μ-loop
-slice-write-out c = omega (arith, turn-room c)
+slice-write-out c = omega (arith, step-room c)
 
 add-out : tie.Need-add-out Inv-loop μ-loop
-add-out c = omega (arith, turn-room c)
+add-out c = omega (arith, step-room c)
 
 mul-out-2 : tie.Need-mul-out-2 Inv-loop μ-loop
-mul-out-2 c = omega (arith, turn-room c)
+mul-out-2 c = omega (arith, step-room c)
 
 slice-write-out-2 : tie.Need-slice-write-out-2 Inv-loop μ-loop
-slice-write-out-2 c = let h = turn-room c in simp length-set (omega (arith, h))
+slice-write-out-2 c = let h = step-room c in simp length-set (omega (arith, h))
 
 add-a : tie.Need-add-a Inv-loop μ-loop
 add-a c = omega (arith, c .before .loop .inv .ends)
@@ -61,7 +61,7 @@ sub-left : tie.Need-sub-left Inv-loop μ-loop
 sub-left c = search needs
 
 add-k : tie.Need-add-k Inv-loop μ-loop
-add-k c = omega (arith, turn-room c)
+add-k c = omega (arith, step-room c)
 
 loop-less : tie.Need-loop-less Inv-loop μ-loop
 loop-less c =

@@ -2,7 +2,7 @@ use Prim.Native.Nat.{_-_}
 use denote.Ref.{now}
 use borrow.Author.Needs.{needs}
 use Rattle.fsm_pages.proofs.RunLaws.{fits-at}
-use Rattle.fsm_plan.proofs.AllPiecesLaws.{Paging, paging-start, paging-turn, paging-end}
+use Rattle.fsm_plan.proofs.AllPiecesLaws.{Paging, paging-start, paging-step, paging-end}
 use Rattle.fsm_plan.proofs.pieces.page_count.Statement.{statement}
 use Rattle.fsm_plan.proofs.pieces.page_count.Tie as tie
 
@@ -61,7 +61,7 @@ loop-again c =
     let c7 = c5 .before .before in
     let a = c7 .args in
     let l = c5 .loop in
-    paging-turn (a .page) (a .count) (now (a .sections)) (c7 .pre .0) (c7 .pre .1 .0) (l .n) (l .i) (l .inv) (c4 .loop-test .taken) (c .before .pages-of .result) _
+    paging-step (a .page) (a .count) (now (a .sections)) (c7 .pre .0) (c7 .pre .1 .0) (l .n) (l .i) (l .inv) (c4 .loop-test .taken) (c .before .pages-of .result) _
     (c .before .pages-of .ensures) (c .saturating-add .ensures)
 
 returns : tie.Need-returns Inv-loop μ-loop

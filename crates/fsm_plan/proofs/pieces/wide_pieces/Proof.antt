@@ -10,7 +10,7 @@ use Rattle.fsm_sections.specs.Pages.{split}
 use Rattle.fsm_writer.specs.Serializing.{anyWide}
 use Rattle.fsm_sections.specs.Runs.{endsAbove}
 use Rattle.fsm_pages.proofs.RunLaws.{fits-at}
-use Rattle.fsm_plan.proofs.AllPiecesLaws.{any-wide-found, any-wide-turn, any-wide-end}
+use Rattle.fsm_plan.proofs.AllPiecesLaws.{any-wide-found, any-wide-step, any-wide-end}
 use Rattle.fsm_plan.proofs.pieces.wide_pieces.Statement.{statement}
 use Rattle.fsm_plan.proofs.pieces.wide_pieces.Tie as tie
 
@@ -78,7 +78,7 @@ loop-again c =
     let l = c5 .loop in (
       omega arith,
       fits-at (a .count) (now (a .sections)) (c7 .pre .1 .0) (l .i) (c4 .loop-test .taken) (l .inv .1) .1,
-      any-wide-turn (a .page) (a .count) (now (a .sections))
+      any-wide-step (a .page) (a .count) (now (a .sections))
           (c7 .pre .1 .0) (a .o) (l .i) (l .inv .2) (c4 .loop-test .taken) _ (c .before .wide-piece .ensures) (c .if1 .left),
     )
 

@@ -6,7 +6,7 @@ use borrow.Author.Needs.{needs}
 use lib.ListN.{drop}
 use Rattle.fsm_sections.specs.Sections.{decode}
 use Rattle.fsm_writer.specs.Serializing.{wide, anyWide}
-use Rattle.fsm_writer.proofs.SerializeLaws.{any-found, any-turn, any-none}
+use Rattle.fsm_writer.proofs.SerializeLaws.{any-found, any-step, any-none}
 use Rattle.fsm_plan.proofs.pieces.wide_sections.Statement.{statement}
 use Rattle.fsm_plan.proofs.pieces.wide_sections.Tie as tie
 
@@ -51,7 +51,7 @@ loop-again c =
     let c4 = c3 .before in
     let c6 = c4 .before .before in (
       omega arith,
-      any-turn (λ s. wide (c6 .args .o) (s .addr)) (c6 .args .count) (now (c6 .args .sections)) (c6 .pre .1) (c4 .loop .i) (c3 .loop-test .taken) _
+      any-step (λ s. wide (c6 .args .o) (s .addr)) (c6 .args .count) (now (c6 .args .sections)) (c6 .pre .1) (c4 .loop .i) (c3 .loop-test .taken) _
           (c .before .is-wide .ensures) (c .if1 .left) (c4 .loop .inv .1),
     )
 

@@ -1,9 +1,9 @@
 use native.Mathlib.Omega.{arith}
 use denote.Ref.{now}
-use Rattle.fsm_plan.proofs.PlanLaws.{behind-late, behind-shared, few-pieces, behind-sum, behind-placed, behind-wide, behind-wide-section, behind-over, behind-room, behind-plan}
+use Rattle.fsm_plan.proofs.PlanLaws.{after-late, after-shared, few-pieces, after-sum, after-placed, after-wide, after-wide-section, after-over, after-room, after-plan}
 use borrow.Author.Needs.{needs}
-use Rattle.fsm_plan.proofs.plan.plan_behind.Statement.{statement}
-use Rattle.fsm_plan.proofs.plan.plan_behind.Tie as tie
+use Rattle.fsm_plan.proofs.plan.plan_after.Statement.{statement}
+use Rattle.fsm_plan.proofs.plan.plan_after.Tie as tie
 
 ends-late-requires : tie.Need-ends-late-requires
 ends-late-requires c κs = search needs
@@ -12,7 +12,7 @@ returns : tie.Need-returns
 returns c =
     let c6 = c .before .before .before .before .before .before in
     let a = c6 .args in
-    behind-late (a .s) (now (a .meta)) (now (a .raw)) (now (a .unclassified)) (a .o) (a .start) (a .l) (now (a .out)) (c6 .pre) (c .before .ends-late .result)
+    after-late (a .s) (now (a .meta)) (now (a .raw)) (now (a .unclassified)) (a .o) (a .start) (a .l) (now (a .out)) (c6 .pre) (c .before .ends-late .result)
     (c .before .ends-late .ensures) (c .if1 .taken)
 
 is-shared-requires : tie.Need-is-shared-requires
@@ -24,7 +24,7 @@ returns-2 c =
     let c3 = c2 .before in
     let c8 = c3 .before .before .before .before .before in
     let a = c8 .args in
-    behind-shared (a .s) (now (a .meta)) (now (a .raw)) (now (a .unclassified)) (a .o) (a .start) (a .l) (now (a .out)) (c8 .pre) (c3 .ends-late .result)
+    after-shared (a .s) (now (a .meta)) (now (a .raw)) (now (a .unclassified)) (a .o) (a .start) (a .l) (now (a .out)) (c8 .pre) (c3 .ends-late .result)
     (c3 .ends-late .ensures) (c2 .if1 .left) (c .before .is-shared .result) (c .before .is-shared .ensures) (c .if2 .taken)
 
 section-counts-requires : tie.Need-section-counts-requires
@@ -51,7 +51,7 @@ wide-blocks-requires c κs =
     let c4 = c3 .before in
     let c9 = c4 .before .before .before .before .before in
     let a = c9 .args in
-    behind-placed (a .s) (now (a .meta)) (now (a .raw)) (now (a .unclassified)) (a .o) (a .start) (a .l) (now (a .out)) (c9 .pre) (c4 .ends-late .result)
+    after-placed (a .s) (now (a .meta)) (now (a .raw)) (now (a .unclassified)) (a .o) (a .start) (a .l) (now (a .out)) (c9 .pre) (c4 .ends-late .result)
     (c4 .ends-late .ensures) (c3 .if1 .left) (c .section-counts .result) (c .section-counts .ensures .0) (c .section-counts .ensures .1 .0)
     (c .section-counts .ensures .1 .1)
 
@@ -64,7 +64,7 @@ returns-3 c =
     let c6 = c5 .before in
     let c11 = c6 .before .before .before .before .before in
     let a = c11 .args in
-    behind-wide (a .s) (now (a .meta)) (now (a .raw)) (now (a .unclassified)) (a .o) (a .start) (a .l) (now (a .out)) (c11 .pre) (c6 .ends-late .result)
+    after-wide (a .s) (now (a .meta)) (now (a .raw)) (now (a .unclassified)) (a .o) (a .start) (a .l) (now (a .out)) (c11 .pre) (c6 .ends-late .result)
     (c6 .ends-late .ensures) (c5 .if1 .left) (c2 .section-counts .result) (c2 .section-counts .ensures .0) (c2 .section-counts .ensures .1 .0)
     (c2 .section-counts .ensures .1 .1) (c4 .is-shared .result) (c4 .is-shared .ensures) (c3 .if2 .left) (c .before .wide-blocks .result)
     (c .before .wide-blocks .ensures) (c .if3 .taken)
@@ -83,7 +83,7 @@ returns-4 c =
     let c8 = c7 .before in
     let c13 = c8 .before .before .before .before .before in
     let a = c13 .args in
-    behind-wide-section (a .s) (now (a .meta)) (now (a .raw)) (now (a .unclassified)) (a .o) (a .start) (a .l) (now (a .out)) (c13 .pre) (c8 .ends-late .result)
+    after-wide-section (a .s) (now (a .meta)) (now (a .raw)) (now (a .unclassified)) (a .o) (a .start) (a .l) (now (a .out)) (c13 .pre) (c8 .ends-late .result)
     (c8 .ends-late .ensures) (c7 .if1 .left) (c4 .section-counts .result) (c4 .section-counts .ensures .0) (c4 .section-counts .ensures .1 .0)
     (c4 .section-counts .ensures .1 .1) (c6 .is-shared .result) (c6 .is-shared .ensures) (c5 .if2 .left) (c3 .wide-blocks .result) (c3 .wide-blocks .ensures)
     (c2 .if3 .left) (c .before .wide-slots .result) (c .before .wide-slots .ensures) (c .if4 .taken)
@@ -97,7 +97,7 @@ add-needed c =
     let a = c14 .args in
     omega (
       arith,
-      behind-sum (a .s) (now (a .meta)) (now (a .raw)) (now (a .unclassified)) (a .o) (a .start) (a .l) (now (a .out)) (c14 .pre) (c9 .ends-late .result) (c9 .ends-late .ensures)
+      after-sum (a .s) (now (a .meta)) (now (a .raw)) (now (a .unclassified)) (a .o) (a .start) (a .l) (now (a .out)) (c14 .pre) (c9 .ends-late .result) (c9 .ends-late .ensures)
           (c8 .if1 .left) (c5 .section-counts .result) (c5 .section-counts .ensures .0) (c5 .section-counts .ensures .1 .0) (c5 .section-counts .ensures .1 .1),
     )
 
@@ -110,7 +110,7 @@ add-needed-2 c =
     let a = c15 .args in
     omega (
       arith,
-      behind-sum (a .s) (now (a .meta)) (now (a .raw)) (now (a .unclassified)) (a .o) (a .start) (a .l) (now (a .out)) (c15 .pre) (c10 .ends-late .result) (c10 .ends-late .ensures)
+      after-sum (a .s) (now (a .meta)) (now (a .raw)) (now (a .unclassified)) (a .o) (a .start) (a .l) (now (a .out)) (c15 .pre) (c10 .ends-late .result) (c10 .ends-late .ensures)
           (c9 .if1 .left) (c6 .section-counts .result) (c6 .section-counts .ensures .0) (c6 .section-counts .ensures .1 .0) (c6 .section-counts .ensures .1 .1),
     )
 
@@ -127,7 +127,7 @@ returns-5 c =
     let c11 = c10 .before in
     let c16 = c11 .before .before .before .before .before in
     let a = c16 .args in
-    behind-over (a .s) (now (a .meta)) (now (a .raw)) (now (a .unclassified)) (a .o) (a .start) (a .l) (now (a .out)) (c16 .pre) (c11 .ends-late .result)
+    after-over (a .s) (now (a .meta)) (now (a .raw)) (now (a .unclassified)) (a .o) (a .start) (a .l) (now (a .out)) (c16 .pre) (c11 .ends-late .result)
     (c11 .ends-late .ensures) (c10 .if1 .left) (c7 .section-counts .result) (c7 .section-counts .ensures .0) (c7 .section-counts .ensures .1 .0)
     (c7 .section-counts .ensures .1 .1) (c9 .is-shared .result) (c9 .is-shared .ensures) (c8 .if2 .left) (c6 .wide-blocks .result) (c6 .wide-blocks .ensures)
     (c5 .if3 .left) (c4 .wide-slots .result) (c4 .wide-slots .ensures) (c3 .if4 .left) (c .if5 .taken)
@@ -149,7 +149,7 @@ put-slots-requires c κs =
       p .given,
       (
         (p .fits-a, p .fits-b),
-        behind-room (a .s) (now (a .meta)) (now (a .raw)) (now (a .unclassified)) (a .o) (a .start) (a .l) (now (a .out)) (c17 .pre)
+        after-room (a .s) (now (a .meta)) (now (a .raw)) (now (a .unclassified)) (a .o) (a .start) (a .l) (now (a .out)) (c17 .pre)
             (c12 .ends-late .result) (c12 .ends-late .ensures) (c11 .if1 .left) (c8 .section-counts .result) (c8 .section-counts .ensures .0) (c8 .section-counts .ensures .1 .0)
             (c8 .section-counts .ensures .1 .1) (c10 .is-shared .result) (c10 .is-shared .ensures) (c9 .if2 .left) (c7 .wide-blocks .result) (c7 .wide-blocks .ensures) (c6 .if3 .left)
             (c5 .wide-slots .result) (c5 .wide-slots .ensures) (c4 .if4 .left) (c .before .if5 .left),
@@ -163,7 +163,7 @@ plan-from-requires c κs =
     let c15 = c14 .before in
     let c20 = c15 .before .before .before .before .before in
     let a = c20 .args in
-    behind-placed (a .s) (now (a .meta)) (now (a .raw)) (now (a .unclassified)) (a .o) (a .start) (a .l) (now (a .out)) (c20 .pre) (c15 .ends-late .result)
+    after-placed (a .s) (now (a .meta)) (now (a .raw)) (now (a .unclassified)) (a .o) (a .start) (a .l) (now (a .out)) (c20 .pre) (c15 .ends-late .result)
     (c15 .ends-late .ensures) (c14 .if1 .left) (c11 .section-counts .result) (c11 .section-counts .ensures .0) (c11 .section-counts .ensures .1 .0)
     (c11 .section-counts .ensures .1 .1)
 
@@ -185,13 +185,13 @@ returns-6 c =
     let c16 = c15 .before in
     let c21 = c16 .before .before .before .before .before in
     let a = c21 .args in
-    behind-plan (a .s) (now (a .meta)) (now (a .raw)) (now (a .unclassified)) (a .o) (a .start) (a .l) (now (a .out)) (c21 .pre) (c16 .ends-late .result)
+    after-plan (a .s) (now (a .meta)) (now (a .raw)) (now (a .unclassified)) (a .o) (a .start) (a .l) (now (a .out)) (c21 .pre) (c16 .ends-late .result)
     (c16 .ends-late .ensures) (c15 .if1 .left) (c12 .section-counts .result) (c12 .section-counts .ensures .0) (c12 .section-counts .ensures .1 .0)
     (c12 .section-counts .ensures .1 .1) (c14 .is-shared .result) (c14 .is-shared .ensures) (c13 .if2 .left) (c11 .wide-blocks .result) (c11 .wide-blocks .ensures)
     (c10 .if3 .left) (c9 .wide-slots .result) (c9 .wide-slots .ensures) (c8 .if4 .left) (c5 .if5 .left) _ (c .plan-from .ensures) _ (c3 .put-slots .ensures)
 
-pub plan-behind-spec : {M : Type 1} → statement M
-plan-behind-spec =
+pub plan-after-spec : {M : Type 1} → statement M
+plan-after-spec =
     tie.close
     (tie.spec
     ends-late-requires

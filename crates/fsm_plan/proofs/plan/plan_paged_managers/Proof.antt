@@ -45,8 +45,8 @@ enum-known-measured c = search needs
 enum-known-measured-2 : tie.Need-enum-known-measured-2
 enum-known-measured-2 c = search needs
 
-plan-behind-requires : tie.Need-plan-behind-requires
-plan-behind-requires c κs =
+plan-after-requires : tie.Need-plan-after-requires
+plan-after-requires c κs =
     let c2 = c .before .before in
     let c4 = c2 .before .before in
     let c13 = c4 .before .before .before .before .before .before .before .before .before in
@@ -78,7 +78,7 @@ returns-6 c =
     let c9 = c8 .before in
     let c16 = c9 .before .before .before .before .before .before .before in
     let a = c16 .args in
-    c2 .plan-behind .ensures ∙ planned-is (now (a .meta)) (a .nm) (now (a .raw)) (a .nr) (now (a .unclassified)) (a .nu) (a .page) (a .start) (a .offset-size)
+    c2 .plan-after .ensures ∙ planned-is (now (a .meta)) (a .nm) (now (a .raw)) (a .nr) (now (a .unclassified)) (a .nu) (a .page) (a .start) (a .offset-size)
     (now (a .out)) (width-in (a .offset-size) (omega arith) (omega arith)) (c9 .if3 .left) (c8 .if4 .left)
     (lengths-pass (now (a .meta)) (a .nm) (now (a .raw)) (a .nr) (now (a .unclassified)) (a .nu) (a .page) (a .offset-size) (c7 .slot-lengths .result) (c7 .slot-lengths .ensures) _
     (c5 .measured2 .given .1) _)
@@ -94,7 +94,7 @@ plan-paged-managers-spec =
     slot-lengths-requires
     enum-known-measured
     enum-known-measured-2
-    plan-behind-requires
+    plan-after-requires
     returns-5
     same-length
     returns-6)

@@ -6,7 +6,7 @@ use Rattle.error.proofs.TestLaws.{true-not-false}
 use Rattle.fsm_sections.specs.Sources.{chainCount, Within}
 use Rattle.fsm_sections.proofs.TakeLaws.{at-first}
 use Rattle.fsm_plan.specs.Order.{sourceOf}
-use Rattle.fsm_plan.proofs.SharingLaws.{Below, below-start, below-turn, below-end}
+use Rattle.fsm_plan.proofs.SharingLaws.{Below, below-start, below-step, below-end}
 use borrow.Author.Needs.{needs}
 use Rattle.fsm_plan.proofs.sharing.ascends.Statement.{statement}
 use Rattle.fsm_plan.proofs.sharing.ascends.Tie as tie
@@ -62,7 +62,7 @@ loop-again c =
     let a = c12 .args in
     let l = c6 .loop in (
       c4 .next-chain .ensures .taking .within,
-      below-turn (a .s) (now (a .a)) (now (a .b)) (now (a .c)) (l .i) (l .j) (l .k) (c4 .next-chain .result) (c4 .next-chain .ensures)
+      below-step (a .s) (now (a .a)) (now (a .b)) (now (a .c)) (l .i) (l .j) (l .k) (c4 .next-chain .result) (c4 .next-chain .ensures)
           (c12 .pre .some) (l .floor) _ (l .inv .1) (c3 .raised .result) (c3 .raised .ensures) (c .before .f .given .1),
     )
 

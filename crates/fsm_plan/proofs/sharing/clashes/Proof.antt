@@ -4,7 +4,7 @@ use denote.Ref.{now}
 use Rattle.fsm_sections.specs.Sources.{chainCount, Within}
 use Rattle.fsm_sections.proofs.TakeLaws.{at-first}
 use Rattle.fsm_plan.specs.Order.{sourceOf}
-use Rattle.fsm_plan.proofs.SharingLaws.{Apart, apart-start, apart-found, apart-turn, apart-end}
+use Rattle.fsm_plan.proofs.SharingLaws.{Apart, apart-start, apart-found, apart-step, apart-end}
 use borrow.Author.Needs.{needs}
 use Rattle.fsm_plan.proofs.sharing.clashes.Statement.{statement}
 use Rattle.fsm_plan.proofs.sharing.clashes.Tie as tie
@@ -60,7 +60,7 @@ loop-again c =
     let a = c10 .args in
     let l = c4 .loop in (
       c2 .next-chain .ensures .taking .within,
-      apart-turn (a .s) (now (a .a)) (now (a .b)) (now (a .c)) (l .i) (l .j) (l .k) (c2 .next-chain .result) (c2 .next-chain .ensures)
+      apart-step (a .s) (now (a .a)) (now (a .b)) (now (a .c)) (l .i) (l .j) (l .k) (c2 .next-chain .result) (c2 .next-chain .ensures)
           (c10 .pre .some) (l .inv .1) (c .before .meets .result) (c .before .meets .ensures) (c .if1 .left),
     )
 

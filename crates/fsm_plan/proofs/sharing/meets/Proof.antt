@@ -4,7 +4,7 @@ use native.Mathlib.Omega.{arith}
 use denote.Ref.{now}
 use Rattle.fsm_sections.specs.Sources.{chainCount, Within}
 use Rattle.fsm_plan.specs.Order.{sourceOf}
-use Rattle.fsm_plan.proofs.SharingLaws.{alike, Unmet, unmet-found, unmet-turn, unmet-end}
+use Rattle.fsm_plan.proofs.SharingLaws.{alike, Unmet, unmet-found, unmet-step, unmet-end}
 use borrow.Author.Needs.{needs}
 use Rattle.fsm_plan.proofs.sharing.meets.Statement.{statement}
 use Rattle.fsm_plan.proofs.sharing.meets.Tie as tie
@@ -60,7 +60,7 @@ loop-again c =
     let a = c10 .args in
     let l = c4 .loop in (
       c2 .next-chain .ensures .taking .within,
-      unmet-turn (a .s) (now (a .a)) (now (a .b)) (now (a .c)) (l .i) (l .j) (l .k) (c2 .next-chain .result) (c2 .next-chain .ensures) (a .t)
+      unmet-step (a .s) (now (a .a)) (now (a .b)) (now (a .c)) (l .i) (l .j) (l .k) (c2 .next-chain .result) (c2 .next-chain .ensures) (a .t)
           (l .inv .1) (c .before .shares .result) (c .before .shares .ensures) (c .if1 .left),
     )
 

@@ -13,7 +13,7 @@ use Rattle.fsm_sections.specs.Pages.{end}
 use Rattle.fsm_sections.specs.declared.FreeSection.{FreeSection}
 use Rattle.fsm_writer.specs.Serializing.{anyOf}
 use Rattle.fsm_writer.proofs.RunsLaws.{ends-any}
-use Rattle.fsm_writer.proofs.SerializeLaws.{any-found, any-turn, any-none}
+use Rattle.fsm_writer.proofs.SerializeLaws.{any-found, any-step, any-none}
 use Rattle.fsm_writer.proofs.slots.any_late.Statement.{statement}
 use Rattle.fsm_writer.proofs.slots.any_late.Tie as tie
 
@@ -74,7 +74,7 @@ loop-again c =
     let a = s .args in
     let loop = c .before .before .before .before .before .loop in (
       omega arith,
-      any-turn (λ r. ltb top (end r)) (a .n) (now (a .run)) (s .pre) (loop .i) (c .before .before .before .before .loop-test .taken) _
+      any-step (λ r. ltb top (end r)) (a .n) (now (a .run)) (s .pre) (loop .i) (c .before .before .before .before .loop-test .taken) _
           (c .before .is-late .ensures) (c .if1 .left) (loop .inv .1),
     )
 

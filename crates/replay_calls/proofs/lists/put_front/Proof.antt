@@ -2,7 +2,7 @@ use Prim.Native.Nat.{_-_}
 use denote.Ref.{now}
 use borrow.Author.Needs.{needs}
 use lib.ListN.{length}
-use Rattle.replay_calls.proofs.FrontLaws.{Front, front-start, front-length, front-turn, front-all, front-full}
+use Rattle.replay_calls.proofs.FrontLaws.{Front, front-start, front-length, front-step, front-all, front-full}
 use Rattle.replay_calls.proofs.lists.put_front.Statement.{statement}
 use Rattle.replay_calls.proofs.lists.put_front.Tie as tie
 
@@ -49,7 +49,7 @@ loop-again : tie.Need-loop-again Inv-loop μ-loop
 loop-again c =
     let a = c .before .before .before .before .args in
     let l = c .before .before .before .loop in
-    front-turn (now (a .numbers)) (now (a .run)) (l .i) (l .run) (l .inv) (search needs)
+    front-step (now (a .numbers)) (now (a .run)) (l .i) (l .run) (l .inv) (search needs)
 
 same-length-2 : tie.Need-same-length-2 Inv-loop μ-loop
 same-length-2 c =

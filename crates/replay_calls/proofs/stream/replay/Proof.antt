@@ -6,10 +6,10 @@ use Rattle.replay_calls.proofs.stream.replay.Statement.{statement}
 use Rattle.replay_calls.proofs.stream.replay.Tie as tie
 
 abbrev Inv-loop : tie.InvT-loop
-Inv-loop chunk₀ line₀ lists₀ input₀ turns₀ chunk line lists input turns = (24583 ≤ length lists) × (length lists ≡ length lists₀) × (length chunk ≡ length chunk₀) × (length line ≡ length line₀)
+Inv-loop chunk₀ line₀ lists₀ input₀ iterations₀ chunk line lists input iterations = (24583 ≤ length lists) × (length lists ≡ length lists₀) × (length chunk ≡ length chunk₀) × (length line ≡ length line₀)
 
 abbrev μ-loop : tie.MeasureT-loop
-μ-loop chunk₀ line₀ lists₀ input₀ turns₀ chunk line lists input turns = turns
+μ-loop chunk₀ line₀ lists₀ input₀ iterations₀ chunk line lists input iterations = iterations
 
 loop-holds : tie.Need-loop-holds Inv-loop μ-loop
 loop-holds c = search needs
@@ -17,8 +17,8 @@ loop-holds c = search needs
 step-requires : tie.Need-step-requires Inv-loop μ-loop
 step-requires c κs = search needs
 
-turns-left-requires : tie.Need-turns-left-requires Inv-loop μ-loop
-turns-left-requires c κs = search needs
+iterations-left-requires : tie.Need-iterations-left-requires Inv-loop μ-loop
+iterations-left-requires c κs = search needs
 
 loop-less : tie.Need-loop-less Inv-loop μ-loop
 loop-less c = search needs
@@ -46,7 +46,7 @@ replay-spec =
     μ-loop
     loop-holds
     step-requires
-    turns-left-requires
+    iterations-left-requires
     loop-less
     loop-again
     same-length

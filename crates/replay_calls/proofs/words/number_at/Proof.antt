@@ -5,7 +5,7 @@ use denote.Ref.{now}
 use native.Mathlib.Omega.{arith}
 use lib.ListN.{length, take, drop}
 use Rattle.replay_lines.specs.Words.{spelledBy}
-use Rattle.replay_calls.proofs.WordLaws.{spell-start, spell-turn}
+use Rattle.replay_calls.proofs.WordLaws.{spell-start, spell-step}
 use Rattle.replay_calls.proofs.words.number_at.Statement.{statement}
 use Rattle.replay_calls.proofs.words.number_at.Tie as tie
 
@@ -54,7 +54,7 @@ loop-again c =
     let d = c .before .before .digit-of in
     let small : d .result < 10 = omega arith in
     let there : l .i < length (now (a .text)) = omega arith in
-    (search needs, search needs, spell-turn (a .at) (l .i) (now (a .text)) (l .inv .0) there (l .inv .2) (d .ensures .1 small))
+    (search needs, search needs, spell-step (a .at) (l .i) (now (a .text)) (l .inv .0) there (l .inv .2) (d .ensures .1 small))
 
 returns-3 : tie.Need-returns-3 Inv-loop μ-loop
 returns-3 c = search needs

@@ -1,7 +1,7 @@
 use Prim.Native.Nat.{_-_}
 use denote.Ref.{now}
 use borrow.Author.Needs.{needs}
-use Rattle.replay_lines.proofs.CallLaws.{Agreeing, agree-start, agree-short, agree-no, agree-turn, agree-whole, agree-last}
+use Rattle.replay_lines.proofs.CallLaws.{Agreeing, agree-start, agree-short, agree-no, agree-step, agree-whole, agree-last}
 use lib.ListN.{length}
 use Rattle.replay_lines.proofs.call.is_call.Statement.{statement}
 use Rattle.replay_lines.proofs.call.is_call.Tie as tie
@@ -43,7 +43,7 @@ loop-again : tie.Need-loop-again Inv-loop μ-loop
 loop-again c =
     let a = c .before .before .before .before .before .before .args in
     let l = c .before .before .before .before .before .loop in
-    agree-turn (now (a .name)) (now (a .line)) (l .i) (l .inv) (search needs) (search needs) (c .if2 .left)
+    agree-step (now (a .name)) (now (a .line)) (l .i) (l .inv) (search needs) (search needs) (c .if2 .left)
 
 returns-3 : tie.Need-returns-3 Inv-loop μ-loop
 returns-3 c =

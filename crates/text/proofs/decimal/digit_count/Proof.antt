@@ -3,7 +3,7 @@ use Prim.Native.Nat.{_+_, _-_, _^_, _≤_, _<_}
 use native.Mathlib.Omega.{arith}
 use lib.ListN.{length}
 use Rattle.text.specs.Decimal.{digits, decimal}
-use Rattle.text.proofs.DecimalLaws.{count-start, count-turn, count-end, fewer}
+use Rattle.text.proofs.DecimalLaws.{count-start, count-next, count-end, fewer}
 use Rattle.text.proofs.decimal.digit_count.Statement.{statement}
 use Rattle.text.proofs.decimal.digit_count.Tie as tie
 
@@ -27,7 +27,7 @@ loop-again c =
     let l = c .before .loop in
     let t = c .loop-test .taken in
     let f = fewer (c .before .before .args .n) (l .count) (l .rest) (l .inv .1) (l .inv .0) t in
-    (omega arith, f .1, count-turn (c .before .before .args .n) (l .count) (l .rest) t (f .0) (l .inv .2))
+    (omega arith, f .1, count-next (c .before .before .args .n) (l .count) (l .rest) t (f .0) (l .inv .2))
 
 returns : tie.Need-returns Inv-loop μ-loop
 returns c =

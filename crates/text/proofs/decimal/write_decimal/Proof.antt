@@ -8,7 +8,7 @@ use denote.Ref.{now}
 use Rattle.error.specs.Lent.{over}
 use Rattle.error.proofs.OverLaws.{length-over}
 use Rattle.text.specs.Decimal.{decimal}
-use Rattle.text.proofs.DecimalLaws.{put-turn, rest-next, none-written}
+use Rattle.text.proofs.DecimalLaws.{put-iteration, rest-next, none-written}
 use Rattle.text.proofs.decimal.write_decimal.Statement.{statement}
 use Rattle.text.proofs.decimal.write_decimal.Tie as tie
 
@@ -58,7 +58,7 @@ loop-again c =
     let r : l .rest ≡ a .n / 10 ^ (length (decimal (a .n)) - suc j) = l .inv .1 ∙ ap (λ (k : ℕ). a .n / 10 ^ (length (decimal (a .n)) - k)) s in
     let o : l .out ≡ over (a .at + suc j) (drop (suc j) (decimal (a .n))) (now (a .out)) =
     l .inv .2 ∙ ap (λ (k : ℕ). over (a .at + k) (drop k (decimal (a .n))) (now (a .out))) s in
-    (omega arith, rest-next (a .n) (a .at) j (now (a .out)) h r o, c .before .before .put .ensures ∙ put-turn (a .n) (a .at) j (now (a .out)) h r o)
+    (omega arith, rest-next (a .n) (a .at) j (now (a .out)) h r o, c .before .before .put .ensures ∙ put-iteration (a .n) (a .at) j (now (a .out)) h r o)
 
 same-length : tie.Need-same-length Inv-loop μ-loop
 same-length c =

@@ -6,7 +6,7 @@ use denote.Ref.{now}
 use lib.ListN.{length, take}
 use Rattle.error.specs.Lent.{over}
 use Rattle.error.proofs.OverLaws.{length-over}
-use Rattle.text.proofs.TextLaws.{copy-start, copy-turn, copy-end}
+use Rattle.text.proofs.TextLaws.{copy-start, copy-step, copy-end}
 use Rattle.text.proofs.words.write_bytes.Statement.{statement}
 use Rattle.text.proofs.words.write_bytes.Tie as tie
 
@@ -17,8 +17,8 @@ Inv-loop out₀ at bytes end to₀ out to =
 abbrev μ-loop : tie.MeasureT-loop
 μ-loop out₀ at bytes end to₀ out to = end - to
 
-behind-requires : tie.Need-behind-requires Inv-loop μ-loop
-behind-requires c κs = search needs
+place-after-requires : tie.Need-place-after-requires Inv-loop μ-loop
+place-after-requires c κs = search needs
 
 loop-holds : tie.Need-loop-holds Inv-loop μ-loop
 loop-holds c =
@@ -45,7 +45,7 @@ loop-again c =
     let l = c .before .before .loop in
     let a = c .before .before .before .before .before .before .args in
     let n : l .to - a .at < length (now (a .bytes)) = omega arith in
-    let t = copy-turn (a .at) (now (a .bytes)) (now (a .out)) (l .to) (l .inv .0) n (l .inv .3) in
+    let t = copy-step (a .at) (now (a .bytes)) (now (a .out)) (l .to) (l .inv .0) n (l .inv .3) in
     (omega arith, omega arith, ap length t ∙ length-over (a .at) _ (now (a .out)), t)
 
 same-length : tie.Need-same-length Inv-loop μ-loop
@@ -55,8 +55,8 @@ returns : tie.Need-returns Inv-loop μ-loop
 returns c =
     let l = c .before .loop in
     let a = c .before .before .before .before .before .args in
-    copy-end (a .at) (now (a .bytes)) (now (a .out)) (l .to) (c .before .before .behind .result) (l .inv .0) (c .loop-test .left) (l .inv .1)
-    (c .before .before .behind .ensures) (l .inv .3)
+    copy-end (a .at) (now (a .bytes)) (now (a .out)) (l .to) (c .before .before .place-after .result) (l .inv .0) (c .loop-test .left) (l .inv .1)
+    (c .before .before .place-after .ensures) (l .inv .3)
 
 pub write-bytes-spec : {M : Type 1} → statement M
 write-bytes-spec =
@@ -64,7 +64,7 @@ write-bytes-spec =
     (tie.spec
     Inv-loop
     μ-loop
-    behind-requires
+    place-after-requires
     loop-holds
     sub-out
     shared-slice-read-out

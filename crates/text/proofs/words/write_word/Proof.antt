@@ -9,8 +9,8 @@ use Rattle.text.proofs.words.write_word.Tie as tie
 write-decimal-requires : tie.Need-write-decimal-requires
 write-decimal-requires c κs = search needs
 
-behind-requires : tie.Need-behind-requires
-behind-requires c κs = search needs
+place-after-requires : tie.Need-place-after-requires
+place-after-requires c κs = search needs
 
 write-byte-requires : tie.Need-write-byte-requires
 write-byte-requires c κs = search needs
@@ -24,10 +24,10 @@ returns c =
     let w = b .before .before .before .write-decimal .ensures in
     let a = b .before .before .before .before .before .before .args in
     then (a .at) (decimal (a .n)) (a .stop ∷ []) (now (a .out))
-    (digits-written (a .n) (a .at) (now (a .out)) (w .0) (w .1) (b .behind .ensures))
+    (digits-written (a .n) (a .at) (now (a .out)) (w .0) (w .1) (b .place-after .ensures))
     (c .before .before .write-byte .ensures)
 
 pub write-word-spec : {M : Type 1} → statement M
 write-word-spec =
     tie.close
-    (tie.spec write-decimal-requires behind-requires write-byte-requires same-length returns)
+    (tie.spec write-decimal-requires place-after-requires write-byte-requires same-length returns)

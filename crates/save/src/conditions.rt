@@ -38,7 +38,7 @@ pub(crate) struct Offsets {
 
 // The offsets of a plan that no test refuses.
 pub(crate) enum Tested {
-    Fine(Offsets),
+    Passed(Offsets),
     Refused(Refusal),
 }
 
@@ -86,7 +86,7 @@ fn plan_offsets(
     }
     let large = first + second;
     let len = large + third;
-    Tested::Fine(Offsets {
+    Tested::Passed(Offsets {
         raw: first,
         large: large,
         len: len,
@@ -191,7 +191,7 @@ fn test_room(len: u64, image: &[u8], given: usize) -> Checked
             given: room,
         });
     }
-    Checked::Fine
+    Checked::Passed
 }
 
 // Refusals 8, 9, 13 and 14. A message that leaves the image is 13 and has no bytes for 8 and 9 to test.
@@ -248,7 +248,7 @@ fn test_late(
     let shared = check_lists(meta, raw, unclassified, lists);
     match shared {
         Checked::Refused(r) => Checked::Refused(r),
-        Checked::Fine => test_place(meta, raw, unclassified, lists, len, to, image, given),
+        Checked::Passed => test_place(meta, raw, unclassified, lists, len, to, image, given),
     }
 }
 
@@ -273,7 +273,7 @@ pub(crate) fn test_begin(
     let planned = plan_offsets(meta, raw, unclassified, lists, to);
     match planned {
         Tested::Refused(r) => Tested::Refused(r),
-        Tested::Fine(offsets) => {
+        Tested::Passed(offsets) => {
             let late = test_late(
                 meta,
                 raw,
@@ -286,7 +286,7 @@ pub(crate) fn test_begin(
             );
             match late {
                 Checked::Refused(r) => Tested::Refused(r),
-                Checked::Fine => Tested::Fine(offsets),
+                Checked::Passed => Tested::Passed(offsets),
             }
         }
     }

@@ -5,8 +5,8 @@ use borrow.Author.Tests.{lt-ltb, le-ltb}
 use Rattle.free_regions.specs.Regions.{region, meets}
 use Rattle.error.proofs.TestLaws.{or-decides, or-leaves}
 use mathlib.Core.Path.{refl, _∙_}
-use Rattle.save.proofs.tests.is_in_the_way.Statement.{statement}
-use Rattle.save.proofs.tests.is_in_the_way.Tie as tie
+use Rattle.save.proofs.conditions.is_in_the_way.Statement.{statement}
+use Rattle.save.proofs.conditions.is_in_the_way.Tie as tie
 
 add-if1 : tie.Need-add-if1
 add-if1 c = search needs

@@ -3,8 +3,8 @@ use denote.Ref.{now}
 use Rattle.free_lists.specs.Lists.{listsIn, regionsIn}
 use Rattle.save.specs.Saving.{placeTests}
 use Rattle.save.proofs.OrderLaws.{shared-refused, shared-not}
-use Rattle.save.proofs.tests.test_late.Statement.{statement}
-use Rattle.save.proofs.tests.test_late.Tie as tie
+use Rattle.save.proofs.conditions.test_late.Statement.{statement}
+use Rattle.save.proofs.conditions.test_late.Tie as tie
 
 check-lists-requires : tie.Need-check-lists-requires
 check-lists-requires c κs = search needs

@@ -2,8 +2,8 @@ use borrow.Author.Needs.{needs}
 use borrow.Author.Tests.{lt-ltb, le-ltb}
 use Rattle.error.proofs.OutcomeLaws.{refuses, passes}
 use Prim.Native.Nat.{_+_}
-use Rattle.save.proofs.tests.test_room.Statement.{statement}
-use Rattle.save.proofs.tests.test_room.Tie as tie
+use Rattle.save.proofs.conditions.test_room.Statement.{statement}
+use Rattle.save.proofs.conditions.test_room.Tie as tie
 
 add-needed : tie.Need-add-needed
 add-needed c = search needs

@@ -1,8 +1,8 @@
 use borrow.Author.Needs.{needs}
 use denote.Ref.{now}
 use Rattle.save.proofs.OrderLaws.{begin-page, begin-lists, begin-asks, begin-large, begin-last, begin-late, begin-fine}
-use Rattle.save.proofs.tests.test_begin.Statement.{statement}
-use Rattle.save.proofs.tests.test_begin.Tie as tie
+use Rattle.save.proofs.conditions.test_begin.Statement.{statement}
+use Rattle.save.proofs.conditions.test_begin.Tie as tie
 
 returns : tie.Need-returns
 returns c =

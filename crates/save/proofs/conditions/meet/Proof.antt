@@ -1,7 +1,7 @@
 use borrow.Author.Needs.{needs}
 use Rattle.save.proofs.PlaceLaws.{meet-not, meet-else}
-use Rattle.save.proofs.tests.meet.Statement.{statement}
-use Rattle.save.proofs.tests.meet.Tie as tie
+use Rattle.save.proofs.conditions.meet.Statement.{statement}
+use Rattle.save.proofs.conditions.meet.Tie as tie
 
 add-if1 : tie.Need-add-if1
 add-if1 c = search needs

@@ -6,8 +6,8 @@ use denote.Ref.{now}
 use Rattle.free_lists.specs.Lists.{listsIn, regionsIn}
 use Rattle.save.proofs.PlaceLaws.{not-longer}
 use Rattle.save.proofs.OrderLaws.{place-outside, message-there, place-version, place-strategy, place-blocks, place-way, place-room}
-use Rattle.save.proofs.tests.test_place.Statement.{statement}
-use Rattle.save.proofs.tests.test_place.Tie as tie
+use Rattle.save.proofs.conditions.test_place.Statement.{statement}
+use Rattle.save.proofs.conditions.test_place.Tie as tie
 
 message-in-requires : tie.Need-message-in-requires
 message-in-requires c κs = search needs

@@ -5,8 +5,8 @@ use borrow.Author.Tests.{lt-ltb}
 use Prim.Native.Nat.{_+_, _-_}
 use Rattle.fields.specs.Ranges.{top}
 use Rattle.save.proofs.PlaceLaws.{same-test}
-use Rattle.save.proofs.tests.ends_above.Statement.{statement}
-use Rattle.save.proofs.tests.ends_above.Tie as tie
+use Rattle.save.proofs.conditions.ends_above.Statement.{statement}
+use Rattle.save.proofs.conditions.ends_above.Tie as tie
 
 sub-room : tie.Need-sub-room
 sub-room c = search needs

@@ -4,8 +4,8 @@ use Prim.Native.Nat.{_+_, _≤_}
 use native.Mathlib.Omega.{arith}
 use Rattle.fields.specs.Ranges.{top}
 use Rattle.save.proofs.SumLaws.{first-refused, second-refused, third-refused, above-refused, sum-low, offsets-are}
-use Rattle.save.proofs.tests.plan_offsets.Statement.{statement}
-use Rattle.save.proofs.tests.plan_offsets.Tie as tie
+use Rattle.save.proofs.conditions.plan_offsets.Statement.{statement}
+use Rattle.save.proofs.conditions.plan_offsets.Tie as tie
 
 slot-len-requires : tie.Need-slot-len-requires
 slot-len-requires c κs = search needs

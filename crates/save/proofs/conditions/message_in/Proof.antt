@@ -1,7 +1,7 @@
 use denote.Ref.{now}
 use Rattle.save.proofs.PlaceLaws.{message-short, message-long}
-use Rattle.save.proofs.tests.message_in.Statement.{statement}
-use Rattle.save.proofs.tests.message_in.Tie as tie
+use Rattle.save.proofs.conditions.message_in.Statement.{statement}
+use Rattle.save.proofs.conditions.message_in.Tie as tie
 
 returns : tie.Need-returns
 returns c = let a = c .before .args in message-short (a .place) (now (a .image)) (c .if1 .taken)

@@ -1,8 +1,8 @@
 use borrow.Author.Needs.{needs}
 use denote.Ref.{now}
 use Rattle.save.proofs.PlaceLaws.{out-none, out-image, out-message}
-use Rattle.save.proofs.tests.blocks_out.Statement.{statement}
-use Rattle.save.proofs.tests.blocks_out.Tie as tie
+use Rattle.save.proofs.conditions.blocks_out.Statement.{statement}
+use Rattle.save.proofs.conditions.blocks_out.Tie as tie
 
 returns : tie.Need-returns
 returns c = let a = c .before .before .args in out-none (a .len) (a .start) (a .place) (now (a .image)) (c .if1 .taken)

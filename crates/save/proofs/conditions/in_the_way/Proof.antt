@@ -5,9 +5,9 @@ use native.Mathlib.Omega.{arith}
 use denote.Ref.{now}
 use lib.ListN.{drop}
 use Rattle.free_space.specs.Runs.{decode}
-use Rattle.save.proofs.PlaceLaws.{ways, way-asks, way-room, way-found, way-turn, way-none}
-use Rattle.save.proofs.tests.in_the_way.Statement.{statement}
-use Rattle.save.proofs.tests.in_the_way.Tie as tie
+use Rattle.save.proofs.PlaceLaws.{ways, way-asks, way-room, way-found, way-step, way-none}
+use Rattle.save.proofs.conditions.in_the_way.Statement.{statement}
+use Rattle.save.proofs.conditions.in_the_way.Tie as tie
 
 abbrev Inv-loop : tie.InvT-loop
 Inv-loop run start place count i₀ i = (i ≤ count) × (ways start place (drop i (decode count run)) ≡ ways start place (decode count run))
@@ -100,7 +100,7 @@ loop-again c =
     let pre = c .before .before .before .before .before .before .before .pre in
     let l = c .before .before .before .before .before .loop in
     let t = c .before .before .before .before .loop-test in
-    (omega arith, way-turn (a .start) (a .place) (now (a .run)) (a .list) (pre .0) (l .i) (l .inv .1) (t .taken) _ (c .before .is-in-the-way .ensures) (c .if1 .left))
+    (omega arith, way-step (a .start) (a .place) (now (a .run)) (a .list) (pre .0) (l .i) (l .inv .1) (t .taken) _ (c .before .is-in-the-way .ensures) (c .if1 .left))
 
 returns-2 : tie.Need-returns-2 Inv-loop μ-loop
 returns-2 c =

@@ -5,8 +5,8 @@ use Rattle.free_space.specs.Runs.{regions}
 use Rattle.error.proofs.TestLaws.{or-decides, or-leaves}
 use Rattle.save.specs.Saving.{inTheWay}
 use Rattle.save.proofs.SumLaws.{each-list}
-use Rattle.save.proofs.tests.any_in_the_way.Statement.{statement}
-use Rattle.save.proofs.tests.any_in_the_way.Tie as tie
+use Rattle.save.proofs.conditions.any_in_the_way.Statement.{statement}
+use Rattle.save.proofs.conditions.any_in_the_way.Tie as tie
 
 in-the-way-requires : tie.Need-in-the-way-requires
 in-the-way-requires c κs =
