@@ -10,7 +10,7 @@ use lib.Dec.{eqb}
 use Rattle.error.specs.declared.Refusal.the-variants.{Width, Page, Overflow, Short}
 use Rattle.error.specs.Outcome.{answer, refused, sat}
 use Rattle.error.proofs.OutcomeLaws.{refuses, passes, first-holds, first-passes}
-use Rattle.fields.specs.Ranges.{top, enough, sum, range, allOnes, undefinedAt, firstMultiple, alignedUp}
+use Rattle.fields.specs.Ranges.{top, enough, sum, range, undefinedAddr, undefinedAt, firstMultiple, alignedUp}
 use Rattle.fields.specs.Width.{validWidth}
 use Rattle.fields.proofs.WidthLaws.{width-low, width-high, width-in}
 
@@ -66,16 +66,16 @@ module _ (a O : ℕ) where
 
   pub undefined-never : 1 ≤ O → O ≤ 8 → (O ≡ 2 → ⊥) → (O ≡ 4 → ⊥) → (O ≡ 8 → ⊥) → answer false ≡ undefinedAt a O
   unfolding undefinedAt
-  undefined-never h l n2 n4 n8 = ap answer (sym (none (eqb a (allOnes O)))) ∙ passes _ _ _ (width-in O h l)
+  undefined-never h l n2 n4 n8 = ap answer (sym (none (eqb a (undefinedAddr O)))) ∙ passes _ _ _ (width-in O h l)
     where
       none : (t : Bool) → (t && (eqb O 2 || (eqb O 4 || eqb O 8))) ≡ false
       none true = rw (ne-eqb O 2 n2, ne-eqb O 4 n4, ne-eqb O 8 n8)
       none false = refl
 
 -- at one of the three sizes k
-pub undefined-ones : (a O k : ℕ) → O ≡ k → (eqb k 2 || (eqb k 4 || eqb k 8)) ≡ true → not (validWidth k) ≡ false → answer (eqb a (allOnes k)) ≡ undefinedAt a O
+pub undefined-ones : (a O k : ℕ) → O ≡ k → (eqb k 2 || (eqb k 4 || eqb k 8)) ≡ true → not (validWidth k) ≡ false → answer (eqb a (undefinedAddr k)) ≡ undefinedAt a O
 unfolding undefinedAt
-undefined-ones a O k e s v = rw e (ap answer (sym (rw s (and-one (eqb a (allOnes k))))) ∙ passes _ _ _ v)
+undefined-ones a O k e s v = rw e (ap answer (sym (rw s (and-one (eqb a (undefinedAddr k))))) ∙ passes _ _ _ v)
   where
     and-one : (t : Bool) → (t && true) ≡ t
     and-one true = refl

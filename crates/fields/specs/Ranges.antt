@@ -1,12 +1,12 @@
 -- Sums, ranges and multiples of 64-bit numbers, with their refusals. Assumes nothing.
 -- In quotes: document 01's words, from the refusal of that number or from the heading named.
---   top               2^64 - 1, the greatest stored number (refusal 4: "exceeds 2^64−1"); as an address of 8 bytes, the undefined one
+--   top               2^64 - 1, the greatest stored number (refusal 4: "exceeds 2^64−1")
 --   enough            `ensure_len`: refusal 7, with the end that is asked for and the length that is there ("Eight files": "`ensure_len` gives 7
 --                     alone; on overflow, expected saturates")
 --   sum               `absolute`: the sum of two numbers (refusal 4: "address plus length or base")
 --   Range             the places from start up to end
 --   range             `slice_range` (refusal 4: "address plus length")
---   allOnes           the address of which all bits of O bytes are one: the undefined address of the HDF5 File Format Specification
+--   undefinedAddr     the address of which all bits of O bytes are one: the undefined address of the HDF5 File Format Specification
 --   undefinedAt       `is_undefined_addr`: as the Rust's table, all ones at offset sizes 2, 4 and 8, no address at the other sizes
 --                     (refusal 1: "outside 1 to 8")
 --   firstMultiple     the first multiple of a page at or after a number ("The list": "the first multiple of the unit at or after the address")
@@ -51,13 +51,13 @@ abbrev pub undefinedOutcome : Undefined → Outcome Bool
 undefinedOutcome (undefined.Is b) = answer b
 undefinedOutcome (undefined.Refused r) = refused r
 
-abbrev pub allOnes : ℕ → ℕ
-allOnes O = 256 ^ O - 1
+abbrev pub undefinedAddr : ℕ → ℕ
+undefinedAddr O = 256 ^ O - 1
 
 unfoldable pub undefinedAt : ℕ → ℕ → Outcome Bool
 undefinedAt addr O =
     firstOf (when (not (validWidth O)) Width ∷ [])
-    (answer (eqb addr (allOnes O) && (eqb O 2 || (eqb O 4 || eqb O 8))))
+    (answer (eqb addr (undefinedAddr O) && (eqb O 2 || (eqb O 4 || eqb O 8))))
 
 unfoldable pub firstMultiple : ℕ → ℕ → ℕ
 firstMultiple a u = (a + (u - 1)) / u * u

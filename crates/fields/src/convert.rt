@@ -6,6 +6,9 @@ use crate::number::MAX;
 use error::Number;
 use error::Refusal;
 
+// The undefined address of 8 bytes.
+pub const UNDEF: u64 = MAX;
+
 // The places from `start` up to `end`.
 pub enum SliceRange {
     Range { start: u64, end: u64 },
@@ -44,7 +47,7 @@ pub fn is_undefined_addr(addr: u64, offset_size: u8) -> Undefined
     match offset_size {
         2 => Undefined::Is(addr == 0xFFFF),
         4 => Undefined::Is(addr == 0xFFFF_FFFF),
-        8 => Undefined::Is(addr == 0xFFFF_FFFF_FFFF_FFFF),
+        8 => Undefined::Is(addr == UNDEF),
         _ => Undefined::Is(false),
     }
 }

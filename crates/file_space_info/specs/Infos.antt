@@ -11,7 +11,7 @@ use Prim.Native.Nat.{ℕ, _-_}
 use mathlib.Core.Bool.{Bool, true, false}
 use mathlib.Core.List.{List, _∷_}
 use lib.ListN.{replicate}
-use Rattle.fields.specs.Ranges.{top}
+use Rattle.fields.specs.Ranges.{undefinedAddr}
 use Rattle.file_space_info.specs.declared.FileSpaceStrategy.{FileSpaceStrategy}
 use Rattle.file_space_info.specs.declared.FileSpaceInfo.{FileSpaceInfo}
 use Rattle.file_space_info.specs.declared.WithSlots.{WithSlots}
@@ -30,13 +30,13 @@ made persist s t p e = record {
 }
 
 abbrev pub nonPersistent : FileSpaceStrategy → ℕ → ℕ → FileSpaceInfo
-nonPersistent s t p = made false s t p top
+nonPersistent s t p = made false s t p (undefinedAddr 8)
 
 abbrev pub persistentManagers : FileSpaceStrategy → ℕ → ℕ → List ℕ → ℕ → WithSlots
 persistentManagers s t p slots e = record { info = made true s t p e; slots = slots }
 
 abbrev pub persistentEmpty : FileSpaceStrategy → ℕ → ℕ → WithSlots
-persistentEmpty s t p = persistentManagers s t p (replicate slotCount top) top
+persistentEmpty s t p = persistentManagers s t p (replicate slotCount (undefinedAddr 8)) (undefinedAddr 8)
 
 abbrev pub persistentSingleManager : FileSpaceStrategy → ℕ → ℕ → ℕ → ℕ → WithSlots
-persistentSingleManager s t p a e = persistentManagers s t p (a ∷ replicate (slotCount - 1) top) e
+persistentSingleManager s t p a e = persistentManagers s t p (a ∷ replicate (slotCount - 1) (undefinedAddr 8)) e

@@ -4,6 +4,7 @@
 --   shape           the widths of the fixed part's fields: "Version 1, strategy", "persist, threshold, page size, 2-byte page-end threshold,
 --                   end before managers"
 --   fixedLen        the length of the fixed part
+--   messageLen      the bytes of a written message with its twelve slots: "125 with twelve slots"
 --   bit             persist as it is written, 1 or 0
 --   numbersOf       a message's numbers in the fields of the fixed part
 --   addressRow      addresses, O bytes each
@@ -46,6 +47,10 @@ shape O L = 1 ∷ 1 ∷ 1 ∷ L ∷ L ∷ 2 ∷ O ∷ []
 
 abbrev pub fixedLen : ℕ → ℕ → ℕ
 fixedLen O L = span (shape O L)
+
+-- with twelve slots of 8 bytes
+abbrev pub messageLen : ℕ
+messageLen = 125
 
 abbrev pub bit : Bool → ℕ
 bit true = 1

@@ -15,6 +15,7 @@ use error::Number;
 use error::Refusal;
 use fields::bytes::read_uint_le;
 use fields::bytes::write_uint_le;
+use fields::convert::UNDEF;
 use fields::width::is_width;
 
 // The default free-space section threshold of the C library.
@@ -23,8 +24,8 @@ pub const DEFAULT_THRESHOLD: u64 = 1;
 pub const DEFAULT_PAGE_SIZE: u64 = 4096;
 // How many manager addresses a persisting message carries: one for each kind of file memory.
 pub const NUM_FILE_FSM_MANAGERS: usize = 12;
-// No address: all bits set.
-pub const UNDEF: u64 = 0xFFFF_FFFF_FFFF_FFFF;
+// The bytes of a written message with its twelve slots.
+pub const MESSAGE_LEN: u64 = 125;
 
 // H5F_fspace_strategy_t.
 pub enum FileSpaceStrategy {

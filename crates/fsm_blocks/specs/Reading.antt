@@ -1,6 +1,6 @@
 -- Managers read from the bytes of a file: `parse_fsse` and `read_persisted_sections`. Assumes nothing.
 -- In quotes: document 01's words, from "Blocks on file".
---   undefined8     no manager, no section list: "an address of 64 one bits is skipped, in the slot and in the FSSE field"
+--   (undefinedAddr 8, no manager and no section list: "an address of 64 one bits is skipped, in the slot and in the FSSE field")
 --   readNamed      the section list that a header names: "Adding the base past 2^64−1", "or an FSSE outside the data is 10"
 --   readManager    the sections of the manager whose header a slot names: "a header start past the data" is 10
 --   readSlots      each slot's sections: "slots in order"; "the first refusal ends the read"
@@ -18,7 +18,7 @@ use Rattle.error.specs.declared.Refusal.the-variants.{Width, NotAList, InvalidM
 use Rattle.error.specs.Outcome.{Outcome, answer, when, firstOf, andThen, sat}
 use Rattle.error.specs.Lent.{With, with, over}
 use Rattle.fields.specs.Layout.{window}
-use Rattle.fields.specs.Ranges.{top}
+use Rattle.fields.specs.Ranges.{top, undefinedAddr}
 use Rattle.fields.specs.Width.{validWidth}
 use Rattle.fsm_sections.specs.declared.FreeSection.{FreeSection}
 use Rattle.fsm_sections.specs.Sections.{flat}
@@ -26,14 +26,11 @@ use Rattle.fsm_blocks.specs.declared.header.FsmHeader.{FsmHeader}
 use Rattle.fsm_blocks.specs.Fshd.{Header, parseFshd}
 use Rattle.fsm_blocks.specs.Fsse.{parseFsse}
 
-abbrev pub undefined8 : ℕ
-undefined8 = top
-
 -- O is the offset size, base what is added to each block's address
 module _ (O base : ℕ) where
   unfoldable pub readNamed : Header → List ℕ → Outcome (List FreeSection)
   readNamed h bytes =
-      cond (eqb (h .fsse) undefined8) (answer [])
+      cond (eqb (h .fsse) (undefinedAddr 8)) (answer [])
       (firstOf
       (when (ltb top (h .fsse + base)) InvalidManager
       ∷ when (ltb (length bytes) (h .fsse + base + h .used)) InvalidManager
@@ -42,7 +39,7 @@ module _ (O base : ℕ) where
 
   unfoldable pub readManager : ℕ → List ℕ → Outcome (List FreeSection)
   readManager slot bytes =
-      cond (eqb slot undefined8) (answer [])
+      cond (eqb slot (undefinedAddr 8)) (answer [])
       (firstOf
       (when (ltb top (slot + base)) InvalidManager
       ∷ when (ltb (length bytes) (slot + base)) InvalidManager

@@ -17,6 +17,7 @@ use crate::header::HeaderAnswer;
 use error::Number;
 use error::Refusal;
 use fields::address::BaseAddress;
+use fields::convert::UNDEF;
 use fields::width::is_width;
 
 // Where a manager's section list stands, with the header that names it.
@@ -41,7 +42,7 @@ fn list_of(bytes: &[u8], header: FsmHeader, base: BaseAddress) -> Named
     ensures inside { λ r. ⌜ Inside (length (now (bytes .entry))) r ⌝ }
 {
     let fsse = header.fsse_addr;
-    if fsse == 0xffff_ffff_ffff_ffff {
+    if fsse == UNDEF {
         return Named::Nowhere;
     }
     let Number::Is(start) = base.absolute(fsse) else {
@@ -66,7 +67,7 @@ fn locate(bytes: &[u8], slot: u64, base: BaseAddress, offset_size: u8) -> Named
     ensures named { λ r. ⌜ namedOutcome «offset_size» (now (bytes .entry)) r ≡ readManager «offset_size» (base .0) slot (now (bytes .entry)) ⌝ }
     ensures inside { λ r. ⌜ Inside (length (now (bytes .entry))) r ⌝ }
 {
-    if slot == 0xffff_ffff_ffff_ffff {
+    if slot == UNDEF {
         return Named::Nowhere;
     }
     let Number::Is(start) = base.absolute(slot) else {

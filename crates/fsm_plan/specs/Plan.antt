@@ -30,7 +30,7 @@ use lib.ListN.{length}
 use Rattle.error.specs.declared.Refusal.the-variants.{Width, Page, NotAList, Overflow, SharedAddress, WideAddress, OverCapacity}
 use Rattle.error.specs.Outcome.{Outcome, answer, refused, Condition, when, firstOf}
 use Rattle.error.specs.Lent.{With, with, over}
-use Rattle.fields.specs.Ranges.{top}
+use Rattle.fields.specs.Ranges.{top, undefinedAddr}
 use Rattle.fields.specs.Width.{validWidth}
 use Rattle.pairs.specs.Pairs.{isEven, isRun}
 use Rattle.fsm_sections.specs.declared.FreeSection.{FreeSection}
@@ -38,7 +38,6 @@ use Rattle.fsm_sections.specs.Sections.{decode, flat}
 use Rattle.fsm_sections.specs.Pages.{slot0, slot2, slot6}
 use Rattle.fsm_sections.specs.Sources.{Given}
 use Rattle.fsm_blocks.specs.Fshd.{fshdSize}
-use Rattle.fsm_blocks.specs.Reading.{undefined8}
 use Rattle.fsm_writer.specs.Serializing.{wide, anyWide, blocksSize}
 use Rattle.fsm_writer.specs.Slots.{runTests, sizeTests}
 use Rattle.fsm_plan.specs.declared.chains.Counts.{Counts}
@@ -53,7 +52,7 @@ use Rattle.fsm_sections.specs.Runs.{endsAbove}
 use Rattle.fsm_plan.specs.Order.{byAddr, repeats, sourceOf}
 
 abbrev pub addressIn : ℕ → ℕ → ℕ
-addressIn n a = cond (eqb n 0) undefined8 a
+addressIn n a = cond (eqb n 0) (undefinedAddr 8) a
 
 abbrev pub endAt : ℕ → Lengths → ℕ
 endAt start l = start + l .l0 + l .l2 + l .l6

@@ -26,6 +26,7 @@ use crate::put::put_small;
 use crate::sharing::is_shared;
 use error::Number;
 use error::Refusal;
+use fields::convert::UNDEF;
 use fields::number::MAX;
 use fsm_writer::slots::Slot;
 use fsm_writer::slots::slot_len;
@@ -179,7 +180,7 @@ fn address_in(n: u64, addr: u64) -> u64
     ensures { λ r. ⌜ r ≡ addressIn n addr ⌝ }
 {
     if n == 0 {
-        return MAX;
+        return UNDEF;
     }
     addr
 }
@@ -190,7 +191,7 @@ fn fsse_in(n: u64, addr: u64, o: usize) -> u64
     ensures { λ r. ⌜ r ≡ addressIn n (addr + fshdSize o) ⌝ }
 {
     if n == 0 {
-        return MAX;
+        return UNDEF;
     }
     addr + (74 + o as u64)
 }

@@ -25,8 +25,7 @@ use Rattle.fsm_sections.specs.declared.FreeSection.{FreeSection}
 use Rattle.fsm_blocks.specs.Reading.{readManager, readSlots, joined, intoRun}
 use Rattle.fsm_blocks.specs.Parts.{got}
 use Rattle.file_space_info.specs.declared.FileSpaceInfo.{FileSpaceInfo}
-use Rattle.file_space_info.specs.Message.{fixedLen, fixedRead, present, numbersAt}
-use Rattle.save_step.specs.Stores.{messageLen}
+use Rattle.file_space_info.specs.Message.{messageLen, fixedLen, fixedRead, present, numbersAt}
 
 abbrev pub messageAt : ℕ → List ℕ → List ℕ
 messageAt place image = window place messageLen image

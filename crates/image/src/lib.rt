@@ -13,6 +13,7 @@ use error::Refusal;
 use fields::address::BaseAddress;
 use fields::number::min;
 use file_space_info::FileSpaceInfo;
+use file_space_info::MESSAGE_LEN;
 use file_space_info::NUM_FILE_FSM_MANAGERS;
 use file_space_info::Parsed;
 use fsm_blocks::fsse::SectionsAnswer;
@@ -36,7 +37,7 @@ fn read_message(image: &[u8], place: u64, slots: &mut [u64]) -> Parsed
 {
     let len = image.len() as u64;
     let start = min(place, len);
-    let end = start + min(125, len - start);
+    let end = start + min(MESSAGE_LEN, len - start);
     let first = start as usize;
     let last = end as usize;
     FileSpaceInfo::parse(&image[first..last], 8, 8, slots)

@@ -31,7 +31,8 @@ use Rattle.file_space_info.specs.declared.FileSpaceStrategy.the-variants as str
 use Rattle.file_space_info.specs.Infos.{made}
 use Rattle.file_space_info.proofs.MessageLaws.{length-twelve}
 use Rattle.save_step.specs.declared.Save.{Save}
-use Rattle.save_step.specs.Stores.{after, messageLen, saveStores}
+use Rattle.file_space_info.specs.Message.{messageLen}
+use Rattle.save_step.specs.Stores.{after, saveStores}
 use Rattle.save_step.specs.Steps.{stored, stores, Saving, saving, steps}
 use Rattle.save_step.proofs.CutLaws as c
 use Rattle.save_step.proofs.CutLaws.{Savable}

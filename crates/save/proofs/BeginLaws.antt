@@ -26,7 +26,7 @@ use Rattle.free_lists.specs.declared.calls.Which.the-variants.{Metadata, Raw, U
 use Rattle.free_lists.specs.Lists.{Lists, regionsOf, Regions, regionsIn}
 use Rattle.fsm_sections.specs.Sections.{space}
 use Rattle.save_step.specs.declared.Save.{Save}
-use Rattle.save_step.specs.Stores.{messageLen}
+use Rattle.file_space_info.specs.Message.{messageLen}
 use Rattle.save.specs.Saving.{small, smallRaw, large, blockLen, messageIn, regionTests, listTests, fresh, filled, begunOf, begun}
 use Rattle.save.specs.Beginning.{conditions}
 

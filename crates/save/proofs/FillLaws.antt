@@ -34,9 +34,8 @@ use Rattle.file_space_info.specs.declared.FileSpaceInfo.{FileSpaceInfo}
 use Rattle.file_space_info.specs.declared.FileSpaceStrategy.the-variants as strategy
 use Rattle.file_space_info.specs.declared.WithSlots.{WithSlots}
 use Rattle.file_space_info.specs.Infos.{made, persistentManagers}
-use Rattle.file_space_info.specs.Message.{messageBytes, serialized}
+use Rattle.file_space_info.specs.Message.{messageLen, messageBytes, serialized}
 use Rattle.file_space_info.proofs.MessageLaws.{length-twelve}
-use Rattle.save_step.specs.Stores.{messageLen}
 use Rattle.save.specs.declared.conditions.Offsets.{Offsets}
 use Rattle.save.specs.declared.conditions.Tested.{Tested}
 use Rattle.save.specs.declared.conditions.Tested.the-variants as code

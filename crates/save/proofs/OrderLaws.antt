@@ -17,7 +17,7 @@ use Rattle.error.proofs.OutcomeLaws.{NoneHolds, first-none, first-holds, first-
 use Rattle.fields.specs.Ranges.{top}
 use Rattle.free_lists.specs.declared.FileLists.{FileLists}
 use Rattle.free_lists.specs.Lists.{together, Lists, Regions, listsIn, regionsIn, areLists, sharedByte}
-use Rattle.save_step.specs.Stores.{messageLen}
+use Rattle.file_space_info.specs.Message.{messageLen}
 use Rattle.save.specs.declared.conditions.Offsets.{Offsets}
 use Rattle.save.specs.declared.conditions.Tested.{Tested}
 use Rattle.save.specs.declared.conditions.Tested.the-variants as code

@@ -17,10 +17,9 @@ use Rattle.fsm_sections.specs.declared.FreeSection.{FreeSection}
 use Rattle.fsm_sections.specs.Sections.{flat}
 use Rattle.fsm_blocks.specs.Reading.{readSlots, joined}
 use Rattle.file_space_info.specs.declared.FileSpaceInfo.{FileSpaceInfo}
-use Rattle.file_space_info.specs.Message.{shape, fixedLen, messageRow, messageBytes, present, numbersAt}
+use Rattle.file_space_info.specs.Message.{messageLen, shape, fixedLen, messageRow, messageBytes, present, numbersAt}
 use Rattle.file_space_info.proofs.ReadLaws.{read-accepts}
 use Rattle.file_space_info.proofs.MessageLaws as m
-use Rattle.save_step.specs.Stores.{messageLen}
 use Rattle.image.specs.Reading.{messageAt, addressesIn, readImage, listed, readListed, countsOf, imageInto}
 
 -- ---- a message that does not persist

@@ -22,9 +22,8 @@ use Rattle.fsm_writer.specs.declared.slots.Slot.{Slot}
 use Rattle.fsm_writer.specs.Serializing.{blocksSize}
 use Rattle.fsm_writer.specs.Slots.{slotOf, slotLen}
 use Rattle.file_space_info.specs.declared.FileSpaceStrategy.the-variants as strategy
-use Rattle.file_space_info.specs.Message.{messageBytes}
+use Rattle.file_space_info.specs.Message.{messageLen, messageBytes}
 use Rattle.file_space_info.specs.Infos.{made}
-use Rattle.save_step.specs.Stores.{messageLen}
 use Rattle.save.specs.declared.conditions.Offsets.{Offsets}
 use Rattle.save.specs.declared.conditions.Tested.{Tested}
 use Rattle.save.specs.declared.conditions.Tested.the-variants as code

@@ -42,10 +42,9 @@ use Rattle.fsm_sections.specs.Pages.{slot0, slot2, slot6}
 use Rattle.fsm_blocks.specs.Settings.{startingSet}
 use Rattle.fsm_plan.specs.Managers.{Manager, managersOf, sizeOf, blocksFrom, slotsFrom}
 use Rattle.file_space_info.specs.declared.FileSpaceStrategy.the-variants as strategy
-use Rattle.file_space_info.specs.Message.{messageBytes}
+use Rattle.file_space_info.specs.Message.{messageLen, messageBytes}
 use Rattle.file_space_info.specs.Infos.{persistentManagers}
 use Rattle.save_step.specs.declared.Save.{Save}
-use Rattle.save_step.specs.Stores.{messageLen}
 use Rattle.save.specs.declared.Begin.{Begin}
 use Rattle.save.specs.declared.Begin.the-variants as begin
 

@@ -19,15 +19,13 @@ use error::Checked;
 use error::Number;
 use error::Refusal;
 use fields::number::MAX;
+use file_space_info::MESSAGE_LEN;
 use free_lists::FileLists;
 use free_lists::are_lists;
 use free_lists::check_lists;
 use free_space::list::FreeList;
 use fsm_writer::slots::Slot;
 use fsm_writer::slots::slot_len;
-
-// The length of the message.
-const MESSAGE_LEN: u64 = 125;
 
 // Counted from the first block byte: slot 0 has the blocks up to `raw`, slot 2 those up to `large`, slot 6 those up to `len`.
 pub(crate) struct Offsets {

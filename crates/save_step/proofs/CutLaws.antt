@@ -12,7 +12,8 @@ use lib.Seq.{length-take-le, getD-take, getD-drop, ext-getD}
 use Rattle.error.proofs.TestLaws.{le-or-lt}
 use Rattle.fields.specs.Layout.{window}
 use Rattle.save_step.specs.declared.Store.{Store}
-use Rattle.save_step.specs.Stores.{noStore, run, after, messageLen, persist, saveStores}
+use Rattle.file_space_info.specs.Message.{messageLen}
+use Rattle.save_step.specs.Stores.{noStore, run, after, persist, saveStores}
 use Rattle.save_step.specs.Steps.{stores}
 use Rattle.save_step.proofs.StoreLaws.{length-run, after-all, cut-other, cut-last, Sole, sole-old, sole-new, run-twice}
 use Rattle.save_step.proofs.NumberLaws.{byteNumber, number-in, count, store-first, store-block, store-message, store-last, each}

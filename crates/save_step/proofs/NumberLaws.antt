@@ -12,7 +12,8 @@ use lib.Seq.{length-take-le, getD-take, getD-drop, getD-append-add}
 use borrow.Author.Tests.{lt-ltb, le-ltb}
 use Rattle.error.proofs.TestLaws.{le-or-lt}
 use Rattle.save_step.specs.declared.Store.{Store}
-use Rattle.save_step.specs.Stores.{noStore, store, ascending, but, messageLen, persist, saveStores}
+use Rattle.file_space_info.specs.Message.{messageLen}
+use Rattle.save_step.specs.Stores.{noStore, store, ascending, but, persist, saveStores}
 use Rattle.save_step.specs.Steps.{stores}
 
 length-ascending : (p : ℕ) (b : List ℕ) → length (ascending p b) ≡ length b

@@ -16,7 +16,8 @@ use Rattle.error.specs.Lent.{With, with, Left, left, leaving}
 use Rattle.error.proofs.TestLaws.{le-or-lt}
 use Rattle.fields.specs.Layout.{window}
 use Rattle.save_step.specs.declared.Save.{Save}
-use Rattle.save_step.specs.Stores.{noStore, run, after, messageLen, saveStores}
+use Rattle.file_space_info.specs.Message.{messageLen}
+use Rattle.save_step.specs.Stores.{noStore, run, after, saveStores}
 use Rattle.save_step.specs.Steps.{Progress, stored, finished, stores, leaves, nextStore, oneMore, stepped, Saving, saving, recordAfter, goOn, stepOn, steps}
 use Rattle.save_step.proofs.StoreLaws.{after-suc}
 use Rattle.save_step.proofs.CutLaws.{Savable, number-of-stores, cut-length}

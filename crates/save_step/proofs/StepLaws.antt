@@ -16,7 +16,8 @@ use Rattle.error.proofs.TestLaws.{le-or-lt, or-false, and-false}
 use Rattle.fields.specs.Layout.{window}
 use Rattle.save_step.specs.declared.Save.{Save}
 use Rattle.save_step.specs.declared.Store.{Store}
-use Rattle.save_step.specs.Stores.{noStore, store, make, messageLen, persist, saveStores}
+use Rattle.file_space_info.specs.Message.{messageLen}
+use Rattle.save_step.specs.Stores.{noStore, store, make, persist, saveStores}
 use Rattle.save_step.specs.Steps.{Progress, stored, finished, stores, allMade, leaves, Inside, nextStore, oneMore, stepped}
 use Rattle.save_step.proofs.NumberLaws.{store-first, store-block, store-before, stored-after, store-last, each}
 

@@ -31,7 +31,8 @@ use Rattle.save_step.specs.declared.Save.{Save}
 use Rattle.save_step.specs.declared.Step.{Step}
 use Rattle.save_step.specs.declared.Step.the-variants as step
 use Rattle.save_step.specs.declared.Store.{Store}
-use Rattle.save_step.specs.Stores.{noStore, make, saveStores, messageLen}
+use Rattle.file_space_info.specs.Message.{messageLen}
+use Rattle.save_step.specs.Stores.{noStore, make, saveStores}
 
 -- ---- one step
 

@@ -7,7 +7,6 @@
 --   after        what a cut leaves: the image with "the first k stores" made "and nothing of the others"
 --   ascending    the stores of bytes one after another, from a place up
 --   but          stores without number i of them
---   messageLen   the bytes of a save's message: "its 125 bytes"
 --   persist      which of them is the persist byte: number 2, after version and strategy ("The message")
 --   saveStores   the stores of a save: "0 to the persist byte; blocks ascending; message bytes but persist ascending; 1 to persist"
 use Prim.Native.Nat.{ℕ, suc, _+_}
@@ -37,9 +36,6 @@ ascending p (b ∷ bs) = store p b ∷ ascending (suc p) bs
 
 abbrev pub but : ℕ → List Store → List Store
 but i ss = take i ss ++ drop (suc i) ss
-
-abbrev pub messageLen : ℕ
-messageLen = 125
 
 abbrev pub persist : ℕ
 persist = 2

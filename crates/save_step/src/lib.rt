@@ -7,13 +7,12 @@ ghost use Rattle.error.specs.Lent.{left, leaving};
 ghost use Rattle.fields.specs.Ranges.{top};
 ghost use Rattle.save_step.specs.Steps.{stepOutcome, stores, allMade, leaves, Inside, nextStore, stepped, saving, steps};
 use error::Refusal;
+use file_space_info::MESSAGE_LEN;
 
-// The length of the message, and which of its bytes is persist.
-const MESSAGE_LEN: u64 = 125;
-
+// Which byte of the message is persist.
 const PERSIST: usize = 2;
 // How many stores a save has beside those of its blocks.
-const MESSAGE_STORES: u64 = 126;
+const MESSAGE_STORES: u64 = MESSAGE_LEN + 1;
 
 // The record of a save: its blocks go to `start` and its message to `place`; `len` is the length of the blocks, `done`
 // the number of the stores that are made.
