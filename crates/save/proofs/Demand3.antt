@@ -5,7 +5,6 @@ use Prim.Native.Nat.{ℕ}
 use mathlib.Core.Bool.{Bool, true, false, cond, _||_}
 use mathlib.Core.List.{List}
 use Rattle.error.specs.Outcome.{firstOf}
-use Rattle.error.proofs.TestLaws.{true-not-false}
 use Rattle.free_lists.specs.declared.calls.Which.{Which}
 use Rattle.free_lists.specs.declared.calls.Which.the-variants.{Metadata, Raw, Unclassified}
 use Rattle.free_lists.specs.Lists.{regionsOf, regionsIn}

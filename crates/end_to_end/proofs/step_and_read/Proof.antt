@@ -4,42 +4,33 @@ use Rattle.end_to_end.proofs.CutLaws.{cut-refused, cut-stepped}
 use Rattle.end_to_end.proofs.step_and_read.Statement.{statement}
 use Rattle.end_to_end.proofs.step_and_read.Tie as tie
 
--- src/lib.rt:39:24
 enum-known-begin : tie.Need-enum-known-begin
 enum-known-begin c = search needs
 
--- src/lib.rt:39:36
 not-begun-requires : tie.Need-not-begun-requires
 not-begun-requires c κs = search needs
 
--- src/lib.rt:40:22
 enum-known-begin-2 : tie.Need-enum-known-begin-2
 enum-known-begin-2 c = search needs
 
--- src/lib.rt:41:17
 save-steps-requires : tie.Need-save-steps-requires
 save-steps-requires c κs = search needs
 
--- src/lib.rt:42:17
 read-image-requires : tie.Need-read-image-requires
 read-image-requires c κs = search needs
 
--- src/lib.rt:34:1
 returns : tie.Need-returns
 returns c =
     let told = c .before .before in
     let a = told .before .before .before .before .before .args in
     cut-refused (a .k) (a .place) (now (a .image)) (now (a .scratch)) (now (a .out)) (a .begin) _ (told .begin .given .1) _ (c .not-begun .ensures)
 
--- src/lib.rt:34:1
 same-length : tie.Need-same-length
 same-length c = search needs
 
--- src/lib.rt:34:1
 same-length-2 : tie.Need-same-length-2
 same-length-2 c = search needs
 
--- src/lib.rt:34:1
 returns-2 : tie.Need-returns-2
 returns-2 c =
     let a = c .before .before .before .before .before .before .before .before .before .before .before .before .before .before .before .args in
