@@ -46,7 +46,7 @@ times-by-addr x l = times-turned (turned x) (bySizeThenAddr (map turned l)) ∙ 
 
 -- ---- a byte is in as many sections of the run that is written as there are regions that hold it
 
-holding-sorted : (b : ℕ) (l : List FreeSection) → holding b (bySizeThenAddr l) ≡ holding b l
+pub holding-sorted : (b : ℕ) (l : List FreeSection) → holding b (bySizeThenAddr l) ≡ holding b l
 unfolding holding
 holding-sorted b = by-order (holding b) (λ s l m e. ap (λ (n : ℕ). among (s .addr) (end s) b + n) e) (λ s t l. omega arith)
 

@@ -9,7 +9,6 @@ use mathlib.Core.List.{List, []}
 use Rattle.error.proofs.TestLaws.{le-or-lt}
 use Rattle.fsm_sections.specs.declared.FreeSection.{FreeSection}
 use Rattle.fsm_sections.specs.declared.Taken.{Taken}
-use Rattle.fsm_sections.specs.Chains.{link, ChainFits}
 use Rattle.fsm_sections.specs.Sources.{rest, chainCount, Given, Within}
 use Rattle.fsm_sections.proofs.SourceLaws.{rest-all}
 use Rattle.fsm_sections.proofs.TakeLaws.{at-last}
@@ -42,11 +41,6 @@ module _ (l m : List FreeSection) (r : Bool) (h : Meet r l m) where
   meet-no e = subst (λ (x : Bool). Meet x l m) e h
 
 -- ---- the floor after a chain
-
-pub last-fits : (a z c : ℕ) → ChainFits (link a z c) → a < 2 ^ 64 → (c ≡ 0 → ⊥) → a + (c - 1) * z < 2 ^ 64
-last-fits a z zero f h n = absurd (n refl)
-last-fits a z (suc zero) f h n = omega arith
-last-fits a z (suc (suc c)) f h n = let k : a + suc (suc c) * z < 2 ^ 64 = f (omega arith) in let e : suc (suc c) - 1 ≡ suc c = omega arith in rw e (omega arith)
 
 module _ (floor : ℕ) (t : Taken) where
   pub raised-none : t .count ≡ 0 → Raised floor t (To floor)

@@ -38,6 +38,7 @@ use Rattle.save_step.proofs.CutLaws as c
 use Rattle.save_step.proofs.CutLaws.{Savable}
 use Rattle.save_step.proofs.StoreLaws.{after-suc}
 use Rattle.save_step.proofs.RowLaws.{step-is, steps-are, step-after, steps-end}
+use Rattle.fsm_plan.proofs.PlannedLaws.{holding-sorted}
 use Rattle.save.specs.Saving.{asSections, small, smallRaw, large, plan, blockLen, blockBytes, slotAddrs, messageOf, filled, begunOf}
 use Rattle.image.specs.Reading.{Listed, inSlot, listed as listedFrom, readImage, readListed, countsOf}
 use Rattle.save.specs.AnySave.{inList, freeIn, AnySave, EverySave}
@@ -45,7 +46,7 @@ use Rattle.save.proofs.PlanLaws.{length-slots, length-blocks, slots-rea
 use Rattle.save.proofs.FitLaws.{Ends, list-ends, plan-fits, slots-fit, small-plan}
 use Rattle.save.proofs.BeginLaws.{Planned, Accepted, accepted, filled-is, begun-same}
 use Rattle.save.proofs.ReadLaws.{reads-nothing, reads-slots, listed-is, into-is, nothing-into}
-use Rattle.save.proofs.HoldingLaws.{foundIn, holding-sorted, holding-nothing, holding-slot, holding-list, in-both, one-of}
+use Rattle.save.proofs.HoldingLaws.{foundIn, holding-nothing, holding-slot, holding-list, in-both, one-of}
 
 -- ---- what the twelve slots of a plan read as
 

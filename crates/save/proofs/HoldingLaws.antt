@@ -1,5 +1,5 @@
 -- How many sections hold a byte: of what is read, of the plan, and of the lists. Assumes nothing.
-use mathlib.Core.Path.{_≡_, refl, ap, _∙_}
+use mathlib.Core.Path.{_≡_, refl, _∙_}
 use mathlib.Core.Logic.{inl, inr, ⊎-elim, _↔_}
 use Prim.Native.Nat.{ℕ, suc, _+_, _≤_, _<_}
 use native.Mathlib.Omega.{arith}
@@ -12,27 +12,12 @@ use Rattle.free_regions.proofs.OkLaws.{Within}
 use Rattle.free_regions.proofs.SetLaws.{free-between}
 use Rattle.free_regions.proofs.ShareLaws.{lists-byte}
 use Rattle.fsm_sections.specs.declared.FreeSection.{FreeSection}
-use Rattle.fsm_sections.specs.Sections.{section, before, insert, bySizeThenAddr}
-use Rattle.fsm_sections.specs.Pages.{end, among, holding}
+use Rattle.fsm_sections.specs.Sections.{section}
+use Rattle.fsm_sections.specs.Pages.{among, holding}
 use Rattle.fsm_sections.proofs.PagesLaws.{among-in, among-low, among-high}
 use Rattle.image.specs.Reading.{Listed, inSlot}
 
--- ---- the order does not matter, nor do the slots
-
-holding-insert : (b : ℕ) (s : FreeSection) (l : List FreeSection) → holding b (insert s l) ≡ among (s .addr) (end s) b + holding b l
-unfolding insert holding
-holding-insert b s [] = refl
-holding-insert b s (x ∷ l) = pick (before s x) (holding-insert b s l)
-  where
-    pick : (t : Bool) → holding b (insert s l) ≡ among (s .addr) (end s) b + holding b l
-        → holding b (cond t (s ∷ x ∷ l) (x ∷ insert s l)) ≡ among (s .addr) (end s) b + (among (x .addr) (end x) b + holding b l)
-    pick true ih = refl
-    pick false ih = omega arith
-
-pub holding-sorted : (b : ℕ) (l : List FreeSection) → holding b (bySizeThenAddr l) ≡ holding b l
-unfolding bySizeThenAddr holding
-holding-sorted b [] = refl
-holding-sorted b (s ∷ l) = holding-insert b s (bySizeThenAddr l) ∙ ap (λ (n : ℕ). among (s .addr) (end s) b + n) (holding-sorted b l)
+-- ---- the slots do not matter
 
 abbrev pub foundIn : List Listed → List FreeSection
 foundIn l = map (λ x. x .found) l
