@@ -1,3 +1,4 @@
 pub mod PlaceLaws
 pub mod CountLaws
 pub mod ImageLaws
+pub mod EndsLaws
