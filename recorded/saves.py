@@ -9,43 +9,19 @@ import sys
 import document
 from answers import answers
 from document import TOP, cut, manager, message, num, slots_of
+from images import images, lent_runs
+from rows import NO_SECTIONS, PAGE, call, changed, counted, image_call, rows, says, text_of
 
 MARK = "# Plans, saves and images. Before each group stands the sentence of document 01 that settles its answers."
 
 
-def counted(per_slot, sections):
-    """An image's answer: twelve counts and a run of sections."""
-    counts = [per_slot.get(i, 0) for i in range(12)]
-    return "ok " + " ".join(map(str, counts + [len(sections)] + [n for s in sections for n in s]))
-
-
-NO_SECTIONS = counted({}, [])
-
-# The calls and their answers, comments without one; and the saves, whose blocks and messages the Rust must write too.
-rows = []
+# The saves whose blocks and messages the Rust must write too.
 saves = []
 
 
 def saved(page, start, lists):
     saves.append((page, start, lists))
     return document.saved(page, start, lists)
-
-
-def says(*lines):
-    for line in lines:
-        rows.append(("# " + line, None))
-
-
-def call(line, answer):
-    rows.append((line, answer))
-
-
-def text_of(image):
-    return image.hex() or "-"
-
-
-def image_call(place, image, answer):
-    call(f"image {place} {text_of(image)}", answer)
 
 
 def save_call(page, start, place, k, image, answer):
@@ -60,7 +36,7 @@ def lists_of(lists):
 
 
 # One save, used throughout: page 16, message at 0, blocks from 256 on. Slots 0, 2 and 6 have two sections each.
-PAGE, START, PLACE = 16, 256, 0
+START, PLACE = 256, 0
 LISTS = [[(130, 40)], [(180, 20)], [(220, 30)]]
 BLOCKS, MESSAGE = saved(PAGE, START, LISTS)
 LEN = len(BLOCKS)
@@ -70,12 +46,6 @@ OLD = message(PAGE, 900, slots_of({0: START + LEN}))
 OLD_MANAGER = manager([(130, 40)], START + LEN, 1)
 IMAGE = OLD + bytes([0xAA]) * (START + LEN - 125) + OLD_MANAGER
 READ_OLD = counted({0: 1}, [(130, 40)])
-
-
-def changed(image, at, *values):
-    out = bytearray(image)
-    out[at : at + len(values)] = bytes(values)
-    return bytes(out)
 
 
 def plans():
@@ -290,59 +260,6 @@ def refused_saves():
     call("scratch 1048576", "ok")
 
 
-def images():
-    one = manager([(130, 40)], 125, 1)
-    good = message(PAGE, 0, slots_of({0: 125})) + one
-    says('"An image reads by this message, then its slots, with capacity for all." Versions, class bytes and checksum "are not tested".')
-    image_call(0, good, counted({0: 1}, [(130, 40)]))
-    image_call(0, changed(good, 125 + 4, 9), counted({0: 1}, [(130, 40)]))
-    image_call(0, good[:-1] + bytes([good[-1] ^ 1]), counted({0: 1}, [(130, 40)]))
-    says('Slots in order, one named twice: "slots in order".')
-    twice = message(PAGE, 0, slots_of({1: 125, 11: 125})) + one
-    image_call(0, twice, counted({1: 1, 11: 1}, [(130, 40), (130, 40)]))
-    says('"any nonzero persist as yes, and all whole addresses present; a partial one is ignored." An image that ends in the message:')
-    image_call(0, changed(good, 2, 255), counted({0: 1}, [(130, 40)]))
-    image_call(0, changed(good, 2, 0), NO_SECTIONS)
-    image_call(0, message(PAGE, 0, []), NO_SECTIONS)
-    image_call(0, message(PAGE, 0, [TOP])[:36], NO_SECTIONS)
-    first = manager([(130, 40)], 0, 1)
-    image_call(len(first), first + message(PAGE, 0, [TOP] * 10 + [0]) + b"\0" * 7, counted({10: 1}, [(130, 40)]))
-    says('7. "fewer bytes than the fixed part needs", 29. There are none at or after the end of the image.')
-    image_call(0, b"", "err 7 29 0")
-    image_call(TOP, b"", "err 7 29 0")
-    image_call(0, good[:28], "err 7 29 28")
-    image_call(len(good), good, "err 7 29 0")
-    image_call(len(good) - 28, good, "err 7 29 28")
-    image_call(TOP, good, "err 7 29 0")
-    says('8, 9. "Message version, with the byte: it isn\'t 1." "Strategy, with the byte: it is above 3." Without persist too.')
-    image_call(0, bytes(29), "err 8 0")
-    image_call(0, changed(good, 0, 2, 4, 0), "err 8 2")
-    image_call(0, changed(good, 1, 4, 0), "err 9 4")
-    says('10. "a header start past the data, or an FSSE outside the data is 10."')
-    image_call(0, message(PAGE, 0, slots_of({0: len(good) + 1})) + one, "err 10")
-    image_call(0, message(PAGE, 0, slots_of({0: TOP - 1})) + one, "err 10")
-    image_call(0, good[:-1], "err 10")
-    image_call(0, changed(good, 125 + 54, *num(TOP - 1)), "err 10")
-    says('10. "Parsing FSHD tests length, then signature." "Parsing FSSE tests length 9+O, signature, then address bits 0 or above 64 (10), then groups."')
-    image_call(0, changed(good, 125, 0x47), "err 10")
-    image_call(0, changed(good, 125 + 82, 0x47), "err 10")
-    image_call(0, changed(good, 125 + 44, 0), "err 10")
-    image_call(0, changed(good, 125 + 44, 65), "err 10")
-    image_call(0, changed(good, 125 + 14, 2), "err 10")
-    says('An FSSE address "of 64 one bits is skipped, in the slot and in the FSSE field."')
-    image_call(0, changed(good, 125 + 54, *num(TOP)), NO_SECTIONS)
-    says('7 of a block: a header at the end of the data has no byte, and an FSSE of 16 bytes none of its own.')
-    image_call(0, message(PAGE, 0, slots_of({0: len(good)})) + one, "err 7 82 0")
-    image_call(0, changed(good, 125 + 62, *num(16)), "err 7 17 16")
-    says('"slots in order; .. the first refusal ends the read": 10 before 7, and 7 before 10.')
-    image_call(0, message(PAGE, 0, slots_of({0: TOP - 1, 1: len(good)})) + one, "err 10")
-    image_call(0, message(PAGE, 0, slots_of({0: len(good), 1: TOP - 1})) + one, "err 7 82 0")
-    says('14. "Only after all succeed is 14 considered, the needed count covering all managers." Twelve slots name 1,366 sections, and the run holds 16,384.')
-    many = manager([(i, 1) for i in range(1366)], 125, 1)
-    image_call(0, message(PAGE, 0, [125] * 12) + many, "err 14 16392 16384")
-    image_call(0, message(PAGE, 0, [125] * 11 + [TOP - 1]) + many, "err 10")
-
-
 def m9():
     says('M9. "M8 as metadata, start 20000, O 8: FSHD 20000 and 20135, end 20252, 378 stores." Read as `holes` prints it.')
     lists = [[(4000, 5000)], [], []]
@@ -403,7 +320,7 @@ def agree(driver, page, start, lists):
 
 
 def main(driver, crate):
-    for group in (plans, not_lists, cuts, refused_saves, images, m9, protocol):
+    for group in (plans, not_lists, cuts, refused_saves, images, lent_runs, m9, protocol):
         group()
     for save in saves + [(PAGE, TOP, [[], [], []]), (1, 125, [[(0, 1366)], [], []])]:
         agree(driver, *save)

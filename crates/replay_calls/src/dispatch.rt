@@ -8,6 +8,7 @@ use crate::blocks::read_call;
 use crate::blocks::serialize_call;
 use crate::blocks::split_call;
 use crate::images::image_call;
+use crate::images::image_into_call;
 use crate::lengths::blocks_len_call;
 use crate::lengths::fsse_len_call;
 use crate::lists::lists_call;
@@ -57,7 +58,7 @@ fn run_call(call: u64, line: &[u8]) -> Reply {
 
 fn bytes_name(line: &[u8]) -> u64 {
     name_in(
-        b"lookup3 hashlittle verify fshd_parse fsse_parse read msg_parse image",
+        b"lookup3 hashlittle verify fshd_parse fsse_parse read msg_parse image image_into",
         line,
     )
 }
@@ -70,6 +71,7 @@ fn bytes_answer(call: u64, args: &[u64], bytes: &[u8]) -> Reply {
         6 => read_call(args, bytes),
         7 => parse_message_call(args, bytes),
         8 => image_call(args, bytes),
+        9 => image_into_call(args, bytes),
         _ => sum_call(call, args, bytes),
     }
 }

@@ -1,8 +1,9 @@
-// The call that reads an image.
+// The calls that read an image.
 use crate::memory::bytes_memory;
 use crate::memory::numbers_memory;
 use crate::reply::Reply;
 use crate::reply::write_out;
+use crate::text::end_line;
 use crate::text::pairs_line;
 use crate::text::put_numbers;
 use image::ImageAnswer;
@@ -44,6 +45,41 @@ pub(crate) fn image_call(args: &[u64], image: &[u8]) -> Reply {
     let counts = read.counts;
     match answer {
         ImageAnswer::Read => say_counts(&counts, &sections),
+        ImageAnswer::Refused(r) => Reply::Refused(r),
+    }
+}
+
+// The line of the slots' counts and of all numbers of the lent run.
+fn run_line(counts: &[u64], run: &[u64], out: &mut [u8]) -> usize {
+    let first = write_bytes(out, 0, b"ok ");
+    let second = put_numbers(out, first, counts);
+    let end = put_numbers(out, second, run);
+    end_line(out, end)
+}
+
+fn say_run(counts: &[u64], run: &[u64]) -> Reply {
+    let mut out = bytes_memory();
+    let len = run_line(counts, run, &mut out);
+    write_out(&out, len);
+    Reply::Silent
+}
+
+// Reads into a lent run of as many numbers as asked for, each 7 before.
+pub(crate) fn image_into_call(args: &[u64], image: &[u8]) -> Reply {
+    if args.len() != 2 {
+        return Reply::Bad;
+    }
+    let mut run = [7; 32768];
+    let room = args[1];
+    if run.len() as u64 < room {
+        return Reply::Bad;
+    }
+    let n = room as usize;
+    let read = read_image(image, args[0], &mut run[0..n]);
+    let answer = read.answer;
+    let counts = read.counts;
+    match answer {
+        ImageAnswer::Read => say_run(&counts, &run[0..n]),
         ImageAnswer::Refused(r) => Reply::Refused(r),
     }
 }
