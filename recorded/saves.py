@@ -8,7 +8,7 @@ import sys
 
 import document
 from answers import answers
-from document import TOP, cut, manager, message, num, slots_of
+from document import TOP, cut, manager, message, slots_of
 from images import images, lent_runs
 from rows import NO_SECTIONS, PAGE, call, changed, counted, image_call, rows, says, text_of
 
