@@ -2,7 +2,7 @@
 --   Ends   an outcome that is not Nothing
 use mathlib.Core.Bool.{Bool, true, false, cond}
 use mathlib.Core.List.{List, [], _∷_}
-use Prim.Native.Nat.{ℕ, zero, suc}
+use Prim.Native.Nat.{ℕ, zero, suc, _+_}
 use lib.Dec.{eqb}
 use lib.ListN.{drop}
 use Rattle.error.specs.Outcome.{Outcome, answer, nothing, refuse, refused, Condition, firstOf, andThen}
@@ -65,7 +65,7 @@ module _ (O base : ℕ) where
 
   manager-ends : (slot : ℕ) (bytes : List ℕ) → Ends (readManager O base slot bytes)
   unfolding readManager
-  manager-ends slot bytes = skip-ends (eqb slot (undefinedAddr 8)) [] _ (first-ends _ _ (then-ends _ _ (header-ends _) (λ h. named-ends h bytes)))
+  manager-ends slot bytes = skip-ends (eqb slot (undefinedAddr 8)) [] _ (first-ends _ _ (then-ends _ _ (header-ends (drop (slot + base) bytes)) (λ h. named-ends h bytes)))
 
   pub slots-end : (slots bytes : List ℕ) → Ends (readSlots O base slots bytes)
   unfolding readSlots

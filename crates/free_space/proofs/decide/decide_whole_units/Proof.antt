@@ -51,7 +51,7 @@ enum-known-s c = search needs
 region-at-requires : tie.Need-region-at-requires
 region-at-requires c κs =
     let a = c .before .before .before .before .before .before .before .before .args in
-    let f = subst (Finds (interiorSpan (a .unit)) (now (a .run)) (a .list) (a .len)) (c .before .s .given .1) (c .before .before .before .best-units .ensures) in
+    let f = subst (Finds (interiorSpan (a .unit)) (now (a .run)) (a .list) (a .len)) (c .before .s .given .1) (c .before .before .before .best-fit .ensures) in
     omega (arith, f .below, f .room)
 
 take-units-requires : tie.Need-take-units-requires
