@@ -81,8 +81,8 @@ module _ (O : ℕ) (run : List ℕ) (n : ℕ) where
         small = r .small;
         address = leb-false (256 ^ O) fsse (q .0 .0);
         bytes =
-        rw (← t, ← s, ← long) (take-over bs x (omega arith))
-        ∙ ap (λ (k : List FreeSection). fshdBytes lookup3 O (headerFor O (startingSet O) fsse k)) (sym (r .is));
+            rw (← t, ← s, ← long) (take-over bs x (omega arith))
+            ∙ ap (λ (k : List FreeSection). fshdBytes lookup3 O (headerFor O (startingSet O) fsse k)) (sym (r .is));
       })
 
   -- the same of the list: its sections' addresses fit
@@ -107,8 +107,8 @@ module _ (O : ℕ) (run : List ℕ) (n : ℕ) where
         narrow = ap (anyWide O) (r .is) ∙ or-false (wide O fshd) (anyWide O m) (q .0 .0) .1;
         room = subst (λ (k : List FreeSection). fsseUsed O (startingSet O) k ≤ length y) (sym (r .is)) room;
         bytes =
-        rw (← t, ← s, ← long) (take-over bs y (omega (arith, long)))
-        ∙ ap (λ (k : List FreeSection). fsseFor O (startingSet O) lookup3 fshd class k) (sym (r .is));
+            rw (← t, ← s, ← long) (take-over bs y (omega (arith, long)))
+            ∙ ap (λ (k : List FreeSection). fsseFor O (startingSet O) lookup3 fshd class k) (sym (r .is));
       })
 
 -- ---- so every number fits its field
