@@ -42,6 +42,10 @@ then-answers (answer a) g y e k = k a refl e
 then-answers nothing g y e k = let z : _≡_ {A = ℕ} 0 1 = cc in absurd (omega arith)
 then-answers (refuse m vs) g y e k = let z : _≡_ {A = ℕ} 0 1 = cc in absurd (omega arith)
 
+-- an address that is not refused as 12 fits
+fits : (O a : ℕ) → wide O a ≡ false → a < 256 ^ O
+fits O a e = let k = leb-false _ a e in omega (arith, k)
+
 module _ (O : ℕ) (run : List ℕ) (n : ℕ) where
   abbrev l : List FreeSection
   l = decode n run
@@ -79,7 +83,7 @@ module _ (O : ℕ) (run : List ℕ) (n : ℕ) where
       record {
         width = r .width;
         small = r .small;
-        address = leb-false (256 ^ O) fsse (q .0 .0);
+        address = fits O fsse (q .0 .0);
         bytes =
             rw (← t, ← s, ← long) (take-over bs x (omega arith))
             ∙ ap (λ (k : List FreeSection). fshdBytes lookup3 O (headerFor O (startingSet O) fsse k)) (sym (r .is));
@@ -118,7 +122,7 @@ unfolding anyOf space
 sections-fit c O [] e h = tt
 sections-fit c O (s ∷ l) e h =
     let q = or-false (wide O (s .addr)) (anyWide O l) e in
-    (record { addr-fits = leb-false (256 ^ O) (s .addr) (q .0); size-fits = omega arith }, sections-fit c O l (q .1) (omega arith))
+    (record { addr-fits = fits O (s .addr) (q .0); size-fits = omega arith }, sections-fit c O l (q .1) (omega arith))
 
 row-fits : (O fsse : ℕ) (l : List FreeSection) → O ≤ 8 → fsse < 256 ^ O → space l ≤ top → fsseUsed O (startingSet O) l < 2 ^ 64
     → All FieldFits (fshdRow O (headerFor O (startingSet O) fsse l))
