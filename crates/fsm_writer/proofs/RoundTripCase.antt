@@ -8,9 +8,9 @@ use Prim.Native.Nat.{ℕ}
 use native.Mathlib.Omega.{arith}
 use mathlib.Core.List.{List, [], _∷_, _++_}
 use lib.Dec.{lit<}
-use lib.ListN.{length, take, replicate}
+use lib.ListN.{take, replicate}
 use Rattle.error.specs.Outcome.{answer, firstOf, andThen}
-use Rattle.error.specs.Lent.{with, over}
+use Rattle.error.specs.Lent.{with}
 use Rattle.fields.specs.Le.{leBytes}
 use Rattle.fields.specs.Layout.{layout}
 use Rattle.fields.specs.Width.{leastFrom, encSize}
@@ -22,7 +22,7 @@ use Rattle.fsm_blocks.specs.Fsse.{fsseBytes}
 use Rattle.fsm_blocks.specs.Managers.{startingSet, headerFor, fsseFor}
 use Rattle.fsm_blocks.specs.Reading.{readManager}
 use Rattle.fsm_writer.specs.Serializing.{ofRun, anyOf, writtenFshd, writtenFsse}
-use Rattle.fsm_writer.specs.RoundTrip.{Standing, ReadBack}
+use Rattle.fsm_writer.specs.RoundTrip.{Standing}
 use Rattle.fsm_writer.proofs.RoundTripLaws.{round-trip}
 
 abbrev run : List ℕ

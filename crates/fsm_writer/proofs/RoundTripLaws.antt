@@ -2,10 +2,10 @@
 use mathlib.Core.Path.{_≡_, refl, sym, ap, _∙_, subst}
 use Prim.Native.Nat.{ℕ, _+_, _-_, _*_, _/_, _%_, _^_, _≤_, _<_}
 use native.Mathlib.Omega.{arith}
-use mathlib.Core.Bool.{Bool, true, false, not, _||_}
+use mathlib.Core.Bool.{true, false, not}
 use mathlib.Core.List.{List, [], _∷_, _++_, append-nil}
 use borrow.Author.Tests.{not-false, ltb-false, leb-true, leb-false, le-ltb, eq-eqb}
-use lib.Dec.{ltb, leb}
+use lib.Dec.{leb}
 use lib.ListN.{length, take, drop, length-take, length-drop}
 use Rattle.error.specs.Outcome.{Outcome, answer, nothing, refuse, firstOf, andThen}
 use Rattle.error.specs.Lent.{With, with, over}
@@ -13,7 +13,7 @@ use Rattle.error.proofs.TestLaws.{and-true, or-false}
 use Rattle.error.proofs.OutcomeLaws.{first-answers}
 use Rattle.fields.specs.Ranges.{top}
 use Rattle.fields.specs.Layout.{FieldFits, window}
-use Rattle.fields.specs.Width.{encSize, leastFrom, validWidth}
+use Rattle.fields.specs.Width.{encSize, validWidth}
 use Rattle.fields.proofs.WidthLaws.{width-in}
 use Rattle.checksum.specs.Lookup3.{lookup3}
 use Rattle.fsm_sections.specs.declared.FreeSection.{FreeSection}
@@ -22,13 +22,13 @@ use Rattle.fsm_sections.proofs.SectionsLaws.{length-sorted}
 use Rattle.fsm_sections.proofs.SortLaws.{sorted-sorted, times-sorted}
 use Rattle.fsm_blocks.specs.declared.header.FsmHeader.{FsmHeader}
 use Rattle.fsm_blocks.specs.Fshd.{fshdRow, fshdBytes, fshdSize, taken, parsedFshd}
-use Rattle.fsm_blocks.specs.Groups.{Widths, SectionFits}
+use Rattle.fsm_blocks.specs.Groups.{SectionFits}
 use Rattle.fsm_blocks.specs.Parts.{sectionsBy}
 use Rattle.fsm_blocks.specs.Managers.{startingSet, widthsFor, headerFor, fsseFor, fsseUsed}
 use Rattle.fsm_blocks.specs.Reading.{readManager, joined, intoRun, parsedFsse, persisted}
 use Rattle.fsm_blocks.specs.Named.{managerCount}
 use Rattle.fsm_blocks.proofs.WrittenLaws.{length-fshd, length-fsse, fshd-read, fsse-read}
-use Rattle.fsm_blocks.proofs.ImageLaws.{Stored, manager-read, slots-none, slots-more}
+use Rattle.fsm_blocks.proofs.ImageLaws.{manager-read, slots-none, slots-more}
 use Rattle.fsm_writer.specs.Serializing.{ofRun, wide, anyOf, anyWide, writtenFshd, writtenFsse}
 use Rattle.fsm_writer.specs.Writing.{written}
 use Rattle.fsm_writer.specs.RoundTrip.{fieldsOf, Standing, ReadBack, RoundTrip}

@@ -6,8 +6,8 @@
 --   list-parsed      `parse_fsse` by these fields gives the sections, into any lent run with room
 --   manager-read     in any bytes in which the blocks stand, the manager reads as the sections
 --   manager-counted, persisted-read   and so answer `manager_count` and `read_persisted_sections`, the latter into any lent run with room
--- That numbers fit their fields is no premise, it follows from acceptance: addresses, as nothing was refused as 12; sizes and their sum, as nothing was
--- as 4; count and length, as nothing was as 14. Memory has less than 2^64 bytes, as every lent slice.
+-- That numbers fit their fields is no premise, it follows from acceptance: no refusal 12, so each address fits; no refusal 4, so the sizes and
+-- their sum do; no refusal 14, so count and length do, since memory has less than 2^64 bytes.
 --   fieldsOf    the six fields: sum of sizes, count, address bits, greatest size, the list's address and its length
 --   Standing    header and list stand whole in bytes, each at its address plus the base; neither address is the undefined one, which a reading skips
 --   ReadBack    all this of one pair of blocks
