@@ -2,22 +2,25 @@
 use mathlib.Core.Path.{_≡_, refl, sym, ap, _∙_}
 use mathlib.Core.Bool.{Bool, true, false, cond, not, _&&_}
 use mathlib.Core.List.{List, [], _∷_, _++_, append-assoc, append-nil}
-use Prim.Native.Nat.{ℕ, _+_, _*_, _^_, _≤_, _<_}
+use Prim.Native.Nat.{ℕ, suc, _+_, _*_, _^_, _≤_, _<_}
 use native.Mathlib.Nat.{mul-div-cancel, add-sub-cancel-left}
 use native.Mathlib.Omega.{arith}
+use borrow.Author.Tests.{ltb-false}
 use lib.Dec.{eqb, lit<}
-use lib.ListN.{length, drop, getD}
+use lib.ListN.{length, take, drop, getD}
 use lib.Seq.{drop-at}
 use Rattle.error.specs.Outcome.{answer}
-use Rattle.error.specs.Lent.{with, over}
+use Rattle.error.specs.Lent.{With, with, over}
+use Rattle.error.proofs.OutcomeLaws.{first-answers}
 use Rattle.fields.specs.Le.{leBytes}
 use Rattle.fields.specs.Layout.{Field, field, row, layout, AllFit, fieldAt}
 use Rattle.fields.specs.Width.{validWidth}
 use Rattle.fields.proofs.LeLaws.{length-le}
 use Rattle.fields.proofs.LayoutLaws.{length-layout, layout-append, fits-at, fits-append, field-read, leAt-le}
 use Rattle.file_space_info.specs.declared.FileSpaceInfo.{FileSpaceInfo}
-use Rattle.file_space_info.specs.Strategies.{codeOf, strategyOf}
-use Rattle.file_space_info.specs.Message.{shape, fixedLen, bit, numbersOf, addressRow, messageRow, messageBytes, infoOf, present, numbersAt, fixedRead, parsed}
+use Rattle.file_space_info.specs.Strategies.{strategyOf}
+use Rattle.file_space_info.specs.Message.{shape, fixedLen, bit, numbersOf, addressRow, messageRow, messageBytes, infoOf, present, numbersAt, fixedRead, serialized, parsed}
+use Rattle.file_space_info.specs.RoundTrip.{carried, Stored, RoundTrip}
 use Rattle.file_space_info.proofs.StrategyLaws.{code-le, strategy-code}
 use Rattle.file_space_info.proofs.WriteLaws.{length-message}
 use Rattle.file_space_info.proofs.ReadLaws.{sizes, read-accepts, parsed-answer}
@@ -37,10 +40,6 @@ addresses-read O (a ∷ l) rest h =
     (ap (λ (r : List ℕ). a ∷ r) (addresses-read O l rest (h .1)))
 
 -- ---- what is written is what is read, at any sizes at which the numbers fit
-
--- the addresses that a message carries
-abbrev pub kept : FileSpaceInfo → List ℕ → List ℕ
-kept m addrs = cond (m .persist) addrs []
 
 module _ (O L : ℕ) (m : FileSpaceInfo) (addrs : List ℕ) (widths : (validWidth O && validWidth L) ≡ true) (fits : AllFit (messageRow O L m addrs)) where
   abbrev fixedRow : List Field
@@ -81,7 +80,7 @@ module _ (O L : ℕ) (m : FileSpaceInfo) (addrs : List ℕ) (widths : (validWidt
   pub accepts : answer m ≡ fixedRead O L bs
   accepts = ap answer (sym same) ∙ read-accepts O L bs widths long (at 0 (lit< tt)) (rw (at 1 (lit< tt)) (code-le (m .strategy)))
 
-  pub count : length (kept m addrs) ≡ present O L (length bs) (m .persist)
+  pub count : length (carried m addrs) ≡ present O L (length bs) (m .persist)
   unfolding present
   count = pick (m .persist) (length-message O L m addrs)
     where
@@ -89,7 +88,7 @@ module _ (O L : ℕ) (m : FileSpaceInfo) (addrs : List ℕ) (widths : (validWidt
       pick true e = sym (rw (e, add-sub-cancel-left) (mul-div-cancel (length addrs) (sizes O L widths .os-low)))
       pick false e = refl
 
-  pub addresses : numbersAt O (length (kept m addrs)) (drop (fixedLen O L) bs) ≡ kept m addrs
+  pub addresses : numbersAt O (length (carried m addrs)) (drop (fixedLen O L) bs) ≡ carried m addrs
   unfolding layout numbersAt
   addresses = rw (parts, drop-at (layout fixedRow) (layout rest) (fixedLen O L) (length-layout fixedRow)) (pick (m .persist) (fits-append fixedRow rest fits .1))
     where
@@ -97,25 +96,41 @@ module _ (O L : ℕ) (m : FileSpaceInfo) (addrs : List ℕ) (widths : (validWidt
       pick true h = rw (← append-nil (layout (addressRow O addrs))) (addresses-read O addrs [] h)
       pick false h = refl
 
-  pub written-read : (xs : List ℕ) → length (kept m addrs) ≤ length xs
-      → parsed (messageBytes O L m addrs) O L xs ≡ answer (with (record { info = m; count = length (kept m addrs) }) (over 0 (kept m addrs) xs))
+  pub written-read : (xs : List ℕ) → length (carried m addrs) ≤ length xs
+      → parsed (messageBytes O L m addrs) O L xs ≡ answer (with (record { info = m; count = length (carried m addrs) }) (over 0 (carried m addrs) xs))
   written-read xs h =
-      sym (parsed-answer O L bs xs m accepts (length (kept m addrs)) count h)
-      ∙ ap (λ (l : List ℕ). answer (with (record { info = m; count = length (kept m addrs) }) (over 0 l xs))) addresses
+      sym (parsed-answer O L bs xs m accepts (length (carried m addrs)) count h)
+      ∙ ap (λ (l : List ℕ). answer (with (record { info = m; count = length (carried m addrs) }) (over 0 l xs))) addresses
 
--- what `serialize` writes, `parse` reads at sizes 8
-pub serialize-parse : (m : FileSpaceInfo) (addrs xs : List ℕ) → m .threshold < 2 ^ 64 → m .«page_size» < 2 ^ 64 → m .«page_end_meta_threshold» < 2 ^ 16 → m .«eoa_pre_fsm» < 2 ^ 64
-    → AllFit (addressRow 8 addrs) → length (kept m addrs) ≤ length xs
-    → parsed (messageBytes 8 8 m addrs) 8 8 xs ≡ answer (with (record { info = m; count = length (kept m addrs) }) (over 0 (kept m addrs) xs))
-serialize-parse m addrs xs t p d e a h = written-read 8 8 m addrs refl (lit< tt, (code m, (flag (m .persist), (t, (p, (d, (e, tail (m .persist)))))))) xs h
+-- ---- what `serialize` wrote, `parse` gives back
+
+take-over : (v d : List ℕ) → length v ≤ length d → take (length v) (over 0 v d) ≡ v
+take-over [] d h = refl
+take-over (x ∷ v) [] h = absurd (omega arith)
+take-over (x ∷ v) (y ∷ d) h = ap (λ (l : List ℕ). x ∷ l) (take-over v d (omega arith))
+
+addresses-fit : (addrs : List ℕ) → ((i : ℕ) → getD addrs i 0 < 2 ^ 64) → AllFit (addressRow 8 addrs)
+addresses-fit [] h = tt
+addresses-fit (a ∷ addrs) h = (h 0, addresses-fit addrs (λ i. h (suc i)))
+
+message-fits : (m : FileSpaceInfo) (addrs : List ℕ) → Stored m addrs → AllFit (messageRow 8 8 m addrs)
+message-fits m addrs s =
+    (lit< tt, (omega (arith, code-le (m .strategy)), (flag (m .persist), (s .threshold, (s .page-size, (s .page-end, (s .end-before, tail (m .persist))))))))
   where
-    code : (m : FileSpaceInfo) → codeOf (m .strategy) < 256
-    code m = omega (arith, code-le (m .strategy))
-
     flag : (b : Bool) → bit b < 256
     flag true = lit< tt
     flag false = lit< tt
 
     tail : (b : Bool) → AllFit (cond b (addressRow 8 addrs) [])
-    tail true = a
+    tail true = addresses-fit addrs (s .addresses)
     tail false = tt
+
+pub round-trip : RoundTrip
+unfolding serialized
+round-trip m addrs out n u s e xs h =
+    let written : List ℕ = messageBytes 8 8 m addrs in
+    let q = first-answers _ _ (with n u) e in
+    let room : length written ≤ length out = ltb-false (length out) (length written) (q .0 .0) in
+    let a : length written ≡ n = ap (λ (w : With ℕ (List ℕ)). w .value) (q .1) in
+    let b : over 0 written out ≡ u = ap (λ (w : With ℕ (List ℕ)). w .memory) (q .1) in
+    rw (← a, ← b, take-over written out room) (written-read 8 8 m addrs refl (message-fits m addrs s) xs h)

@@ -1,3 +1,4 @@
 pub mod Strategies
 pub mod Infos
 pub mod Message
+pub mod RoundTrip

@@ -112,6 +112,9 @@ pub record Writable (O fshd fsse : ℕ) (l : List FreeSection) : Type 0 where
   pub addresses : anyWide O l ≡ false
   pub fshd-fits : (length l ≡ 0 → ⊥) → wide O fshd ≡ false
   pub fsse-fits : (length l ≡ 0 → ⊥) → wide O fsse ≡ false
+  -- a reading skips neither: the premise of `fsm_writer`'s round trip
+  pub fshd-defined : (length l ≡ 0 → ⊥) → fshd ≡ top → ⊥
+  pub fsse-defined : (length l ≡ 0 → ⊥) → fsse ≡ top → ⊥
 
 -- a run that holds these sections, in whatever order
 module _ (O fshd fsse : ℕ) (l : List FreeSection) (w : Writable O fshd fsse l) (some : length l ≡ 0 → ⊥) (run : List ℕ) (n : ℕ)
@@ -148,18 +151,23 @@ narrow-block : (O n a : ℕ) → wideBlock O n a ≡ false → (n ≡ 0 → ⊥)
 narrow-block O n a e h = or-false (wide O a) (wide O (a + fshdSize O)) (sym (ap (λ (t : Bool). not t && (wide O a || wide O (a + fshdSize O))) (ne-eqb n 0 h)) ∙ e)
 
 module _ (O : ℕ) (v : validWidth O ≡ true) (l : List FreeSection) (a fshd fsse : ℕ) where
-  slot-writable : ltb top (space l) ≡ false → anyWide O l ≡ false → wideBlock O (length l) a ≡ false
+  slot-writable : ltb top (space l) ≡ false → anyWide O l ≡ false → wideBlock O (length l) a ≡ false → a + blocksSize O l ≤ top
       → fshd ≡ addressIn (length l) a → fsse ≡ addressIn (length l) (a + fshdSize O) → Writable O fshd fsse l
-  slot-writable z n b e f = record {
+  slot-writable z n b k e f = record {
     width = v;
     small = ltb-false top (space l) z;
     addresses = n;
     fshd-fits = λ h. ap (wide O) (e ∙ is h a) ∙ narrow-block O (length l) a b h .0;
     fsse-fits = λ h. ap (wide O) (f ∙ is h (a + fshdSize O)) ∙ narrow-block O (length l) a b h .1;
+    fshd-defined = λ h q. omega (arith, k, size h, e ∙ is h a);
+    fsse-defined = λ h q. omega (arith, k, size h, f ∙ is h (a + fshdSize O));
   }
     where
       is : (length l ≡ 0 → ⊥) → (x : ℕ) → addressIn (length l) x ≡ x
       is h x = rw (ne-eqb (length l) 0 h)
+
+      size : (length l ≡ 0 → ⊥) → blocksSize O l ≡ fshdSize O + fsseUsed O (startingSet O) l
+      size h = rw (ne-eqb (length l) 0 h)
 
 module _ (xs : List ℕ) (n : ℕ) (ys : List ℕ) (m : ℕ) (zs : List ℕ) (k page start O : ℕ) (out : List ℕ) (p : PagedManagerPlan) (mem : List ℕ)
     (e : planned xs n ys m zs k page start O out ≡ answer (with p mem)) where
@@ -202,6 +210,9 @@ module _ (xs : List ℕ) (n : ℕ) (ys : List ℕ) (m : ℕ) (zs : List ℕ) (k 
   slots : NoneHolds (sizeTests O m0 ++ (sizeTests O m2 ++ (sizeTests O m6 ++ backs)))
   slots = shown .0 .1 .1 .1 .1 .1 .1 .1
 
+  ends : start + blocksSize O m0 + blocksSize O m2 + blocksSize O m6 ≤ top
+  ends = ltb-false top (start + blocksSize O m0 + blocksSize O m2 + blocksSize O m6) (slots .1 .1 .1 .1 .1 .1 .0)
+
   wides : (wideBlocks O start (lengthsAre O m0 m2 m6) (countsAre m0 m2 m6) ≡ false) × ((anyWide O m0 || (anyWide O m2 || anyWide O m6)) ≡ false)
   wides = or-false _ (anyWide O m0 || (anyWide O m2 || anyWide O m6)) (slots .1 .1 .1 .1 .1 .1 .1 .1 .0)
 
@@ -211,20 +222,20 @@ module _ (xs : List ℕ) (n : ℕ) (ys : List ℕ) (m : ℕ) (zs : List ℕ) (k 
   others : ((wideBlock O (length m2) (start + blocksSize O m0) || wideBlock O (length m6) (start + blocksSize O m0 + blocksSize O m2)) ≡ false) × ((anyWide O m2 || anyWide O m6) ≡ false)
   others = (or-false (wideBlock O (length m0) start) _ (wides .0) .1, or-false (anyWide O m0) _ (wides .1) .1)
 
-  -- no writer refuses the blocks of its slots: `fshd-accepted`, `fsse-accepted`
+  -- no writer refuses the blocks of its slots, `fshd-accepted`, `fsse-accepted`, and no reading skips them
   pub slot0-writable : Writable O (p .fshd0) (p .fsse0) m0
   slot0-writable =
-      slot-writable O valid m0 start (p .fshd0) (p .fsse0) (slots .0) (first .1) (first .0)
+      slot-writable O valid m0 start (p .fshd0) (p .fsse0) (slots .0) (first .1) (first .0) (omega (arith, ends))
       (ap (λ (x : PagedManagerPlan). x .fshd0) plan-is) (ap (λ (x : PagedManagerPlan). x .fsse0) plan-is)
 
   pub slot2-writable : Writable O (p .fshd2) (p .fsse2) m2
   slot2-writable =
       let b = or-false (wideBlock O (length m2) (start + blocksSize O m0)) (wideBlock O (length m6) (start + blocksSize O m0 + blocksSize O m2)) (others .0) in
-      slot-writable O valid m2 (start + blocksSize O m0) (p .fshd2) (p .fsse2) (slots .1 .1 .0) (or-false (anyWide O m2) (anyWide O m6) (others .1) .0) (b .0)
+      slot-writable O valid m2 (start + blocksSize O m0) (p .fshd2) (p .fsse2) (slots .1 .1 .0) (or-false (anyWide O m2) (anyWide O m6) (others .1) .0) (b .0) (omega (arith, ends))
       (ap (λ (x : PagedManagerPlan). x .fshd2) plan-is) (ap (λ (x : PagedManagerPlan). x .fsse2) plan-is)
 
   pub slot6-writable : Writable O (p .fshd6) (p .fsse6) m6
   slot6-writable =
       let b = or-false (wideBlock O (length m2) (start + blocksSize O m0)) (wideBlock O (length m6) (start + blocksSize O m0 + blocksSize O m2)) (others .0) in
-      slot-writable O valid m6 (start + blocksSize O m0 + blocksSize O m2) (p .fshd6) (p .fsse6) (slots .1 .1 .1 .1 .0) (or-false (anyWide O m2) (anyWide O m6) (others .1) .1) (b .1)
+      slot-writable O valid m6 (start + blocksSize O m0 + blocksSize O m2) (p .fshd6) (p .fsse6) (slots .1 .1 .1 .1 .0) (or-false (anyWide O m2) (anyWide O m6) (others .1) .1) (b .1) (omega (arith, ends))
       (ap (λ (x : PagedManagerPlan). x .fshd6) plan-is) (ap (λ (x : PagedManagerPlan). x .fsse6) plan-is)

@@ -9,6 +9,8 @@ pub mod MeasureLaws
 pub mod PickLaws
 pub mod PlaceLaws
 pub mod PlacingLaws
+pub mod RoundTripCase
+pub mod RoundTripLaws
 pub mod RowLaws
 pub mod RunsLaws
 pub mod SerializeLaws

@@ -87,7 +87,7 @@ module _ (ws vs d : List ℕ) (same : length ws ≡ length vs) (room : span (wid
 
 -- ---- a block and its checksum
 
-take-over : (u d : List ℕ) → length u ≤ length d → take (length u) (over 0 u d) ≡ u
+pub take-over : (u d : List ℕ) → length u ≤ length d → take (length u) (over 0 u d) ≡ u
 take-over [] d h = refl
 take-over (x ∷ u) [] h = absurd (omega arith)
 take-over (x ∷ u) (y ∷ d) h = ap (λ (m : List ℕ). x ∷ m) (take-over u d (omega arith))
