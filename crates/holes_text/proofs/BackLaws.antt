@@ -12,7 +12,7 @@ use Rattle.fsm_sections.specs.Sections.{decode, flat}
 use Rattle.fsm_blocks.specs.Reading.{joined}
 use Rattle.fsm_blocks.proofs.PutLaws.{flat-append, length-flat}
 use Rattle.image.specs.Reading.{countsOf}
-use Rattle.listing.specs.Listing.{header, slotText, slotsText, slotsOf, listingText}
+use Rattle.holes_text.specs.Listing.{header, slotText, slotsText, slotsOf, listingText}
 
 decode-flat : (l : List FreeSection) (rest : List ℕ) → decode (length l) (flat l ++ rest) ≡ l
 decode-flat [] rest = refl

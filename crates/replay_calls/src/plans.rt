@@ -11,8 +11,8 @@ use crate::text::put_pairs;
 use fsm_plan::plan::PagedManagerPlan;
 use fsm_plan::plan::Planned;
 use fsm_plan::plan::plan_paged_managers;
-use text::words::write_bytes;
 use replay_lines::answer::put_number;
+use text::words::write_bytes;
 
 const UNDEF: u64 = 18446744073709551615;
 

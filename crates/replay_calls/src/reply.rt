@@ -6,7 +6,6 @@ use crate::text::put_counted;
 use error::Number;
 use error::Refusal;
 use libc::STDOUT_FILENO;
-use text::words::write_bytes;
 use replay_lines::answer::bad;
 use replay_lines::answer::done;
 use replay_lines::answer::nothing;
@@ -14,6 +13,7 @@ use replay_lines::answer::number_line;
 use replay_lines::answer::pair_line;
 use replay_lines::answer::refused;
 use replay_lines::answer::word_line;
+use text::words::write_bytes;
 
 // The short answer to a call. None is left to be written where the line needs none, or has a long one that is written already.
 pub(crate) enum Reply {

@@ -11,12 +11,12 @@ use crate::reply::write_out;
 use crate::text::end_line;
 use crate::text::put_bytes;
 use free_space::list::FreeList;
-use text::words::write_bytes;
 use replay_lines::answer::put_number;
 use save::Begin;
 use save::save_begin;
 use save_step::Save;
 use save_step::save_steps;
+use text::words::write_bytes;
 
 // The line of the blocks' length and of the image.
 fn image_line(len: u64, image: &[u8], out: &mut [u8]) -> usize {

@@ -5,9 +5,9 @@ ghost use Prim.Native.Nat.{_<_, _≤_};
 ghost use Rattle.error.specs.Lent.{with};
 ghost use Rattle.text.specs.Text.{written};
 ghost use Rattle.replay_lines.specs.Words.{halfDigit, hexByte};
+use replay_lines::answer::put_number;
 use text::words::write_bytes;
 use text::words::write_word;
-use replay_lines::answer::put_number;
 
 // Puts the numbers of a run.
 pub(crate) fn put_numbers(out: &mut [u8], at: usize, run: &[u64]) -> usize {

@@ -14,7 +14,7 @@ use Rattle.error.proofs.TestLaws.{le-or-lt}
 use Rattle.fsm_sections.specs.declared.FreeSection.{FreeSection}
 use Rattle.fsm_sections.specs.Sections.{section, decode}
 use Rattle.text.specs.Text.{written}
-use Rattle.listing.specs.Listing.{rowText, slotText, slotsText, slotsOf}
+use Rattle.holes_text.specs.Listing.{rowText, slotText, slotsText, slotsOf}
 use Rattle.text.proofs.TextLaws.{Printing, piece, printed}
 
 -- ---- pairs
