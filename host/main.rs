@@ -39,15 +39,22 @@ fn split_records_test() {
     // Document 01's M8; a record after the pieces stays.
     let kept = section(7, 8);
     let mut out = [kept; 4];
-    assert_eq!(split_at_pages(&[4000, 5000], 1, 4096, &mut out), Some(3));
+    assert_eq!(split_at_pages(&[4000, 5000], 1, 4096, &mut out), Ok(3));
     assert_eq!(out, [section(4000, 96), section(4096, 4096), section(8192, 808), kept]);
     let text: Vec<String> = out[..3].iter().map(|s| format!("({}, {})", s.addr, s.size)).collect();
     println!("split_at_pages([(4000, 5000)], page 4096) = {}", text.join(", "));
 
-    // The refusals: page 0, an odd run, a count above the run's, an end above 2^64 - 1, a record too few; at once for 2^63 pieces.
+    // The refusals, by their numbers: page 0, an odd run, a count above the run's, an end above 2^64 - 1, a record too few; at once for 2^63 pieces.
     let mut out = [kept; 2];
-    for (sections, count, page) in [(&[4000, 96][..], 1, 0), (&[4000, 96, 1], 1, 4096), (&[4000, 96], 2, 4096), (&[u64::MAX, 1], 1, 4096), (&[4000, 5000], 1, 4096), (&[0, 1 << 63], 1, 1)] {
-        assert_eq!(split_at_pages(sections, count, page, &mut out), None);
+    for (sections, count, page, number) in [
+        (&[4000, 96][..], 1, 0, 2),
+        (&[4000, 96, 1], 1, 4096, 3),
+        (&[4000, 96], 2, 4096, 3),
+        (&[u64::MAX, 1], 1, 4096, 4),
+        (&[4000, 5000], 1, 4096, 14),
+        (&[0, 1 << 63], 1, 1, 14),
+    ] {
+        assert_eq!(split_at_pages(sections, count, page, &mut out), Err(number));
         assert_eq!(out, [kept; 2]);
     }
 

@@ -1,4 +1,4 @@
-//! A safe wrapper over the function of libsplit_records.a, for a Rust program that links it.
+//! A safe wrapper over the function of libhost_records.a, for the test in main.rs. The library itself exports no such function.
 
 /// A free section, as the library lays it out in lent memory.
 #[repr(C)]
@@ -16,11 +16,14 @@ mod c {
     }
 }
 
-/// Cuts the first `count` pairs of `sections` at every page multiple into the front of `out`: how many pieces there are, or `None` for a refusal.
-pub fn split_at_pages(sections: &[u64], count: usize, page: u64, out: &mut [FreeSection]) -> Option<usize> {
+/// Cuts the first `count` pairs of `sections` at every page multiple into the front of `out`: how many pieces there are, or the number of
+/// the refusal, 1 to 14.
+pub fn split_at_pages(sections: &[u64], count: usize, page: u64, out: &mut [FreeSection]) -> Result<usize, usize> {
     // The pointers are valid for their lengths, and `out` overlaps nothing: it is a `&mut`.
-    match unsafe { c::split_at_pages_records(sections.as_ptr(), sections.len(), count, page, out.as_mut_ptr(), out.len()) } {
-        usize::MAX => None,
-        n => Some(n),
+    let n = unsafe { c::split_at_pages_records(sections.as_ptr(), sections.len(), count, page, out.as_mut_ptr(), out.len()) };
+    // A refusal is all ones less its number; `out` holds fewer than 2^60 records, so no number of pieces is as high.
+    match usize::MAX - n {
+        number @ 1..=14 => Err(number),
+        _ => Ok(n),
     }
 }

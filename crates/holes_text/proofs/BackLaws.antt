@@ -12,8 +12,8 @@ use Rattle.fsm_sections.specs.declared.FreeSection.{FreeSection}
 use Rattle.fsm_sections.specs.Sections.{flat}
 use Rattle.fsm_blocks.specs.Reading.{joined}
 use Rattle.image.specs.Reading.{countsOf}
-use Rattle.listing.specs.Listing.{header, slotText, slotsText, slotsOf, listingText}
 use Rattle.fsm_sections.proofs.SectionsLaws.{section-form}
+use Rattle.holes_text.specs.Listing.{header, slotText, slotsText, slotsOf, listingText}
 
 -- a slot with no section has no line
 no-lines : (i k : ℕ) (run : List ℕ) → slotsText i (slotsOf (replicate k 0) run) ≡ []

@@ -27,7 +27,7 @@ use Rattle.image.specs.Answers.{outcomeWith, imageOutcome}
 use Rattle.image.specs.Reading.{readImage, countsOf, readInto, imageInto}
 use Rattle.image.proofs.PlaceLaws.{first-then}
 use Rattle.text.specs.Text.{written}
-use Rattle.listing.specs.Listing.{slotsOf, listingText, refusedText}
+use Rattle.holes_text.specs.Listing.{slotsOf, listingText, refusedText}
 use Rattle.holes_text.specs.Holes.{imageLimit, sectionLimit, atMost, holesRead, textOf, holesText}
 use Rattle.holes_text.proofs.BackLaws.{listing-back}
 

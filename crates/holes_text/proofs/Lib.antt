@@ -1,3 +1,5 @@
 pub mod BackLaws
 pub mod HolesLaws
+pub mod LineLaws
+pub mod ListingLaws
 pub mod SizeLaws

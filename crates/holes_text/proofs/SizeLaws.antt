@@ -1,14 +1,18 @@
 -- No text is longer than the limit, so that a buffer of that size holds any. Assumes nothing.
-use mathlib.Core.Path.{_≡_, ap, _∙_}
+use mathlib.Core.Path.{_≡_, sym, ap, _∙_}
 use mathlib.Core.Bool.{Bool, true, false}
 use mathlib.Core.List.{List, [], _∷_}
-use Prim.Native.Nat.{ℕ, suc, _+_, _*_, _≤_, min}
+use Prim.Native.Nat.{ℕ, suc, _+_, _*_, _≤_, _<_, min}
 use native.Mathlib.Omega.{arith}
+use borrow.Author.Tests.{lt-ltb, le-ltb}
+use lib.Dec.{ltb}
 use lib.ListN.{length, take, drop, length-append}
 use lib.Seq.{take-at}
+use Rattle.error.specs.declared.Refusal.{Refusal}
 use Rattle.error.specs.declared.Refusal.the-variants.{OverCapacity}
-use Rattle.error.specs.Outcome.{Outcome, answer, nothing, refuse}
-use Rattle.error.specs.Lent.{With, with}
+use Rattle.error.specs.Outcome.{Outcome, answer, nothing, refuse, refused}
+use Rattle.error.specs.Lent.{With, with, Left, left, leaving, over}
+use Rattle.error.proofs.OutcomeLaws.{refuses, passes}
 use Rattle.fsm_sections.specs.declared.FreeSection.{FreeSection}
 use Rattle.fsm_blocks.specs.Reading.{readManager, readSlots, joined}
 use Rattle.fsm_blocks.proofs.ThenLaws.{Holds, holds-when, holds-then}
@@ -17,10 +21,10 @@ use Rattle.file_space_info.proofs.ReadLaws.{length-numbers}
 use Rattle.image.specs.Reading.{messageAt, addressesIn, readImage}
 use Rattle.image.proofs.PlaceLaws.{message-few}
 use Rattle.text.specs.Text.{written}
-use Rattle.listing.specs.Listing.{header, slotText, slotsText, listingText}
-use Rattle.listing.proofs.SizeLaws.{slot-at-most, refused-at-most}
-use Rattle.holes_text.specs.Holes.{imageLimit, sectionLimit, textLimit, atMost, holesRead, textOf, holesText}
-use Rattle.error.proofs.OverLaws.{over-is}
+use Rattle.holes_text.specs.Listing.{header, slotText, slotsText, listingText}
+use Rattle.holes_text.proofs.LineLaws.{slot-at-most, refused-at-most}
+use Rattle.holes_text.specs.Holes.{imageLimit, sectionLimit, textLimit, atMost, holesRead, textOf, holesText, holesWritten}
+use Rattle.error.proofs.OverLaws.{length-over, over-is}
 use Rattle.holes_text.proofs.HolesLaws.{Few, few}
 
 -- ---- at most twelve slots
@@ -90,11 +94,62 @@ text-fits image =
     (holds-then (Slots 12) (readImage 0 image) (atMost sectionLimit) (twelve image) (λ ls h. holds-when (Slots 12) _ _ (answer ls) h)))
     (holds-when Few _ (OverCapacity (length image) imageLimit) _ (few (readImage 0 image)))
 
--- so the memory of `text_buffer` holds it whole
-pub whole-text : (image out : List ℕ) {r : ℕ} {m : List ℕ} → textLimit ≡ length out → with r m ≡ written 0 (holesText image) out → take r m ≡ holesText image
-whole-text image out {r} {m} size e =
-    let t = holesText image in
-    let f = text-fits image in
-    let v : r ≡ min (0 + length t) (length out) = ap (λ (w : With ℕ (List ℕ)). w .value) e in
-    let k : length t ≡ r = omega arith in
-    ap (take r) (ap (λ (w : With ℕ (List ℕ)). w .memory) e ∙ over-is t out (omega arith)) ∙ take-at t (drop (length t) out) r k
+-- ---- the text made in memory of that size, then written to the lent bytes or refused
+
+module _ (image memory : List ℕ) {n : ℕ} {m : List ℕ} (size : textLimit ≡ length memory) (e : with n m ≡ written 0 (holesText image) memory) where
+  abbrev text : List ℕ
+  text = holesText image
+
+  text-length : n ≡ length text
+  text-length =
+      let f = text-fits image in
+      let v : n ≡ min (0 + length text) (length memory) = ap (λ (w : With ℕ (List ℕ)). w .value) e in
+      omega arith
+
+  text-whole : take n m ≡ text
+  text-whole =
+      let f = text-fits image in
+      ap (take n) (ap (λ (w : With ℕ (List ℕ)). w .memory) e ∙ over-is text memory (omega arith)) ∙ take-at text (drop (length text) memory) n (sym text-length)
+
+  pub written-refused : (out : List ℕ) → length out < n → left (refused (OverCapacity n (length out))) out ≡ leaving out (holesWritten image out)
+  unfolding holesWritten
+  written-refused out h =
+      let l : length out < length text = omega (arith, text-length) in
+      ap (λ (k : ℕ). left (refused (OverCapacity k (length out))) out) text-length
+      ∙ ap (leaving out) (refuses (ltb (length out) (length text)) (OverCapacity (length text) (length out)) (answer (with (length text) (over 0 text out))) (lt-ltb (length out) (length text) l))
+
+  pub written-whole : (out : List ℕ) {r : ℕ} {p : List ℕ} → n ≤ length out → with r p ≡ written 0 (take n m) out → left (answer r) p ≡ leaving out (holesWritten image out)
+  unfolding holesWritten
+  written-whole out h f =
+      let l : length text ≤ length out = omega (arith, text-length) in
+      let k : min (0 + length text) (length out) ≡ length text = omega arith in
+      ap (λ (w : With ℕ (List ℕ)). left (answer (w .value)) (w .memory))
+      (f ∙ ap (λ (s : List ℕ). written 0 s out) text-whole ∙ ap (λ (j : ℕ). with j (over 0 text out)) k)
+      ∙ ap (leaving out) (passes (ltb (length out) (length text)) (OverCapacity (length text) (length out)) (answer (with (length text) (over 0 text out))) (le-ltb (length out) (length text) l))
+
+-- ---- memory of that size is never refused, and holds the text then
+
+module _ (image out : List ℕ) (h : textLimit ≤ length out) where
+  fits : leaving out (holesWritten image out) ≡ left (answer (length (holesText image))) (over 0 (holesText image) out)
+  unfolding holesWritten
+  fits =
+      let t = holesText image in
+      let f = text-fits image in
+      let l : length t ≤ length out = omega arith in
+      sym (ap (leaving out) (passes (ltb (length out) (length t)) (OverCapacity (length t) (length out)) (answer (with (length t) (over 0 t out))) (le-ltb (length out) (length t) l)))
+
+  pub never-refused : (x : Refusal) {p : List ℕ} → left (refused x) p ≡ leaving out (holesWritten image out) → ⊥
+  never-refused x e =
+      let q : refused x ≡ answer (length (holesText image)) = ap (λ (l : Left ℕ (List ℕ)). l .outcome) (e ∙ fits) in
+      let z : _≡_ {A = ℕ} 0 1 = cc in
+      absurd (omega arith)
+
+  pub always-written : {n : ℕ} {p : List ℕ} → left (answer n) p ≡ leaving out (holesWritten image out) → (n ≤ length p) × (take n p ≡ holesText image)
+  always-written {n} {p} e =
+      let t = holesText image in
+      let f = text-fits image in
+      let q : answer n ≡ answer (length t) = ap (λ (l : Left ℕ (List ℕ)). l .outcome) (e ∙ fits) in
+      let v : n ≡ length t = cc in
+      let m : p ≡ over 0 t out = ap (λ (l : Left ℕ (List ℕ)). l .memory) (e ∙ fits) in
+      let k : length p ≡ length out = ap length m ∙ length-over 0 t out in
+      (omega arith, ap (take n) (m ∙ over-is t out (omega arith)) ∙ take-at t (drop (length t) out) n (sym v))

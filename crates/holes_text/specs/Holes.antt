@@ -7,16 +7,18 @@
 --   holesRead      each slot's sections, with the refusals of their reading: "above either, 14, the image's length first"
 --   textOf         the text of an outcome: the listing, or the refusal; Nothing, which `read_image` cannot answer, has none
 --   holesText      the text for an image
+--   holesWritten   `holes_text`: the text at the front of the lent bytes, and its length; refusal 14 where they are fewer than it has
 use Prim.Native.Nat.{ℕ, _+_, _*_}
 use mathlib.Core.List.{List, [], _∷_}
 use lib.Dec.{ltb}
 use lib.ListN.{length}
 use Rattle.error.specs.declared.Refusal.the-variants.{OverCapacity}
 use Rattle.error.specs.Outcome.{Outcome, answer, nothing, refuse, when, firstOf, andThen, sat}
+use Rattle.error.specs.Lent.{With, with, over}
 use Rattle.fsm_sections.specs.declared.FreeSection.{FreeSection}
 use Rattle.fsm_blocks.specs.Reading.{joined}
 use Rattle.image.specs.Reading.{readImage}
-use Rattle.listing.specs.Listing.{listingText, refusedText}
+use Rattle.holes_text.specs.Listing.{listingText, refusedText}
 
 abbrev pub imageLimit : ℕ
 imageLimit = 65536
@@ -43,3 +45,9 @@ textOf (refuse n vs) = refusedText n
 
 abbrev pub holesText : List ℕ → List ℕ
 holesText image = textOf (holesRead image)
+
+unfoldable pub holesWritten : List ℕ → List ℕ → Outcome (With ℕ (List ℕ))
+holesWritten image out =
+    let text = holesText image in
+    firstOf (when (ltb (length out) (length text)) (OverCapacity (length text) (length out)) ∷ [])
+    (answer (with (length text) (over 0 text out)))

@@ -4,15 +4,13 @@ ghost use mathlib.Core.List.{_∷_};
 ghost use Prim.Native.Nat.{_-_, _*_, _^_, _≤_, _<_};
 ghost use mathlib.Core.Bool.{false};
 ghost use lib.ListN.{length};
-ghost use Rattle.error.specs.Lent.{left, leaving, with};
+ghost use Rattle.error.specs.Lent.{left, leaving};
 ghost use Rattle.fsm_sections.specs.Sections.{decode};
 ghost use Rattle.fsm_sections.specs.Runs.{endsAbove};
 ghost use Rattle.fsm_pages.specs.Split.{splitOutcome};
-ghost use Rattle.fields.specs.Ranges.{orTop, leftOrTop};
 ghost use Rattle.split_records.specs.Records.{splitAnswer, piecesIn, splitRecords, piecesLeft};
 use error::Number;
 use error::Refusal;
-use fields::number::MAX;
 use fields::number::min;
 use fsm_pages::pages::Split;
 use fsm_pages::pages::split_count;
@@ -94,28 +92,4 @@ pub fn split_at_pages(sections: &[u64], count: usize, page: u64, out: &mut [Free
         k += 1;
     }
     answer
-}
-
-// The number that C sees of an answer.
-fn pieces_or_top(s: Split) -> usize
-    ensures { λ r. ⌜ r ≡ orTop (splitOutcome s) ⌝ }
-{
-    match s {
-        Split::Pieces(n) => n,
-        Split::Refused(_) => MAX,
-    }
-}
-
-// The same through the C interface, for a host that lends records: how many pieces there are, all ones where they are
-// refused.
-#[no_mangle]
-pub extern "C" fn split_at_pages_records(
-    sections: &[u64],
-    count: usize,
-    page: u64,
-    out: &mut [FreeSection],
-) -> usize
-    ensures { λ r. ⌜ with r (now (out .exit)) ≡ leftOrTop (leaving (now (out .entry)) (splitRecords (now (sections .entry)) count page (now (out .entry)))) ⌝ }
-{
-    pieces_or_top(split_at_pages(sections, count, page, out))
 }

@@ -1,5 +1,6 @@
 -- Text in lent bytes. Assumes nothing.
---   written   a text written at a place of lent bytes: the place after it, at most their end, and the bytes; what would pass the end is dropped
+--   written   a word written at a place of lent bytes: the place after it, at most their end, and the bytes; what would pass the end is dropped,
+--             and whoever writes a whole text tests that it fits
 --   word      a number in decimal, and the byte after it (document 01, "Checked by hand": "single spaces, decimal")
 use Prim.Native.Nat.{ℕ, _+_, min}
 use mathlib.Core.List.{List, [], _∷_, _++_}

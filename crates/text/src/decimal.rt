@@ -6,7 +6,7 @@ ghost use Rattle.error.specs.Lent.{over};
 ghost use Rattle.text.specs.Decimal.{decimal};
 
 // How many digits a number has.
-pub fn digit_count(n: u64) -> usize
+pub(crate) fn digit_count(n: u64) -> usize
     ensures { λ r. ⌜ r ≡ length (decimal n) ⌝ }
 {
     let mut count = 1;
@@ -31,7 +31,7 @@ fn put(out: &mut [u8], at: usize, i: usize, byte: u8)
 }
 
 // Writes a number's digits at `at` and answers how many there are. What would pass the end is dropped.
-pub fn write_decimal(out: &mut [u8], at: usize, n: u64) -> usize
+pub(crate) fn write_decimal(out: &mut [u8], at: usize, n: u64) -> usize
     ensures { λ r. ⌜ (r ≡ length (decimal n)) × (now (out .exit) ≡ over at (decimal n) (now (out .entry))) ⌝ }
 {
     let count = digit_count(n);

@@ -1,3 +1,3 @@
 // Text in lent bytes: numbers in decimal, and words.
-pub mod decimal;
+mod decimal;
 pub mod words;

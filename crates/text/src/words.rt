@@ -1,4 +1,5 @@
-// Text in lent bytes. What would pass the end is dropped, so no call is refused.
+// Words at a place inside a text, for crates that write whole texts: total like `write_uint_le`, so that what would pass the end of
+// the lent bytes is dropped. Whether a whole text fits is its writer's to test.
 ghost use mathlib.Core.Path.{_≡_};
 ghost use mathlib.Core.List.{[], _∷_};
 ghost use Prim.Native.Nat.{_+_, min};

@@ -1,10 +1,8 @@
 use borrow.Author.Needs.{needs}
 use mathlib.Core.Path.{sym}
 use Prim.Native.Nat.{_≤_}
-use lib.ListN.{length, take}
+use lib.ListN.{length}
 use lib.Seq.{length-take-le}
-use Rattle.text.proofs.TextLaws.{after-inside}
-use Rattle.holes_text.specs.Holes.{holesText}
 use Rattle.holes.proofs.main.Statement.{statement}
 use Rattle.holes.proofs.main.Tie as tie
 
@@ -23,21 +21,18 @@ text-buffer-requires c κs = search needs
 array-share-prefix-image : tie.Need-array-share-prefix-image
 array-share-prefix-image c = search needs
 
-slice-aggregate-holes-text : tie.Need-slice-aggregate-holes-text
-slice-aggregate-holes-text c = search needs
+slice-aggregate-write-text : tie.Need-slice-aggregate-write-text
+slice-aggregate-write-text c = search needs
 
-slice-aggregate-holes-text-2 : tie.Need-slice-aggregate-holes-text-2
-slice-aggregate-holes-text-2 c = search needs
+slice-aggregate-write-text-2 : tie.Need-slice-aggregate-write-text-2
+slice-aggregate-write-text-2 c = search needs
 
-holes-text-requires : tie.Need-holes-text-requires
-holes-text-requires c κs = search needs
+write-text-requires : tie.Need-write-text-requires
+write-text-requires c κs = search needs
 
 -- the text that was written is inside the buffer
-inside : (c : tie.After-holes-text) → c .holes-text .result ≤ length (c .holes-text .last .1 .0)
-inside c =
-    let b = c .before .before .before in
-    let r = b .before .before .read-full in
-    after-inside 0 (holesText (take (r .result) (r .last .1 .0))) (b .text-buffer .result) (c .holes-text .ensures)
+inside : (c : tie.After-write-text) → c .write-text .result ≤ length (c .write-text .last .1 .0)
+inside c = c .write-text .ensures .0
 
 array-share-prefix-text : tie.Need-array-share-prefix-text
 array-share-prefix-text c = inside (c .before)
@@ -60,9 +55,9 @@ main-spec =
     read-full-requires
     text-buffer-requires
     array-share-prefix-image
-    slice-aggregate-holes-text
-    slice-aggregate-holes-text-2
-    holes-text-requires
+    slice-aggregate-write-text
+    slice-aggregate-write-text-2
+    write-text-requires
     array-share-prefix-text
     slice-aggregate-write-all
     write-all-requires

@@ -1,98 +1,69 @@
+use mathlib.Core.Path.{sym}
+use Prim.Native.Nat.{_≤_}
 use borrow.Author.Needs.{needs}
-use mathlib.Core.Path.{ap, _∙_}
 use denote.Ref.{now}
-use Rattle.listing.specs.Listing.{refusedText}
-use Rattle.holes_text.proofs.HolesLaws.{printed-as, text-longer, text-refused, text-listed}
+use lib.ListN.{length}
+use lib.Seq.{length-take-le}
+use Rattle.text.proofs.TextLaws.{after-inside}
+use Rattle.holes_text.specs.Holes.{holesText}
+use Rattle.holes_text.proofs.SizeLaws.{written-refused, written-whole}
 use Rattle.holes_text.proofs.holes_text.Statement.{statement}
 use Rattle.holes_text.proofs.holes_text.Tie as tie
 
-number-requires : tie.Need-number-requires
-number-requires c κs = search needs
+text-memory-requires : tie.Need-text-memory-requires
+text-memory-requires c κs = search needs
 
-write-refusal-requires : tie.Need-write-refusal-requires
-write-refusal-requires c κs = search needs
+slice-aggregate-print : tie.Need-slice-aggregate-print
+slice-aggregate-print c = search needs
+
+print-requires : tie.Need-print-requires
+print-requires c κs = search needs
+
+returns : tie.Need-returns
+returns c =
+    let p = c .before .before in
+    let m = p .before .before in
+    let a = m .before .before .before .args in
+    written-refused (now (a .image)) (m .text-memory .result) (m .text-memory .ensures) (p .print .ensures) (now (a .out)) (c .if1 .taken)
+
+-- the text is inside its memory
+inside : (c : tie.After-print) → c .print .result ≤ length (c .print .last .1 .0)
+inside c =
+    let m = c .before .before in
+    let a = m .before .before .before .args in
+    after-inside 0 (holesText (now (a .image))) (m .text-memory .result) (c .print .ensures)
+
+array-share-prefix-text : tie.Need-array-share-prefix-text
+array-share-prefix-text c = inside (c .before .before .before)
+
+slice-aggregate-write-bytes : tie.Need-slice-aggregate-write-bytes
+slice-aggregate-write-bytes c = sym (length-take-le _ _ (inside (c .before .before .before .before)))
+
+write-bytes-requires : tie.Need-write-bytes-requires
+write-bytes-requires c κs = search needs
 
 same-length : tie.Need-same-length
 same-length c = search needs
 
-returns : tie.Need-returns
-returns c =
-    let a = c .before .before .before .before .before .before .before .before .args in
-    printed-as (now (a .out)) (c .before .before .write-refusal .ensures)
-    (ap refusedText (c .before .before .before .before .number .ensures) ∙ text-longer (now (a .image)) (c .before .before .before .before .before .if1 .taken))
-
-lent-run-requires : tie.Need-lent-run-requires
-lent-run-requires c κs = search needs
-
-slice-aggregate-read-image : tie.Need-slice-aggregate-read-image
-slice-aggregate-read-image c = search needs
-
-read-image-requires : tie.Need-read-image-requires
-read-image-requires c κs = search needs
-
-enum-known-answer : tie.Need-enum-known-answer
-enum-known-answer c = search needs
-
-number-requires-2 : tie.Need-number-requires-2
-number-requires-2 c κs = search needs
-
-write-refusal-requires-2 : tie.Need-write-refusal-requires-2
-write-refusal-requires-2 c κs = search needs
-
-enum-told : tie.Need-enum-told
-enum-told c = search needs
-
-slice-aggregate-write-listing : tie.Need-slice-aggregate-write-listing
-slice-aggregate-write-listing c = search needs
-
-slice-aggregate-write-listing-2 : tie.Need-slice-aggregate-write-listing-2
-slice-aggregate-write-listing-2 c = search needs
-
-write-listing-requires : tie.Need-write-listing-requires
-write-listing-requires c κs = search needs
-
-same-length-2 : tie.Need-same-length-2
-same-length-2 c = search needs
-
 returns-2 : tie.Need-returns-2
 returns-2 c =
-    let p = c .before .before .before .before .before .before .before .before .before in
-    let b = p .before .before in
-    let a = b .before .before .before .before .args in
-    printed-as (now (a .out)) (c .before .before .write-refusal2 .ensures)
-    (ap refusedText (c .before .before .before .before .number2 .ensures)
-    ∙ text-refused (b .lent-run .result) (b .lent-run .ensures) (now (a .image)) (b .before .if1 .left) (p .read-image .result) _ (p .read-image .ensures .0) _ (c .before .before .before .before .before .before .answer .given .1))
-
-same-length-3 : tie.Need-same-length-3
-same-length-3 c = search needs
-
-returns-3 : tie.Need-returns-3
-returns-3 c =
-    let p = c .before .before .before .before .before .before .before .before .before .before in
-    let b = p .before .before in
-    let a = b .before .before .before .before .args in
-    printed-as (now (a .out)) (c .before .before .write-listing .ensures)
-    (text-listed (b .lent-run .result) (b .lent-run .ensures) (now (a .image)) (b .before .if1 .left) (p .read-image .result) _ (p .read-image .ensures .0) (c .before .before .before .before .before .before .before .enum-told .given .1))
+    let w = c .before .before in
+    let e = w .before .before .before in
+    let p = e .before .before in
+    let m = p .before .before in
+    let a = m .before .before .before .args in
+    written-whole (now (a .image)) (m .text-memory .result) (m .text-memory .ensures) (p .print .ensures) (now (a .out)) (e .if1 .left) (w .write-bytes .ensures)
 
 pub holes-text-spec : {M : Type 1} → statement M
 holes-text-spec =
     tie.close
     (tie.spec
-    number-requires
-    write-refusal-requires
-    same-length
+    text-memory-requires
+    slice-aggregate-print
+    print-requires
     returns
-    lent-run-requires
-    slice-aggregate-read-image
-    read-image-requires
-    enum-known-answer
-    number-requires-2
-    write-refusal-requires-2
-    enum-told
-    slice-aggregate-write-listing
-    slice-aggregate-write-listing-2
-    write-listing-requires
-    same-length-2
-    returns-2
-    same-length-3
-    returns-3)
+    array-share-prefix-text
+    slice-aggregate-write-bytes
+    write-bytes-requires
+    same-length
+    returns-2)

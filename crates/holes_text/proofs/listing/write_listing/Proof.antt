@@ -5,11 +5,11 @@ use borrow.Author.Needs.{needs}
 use denote.Ref.{now}
 use lib.ListN.{length}
 use Rattle.text.specs.Text.{written}
-use Rattle.listing.specs.Listing.{header, listingText}
+use Rattle.holes_text.specs.Listing.{header, listingText}
 use Rattle.text.proofs.TextLaws.{Printing, whole-left, after-inside, printing-length, then}
-use Rattle.listing.proofs.ListingLaws.{slotsFrom, slots-step, slots-end}
-use Rattle.listing.proofs.write_listing.Statement.{statement}
-use Rattle.listing.proofs.write_listing.Tie as tie
+use Rattle.holes_text.proofs.ListingLaws.{slotsFrom, slots-step, slots-end}
+use Rattle.holes_text.proofs.listing.write_listing.Statement.{statement}
+use Rattle.holes_text.proofs.listing.write_listing.Tie as tie
 
 abbrev Inv-loop : tie.InvT-loop
 Inv-loop counts run out₀ to₀ from₀ slot₀ out to from slot =

@@ -5,7 +5,7 @@ ghost use lib.ListN.{length};
 ghost use Rattle.error.specs.Lent.{with};
 ghost use Rattle.fsm_sections.specs.Sections.{section, decode};
 ghost use Rattle.text.specs.Text.{written};
-ghost use Rattle.listing.specs.Listing.{rowText, slotText, slotsOf, listingText, refusedText};
+ghost use Rattle.holes_text.specs.Listing.{rowText, slotText, slotsOf, listingText, refusedText};
 use text::words::write_bytes;
 use text::words::write_word;
 
@@ -58,7 +58,7 @@ fn after_pairs(from: usize, count: u64, len: usize) -> usize
 
 // Writes the line of names and a line for each section: slot i has the next `counts[i]` pairs of the run. Answers how many
 // bytes of `out` it wrote; what would pass the end is dropped.
-pub fn write_listing(counts: &[u64], run: &[u64], out: &mut [u8]) -> usize
+pub(crate) fn write_listing(counts: &[u64], run: &[u64], out: &mut [u8]) -> usize
     ensures { λ r. ⌜ with r (now (out .exit)) ≡ written 0 (listingText (slotsOf (now (counts .entry)) (now (run .entry)))) (now (out .entry)) ⌝ }
 {
     let mut to = write_bytes(out, 0, b"slot address size\n");
@@ -74,7 +74,7 @@ pub fn write_listing(counts: &[u64], run: &[u64], out: &mut [u8]) -> usize
 }
 
 // Writes the two lines of a refusal.
-pub fn write_refusal(number: u8, out: &mut [u8]) -> usize
+pub(crate) fn write_refusal(number: u8, out: &mut [u8]) -> usize
     ensures { λ r. ⌜ with r (now (out .exit)) ≡ written 0 (refusedText number) (now (out .entry)) ⌝ }
 {
     let second = write_bytes(out, 0, b"refused\n");

@@ -11,7 +11,7 @@ use Rattle.text.specs.Decimal.{digit, digits, decimal}
 use Rattle.text.proofs.DecimalLaws.{length-one, length-more}
 use Rattle.fsm_sections.specs.declared.FreeSection.{FreeSection}
 use Rattle.text.specs.Text.{word}
-use Rattle.listing.specs.Listing.{rowText, slotText, refusedLine, refusedText}
+use Rattle.holes_text.specs.Listing.{rowText, slotText, refusedLine, refusedText}
 
 -- ---- numbers
 

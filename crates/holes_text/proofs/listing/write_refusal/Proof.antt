@@ -1,10 +1,10 @@
 use borrow.Author.Needs.{needs}
 use denote.Ref.{now}
 use Rattle.text.specs.Text.{word}
-use Rattle.listing.specs.Listing.{refusedLine, refusedText}
+use Rattle.holes_text.specs.Listing.{refusedLine, refusedText}
 use Rattle.text.proofs.TextLaws.{then}
-use Rattle.listing.proofs.write_refusal.Statement.{statement}
-use Rattle.listing.proofs.write_refusal.Tie as tie
+use Rattle.holes_text.proofs.listing.write_refusal.Statement.{statement}
+use Rattle.holes_text.proofs.listing.write_refusal.Tie as tie
 
 slice-aggregate-write-bytes : tie.Need-slice-aggregate-write-bytes
 slice-aggregate-write-bytes c = search needs

@@ -1,4 +1,4 @@
--- `split_records::split_at_pages_records` meets its contract: a walk of its MIR, by hand. All that it knows of `split_at_pages` and `pieces_or_top` is that each meets its contract.
+-- `host_records::split_at_pages_records` meets its contract: a walk of its MIR, by hand. All that it knows of `split_at_pages` and `shown_number` is that each meets its contract.
 -- The records are lent on for good, at the borrow's own lifetime, share and ghost name: nothing has to come back. What the callee says of the last records is what is said at exit.
 -- Assumes nothing.
 use mathlib.Core.Path.{_≡_, refl, ap, subst, _∙_}
@@ -45,21 +45,21 @@ use Rattle.fsm_pages.specs.declared.pages.Split.{Split}
 use Rattle.fsm_pages.specs.Split.{splitOutcome}
 use Rattle.fsm_pages.proofs.pages.Split as S
 use Rattle.fsm_pages.proofs.pages.Split.Laws as S′
-use Rattle.fields.specs.Ranges.{orTop, leftOrTop}
 use Rattle.split_records.specs.Records.{splitRecords}
+use Rattle.host_records.specs.Shown.{shown, leftShown}
 use Rattle.split_records.proofs.WalkTypes.{word, sectionsTy, outTy, Arg, lent, LentOwn}
 use Rattle.split_records.proofs.split_at_pages as cut
 use Rattle.split_records.proofs.split_at_pages.Symbol as cut-def
 use Rattle.split_records.proofs.split_at_pages.Symbol.{name as #split-at-pages}
 use Rattle.split_records.proofs.split_at_pages.Met as cut-thm
-use Rattle.split_records.proofs.pieces_or_top as number
-use Rattle.split_records.proofs.pieces_or_top.Symbol as number-def
-use Rattle.split_records.proofs.pieces_or_top.Symbol.{name as #pieces-or-top}
-use Rattle.split_records.proofs.pieces_or_top.Met as number-thm
-use Rattle.split_records.proofs.split_at_pages_records.Key.{name as #split-at-pages-records}
-use Rattle.split_records.proofs.split_at_pages_records as f
-use Rattle.split_records.proofs.split_at_pages_records.Statement as stated
-use Rattle.split_records.proofs.split_at_pages_records.Code as code
+use Rattle.host_records.proofs.shown_number as number
+use Rattle.host_records.proofs.shown_number.Symbol as number-def
+use Rattle.host_records.proofs.shown_number.Symbol.{name as #shown-number}
+use Rattle.host_records.proofs.shown_number.Met as number-thm
+use Rattle.host_records.proofs.split_at_pages_records.Key.{name as #split-at-pages-records}
+use Rattle.host_records.proofs.split_at_pages_records as f
+use Rattle.host_records.proofs.split_at_pages_records.Statement as stated
+use Rattle.host_records.proofs.split_at_pages_records.Code as code
 
 abbrev againTy : Ty
 againTy = tyRef erased mut (pointee (T.the-row .written))
@@ -131,19 +131,19 @@ module _ {M : Type 1} (𝓤 : URA M) (H : Heap 𝓤) (A : Atoms 𝓤) (W : Given
   goes-number : (a : Split) (u : Val) → ent 𝓤 (sem 𝓤 H A (S.the-row .own a (u ∷ []))) (Number 𝓤 H A mem run .pre (to-number a u))
   goes-number a u = qed W (‵ (S.the-row .own a (u ∷ [])) ∷ []) ∵ nothing ! $ move ! (1 ∷ 0 ∷ []) $ join ! $ nothing ! $ join ! $ frame ! $ done !
 
-  number-said : (a : Split) (r : ℕ) → ent 𝓤 (ensured 𝓤 H A number.ended (number.clauses 𝓤 H A mem run) tt (a, tt) tt r) (fact 𝓤 (r ≡ orTop (splitOutcome a)))
-  number-said a r = exE 𝓤 _ (λ ws. snd∗ 𝓤 (sem 𝓤 H A (lasts number.ended tt (a, tt) ws)) (fact 𝓤 (r ≡ orTop (splitOutcome a))))
+  number-said : (a : Split) (r : ℕ) → ent 𝓤 (ensured 𝓤 H A number.ended (number.clauses 𝓤 H A mem run) tt (a, tt) tt r) (fact 𝓤 (r ≡ shown (splitOutcome a)))
+  number-said a r = exE 𝓤 _ (λ ws. snd∗ 𝓤 (sem 𝓤 H A (lasts number.ended tt (a, tt) ws)) (fact 𝓤 (r ≡ shown (splitOutcome a))))
 
-  exits : (a : Split) (r : ℕ) (w : Val) (zs : List FreeSection) → r ≡ orTop (splitOutcome a) → Leaves a zs → length zs ≡ length ys
+  exits : (a : Split) (r : ℕ) (w : Val) (zs : List FreeSection) → r ≡ shown (splitOutcome a) → Leaves a zs → length zs ≡ length ys
       → ent 𝓤 (⋆ 𝓤 H A (Tokens ∷ ‵ (finally T.the-row γ zs) ∷ ‵ Own ∷ ‵ (usize .own r (w ∷ [])) ∷ [])) (Post w)
   exits a r w zs er e same =
       qed W (Tokens ∷ ‵ (finally T.the-row γ zs) ∷ ‵ Own ∷ ‵ (usize .own r (w ∷ [])) ∷ []) ∵
       suffices ! _ (ends-at 𝓤 H A f.ended stayed (f.clauses 𝓤 H A mem run) W (((κ, (κ₂, tt)), (q, (q₂, tt)), tt, x, at), tt) w r (tt, (tt, (tt, (zs, tt)))) (tt, (tt, (tt, (same, tt))))) $
-      says ! (ap (λ (k : ℕ). with k zs) er ∙ ap leftOrTop e) $ frame ! $ nothing ! $ move ! (1 ∷ 0 ∷ []) $ fjoin ! $
+      says ! (ap (λ (k : ℕ). with k zs) er ∙ ap leftShown e) $ frame ! $ nothing ! $ move ! (1 ∷ 0 ∷ []) $ fjoin ! $
       owned ! u64 (Is u64) (uint-makes 𝓤 H A W w64) page _ (refl, gp) $ fjoin ! $
       owned ! usize (Is usize) (uint-makes 𝓤 H A W w64) n _ (refl, gn) $ fjoin ! $ move ! (1 ∷ 0 ∷ []) $ fjoin ! $ frame ! $ done !
 
-  walk : (𝓣 : Tables 𝓤 H) → Triple 𝓤 (𝓣 .C #split-at-pages) (Cut 𝓤 H A mem run) → Triple 𝓤 (𝓣 .C #pieces-or-top) (Number 𝓤 H A mem run)
+  walk : (𝓣 : Tables 𝓤 H) → Triple 𝓤 (𝓣 .C #split-at-pages) (Cut 𝓤 H A mem run) → Triple 𝓤 (𝓣 .C #shown-number) (Number 𝓤 H A mem run)
       → Is (ShrSlice (named 0) κ u64) s (v ∷ []) → ent 𝓤 (onEntry 𝓤 H A f.signature (κ, (κ₂, tt)) (q, (q₂, tt)) x at)
       (WpFn 𝓤 H (𝓣 .C) (𝓣 .Λ) spelled (v ∷ vint w64 n ∷ vint w64 page ∷ sliceVal (b, o) (length ys) ∷ []) Post)
   walk 𝓣 known-cut known-number gs =
@@ -171,7 +171,7 @@ module _ {M : Type 1} (𝓤 : URA M) (H : Heap 𝓤) (A : Atoms 𝓤) (W : Given
       calls-at ! fm (Number 𝓤 H A mem run) known-number (to-number a ua) (and-then ! (load ! (from ! (stop !)) (look ! 9 refl)) (no-more !)) (λ w.
       use1 W (later (some (λ (r : ℕ). (‵ ftrue ⊛ ‵ (usize .own r (w ∷ []))) ⊛ raw (ensured 𝓤 H A number.ended (number.clauses 𝓤 H A mem run) tt (a, tt) tt r)))) (id⊢ 𝓤 _) $ await ! tt $
       pick ! (λ r.
-      split ! $ move ! (1 ∷ []) $ use1 W (raw (fact 𝓤 (r ≡ orTop (splitOutcome a)))) (number-said a r) $ heard ! (r ≡ orTop (splitOutcome a)) (λ er. split ! $ drop ! $
+      split ! $ move ! (1 ∷ []) $ use1 W (raw (fact 𝓤 (r ≡ shown (splitOutcome a)))) (number-said a r) $ heard ! (r ≡ shown (splitOutcome a)) (λ er. split ! $ drop ! $
       peeks ! usize (Is usize) (shows 𝓤 H A usize) r (w ∷ []) (λ is. land ! (from ! (stop !)) (init ! 19 refl (uint-lawful 𝓤 H A W w64 .typed r _ is .0)) $
       returns ! (look ! 19 refl) $
       forget ! 19 refl $ forget ! 17 refl $ forget ! 15 refl $ forget ! 13 refl $ forget ! 11 refl $ forget ! 9 refl $ forget ! 7 refl $ forget ! 5 refl $
@@ -180,7 +180,7 @@ module _ {M : Type 1} (𝓤 : URA M) (H : Heap 𝓤) (A : Atoms 𝓤) (W : Given
       keep ! (1 ∷ 2 ∷ 4 ∷ 0 ∷ []) $ by ! (exits a r w (ws .1 .1 .1 .0) er e same)))))))))))))))))))
 
 module _ {M : Type 1} (𝓤 : URA M) (H : Heap 𝓤) (A : Atoms 𝓤) (W : Given 𝓤 H A) (mem : Memory → SProp 𝓤) (run : Routine → Fun 𝓤) (𝓣 : Tables 𝓤 H)
-    (known-cut : Triple 𝓤 (𝓣 .C #split-at-pages) (Cut 𝓤 H A mem run)) (known-number : Triple 𝓤 (𝓣 .C #pieces-or-top) (Number 𝓤 H A mem run)) where
+    (known-cut : Triple 𝓤 (𝓣 .C #split-at-pages) (Cut 𝓤 H A mem run)) (known-number : Triple 𝓤 (𝓣 .C #shown-number) (Number 𝓤 H A mem run)) where
   walks : Walks 𝓤 H A f.ended stayed (WpFn 𝓤 H (𝓣 .C) (𝓣 .Λ) spelled) (f.clauses 𝓤 H A mem run)
   walks = walked 𝓤 H A f.ended stayed (f.clauses 𝓤 H A mem run) (WpFn 𝓤 H (𝓣 .C) (𝓣 .Λ) spelled)
       (λ κs. (slice-vals, (uint-vals w64, (uint-vals w64, (slice-vals, tt)))))
@@ -213,4 +213,4 @@ split-at-pages-records-spec 𝓤 H 𝓜 𝓖 𝓡 =
     (tables 𝓤 H 𝓜 𝓡 code.env .C) (tables 𝓤 H 𝓜 𝓡 code.env .Λ) #split-at-pages-records code.function (code.unfolded 𝓤 H 𝓜 𝓡)
     (meets 𝓤 H (𝓖 .A) (givenOf 𝓤 H 𝓜 𝓖) (𝓜 .mem) (𝓡 .run) (tablesOf 𝓤 H 𝓜 (tables 𝓤 H 𝓜 𝓡 code.env))
     (cited 𝓤 H (Cut 𝓤 H (𝓖 .A) (𝓜 .mem) (𝓡 .run)) 𝓜 𝓡 code.env #split-at-pages cut-def.routine code.calls-split-records·split-at-pages (cut-thm.met 𝓤 H 𝓜 𝓖 𝓡))
-    (cited 𝓤 H (Number 𝓤 H (𝓖 .A) (𝓜 .mem) (𝓡 .run)) 𝓜 𝓡 code.env #pieces-or-top number-def.routine code.calls-split-records·pieces-or-top (number-thm.met 𝓤 H 𝓜 𝓖 𝓡)))
+    (cited 𝓤 H (Number 𝓤 H (𝓖 .A) (𝓜 .mem) (𝓡 .run)) 𝓜 𝓡 code.env #shown-number number-def.routine code.calls-host-records·shown-number (number-thm.met 𝓤 H 𝓜 𝓖 𝓡)))

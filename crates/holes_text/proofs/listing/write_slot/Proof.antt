@@ -4,11 +4,11 @@ use borrow.Author.Needs.{needs}
 use denote.Ref.{now}
 use Rattle.fsm_sections.specs.Sections.{decode}
 use Rattle.text.specs.Text.{written}
-use Rattle.listing.specs.Listing.{slotText}
+use Rattle.holes_text.specs.Listing.{slotText}
 use Rattle.text.proofs.TextLaws.{Printing, printing-length}
-use Rattle.listing.proofs.ListingLaws.{linesFrom, lines-start, lines-step, lines-end}
-use Rattle.listing.proofs.write_slot.Statement.{statement}
-use Rattle.listing.proofs.write_slot.Tie as tie
+use Rattle.holes_text.proofs.ListingLaws.{linesFrom, lines-start, lines-step, lines-end}
+use Rattle.holes_text.proofs.listing.write_slot.Statement.{statement}
+use Rattle.holes_text.proofs.listing.write_slot.Tie as tie
 
 abbrev Inv-loop : tie.InvT-loop
 Inv-loop out₀ at slot run count n to₀ i₀ out to i =

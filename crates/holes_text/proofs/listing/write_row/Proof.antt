@@ -3,8 +3,8 @@ use borrow.Author.Needs.{needs}
 use denote.Ref.{now}
 use Rattle.text.specs.Text.{word}
 use Rattle.text.proofs.TextLaws.{then}
-use Rattle.listing.proofs.write_row.Statement.{statement}
-use Rattle.listing.proofs.write_row.Tie as tie
+use Rattle.holes_text.proofs.listing.write_row.Statement.{statement}
+use Rattle.holes_text.proofs.listing.write_row.Tie as tie
 
 write-word-requires : tie.Need-write-word-requires
 write-word-requires c κs = search needs

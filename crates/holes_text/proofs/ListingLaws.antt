@@ -15,7 +15,7 @@ use Rattle.pairs.proofs.PairLaws.{decode-drop, decode-end}
 use Rattle.fsm_sections.specs.declared.FreeSection.{FreeSection}
 use Rattle.fsm_sections.specs.Sections.{section, decode, sectionAt}
 use Rattle.text.specs.Text.{written}
-use Rattle.listing.specs.Listing.{rowText, slotText, slotsText, slotsOf}
+use Rattle.holes_text.specs.Listing.{rowText, slotText, slotsText, slotsOf}
 use Rattle.text.proofs.TextLaws.{Printing, piece, printed}
 
 -- ---- pairs
