@@ -71,7 +71,7 @@ pub(crate) fn image_into_call(args: &[u64], image: &[u8]) -> Reply {
     }
     let mut run = [7; 32768];
     let room = args[1];
-    if run.len() as u64 < room {
+    if (run.len() as u64) < room {
         return Reply::Bad;
     }
     let n = room as usize;
