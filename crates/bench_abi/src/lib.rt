@@ -15,7 +15,7 @@ fn kept_count(k: Kept) -> usize
 {
     match k {
         Kept::Done(list) => list.count,
-        Kept::Refused(_) => MAX,
+        Kept::Refused(_) => MAX as usize,
     }
 }
 
@@ -24,8 +24,8 @@ fn given_count(g: Given) -> usize
 {
     match g {
         Given::At { addr: _, list } => list.count,
-        Given::Nothing => MAX,
-        Given::Refused(_) => MAX,
+        Given::Nothing => MAX as usize,
+        Given::Refused(_) => MAX as usize,
     }
 }
 

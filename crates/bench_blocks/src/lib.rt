@@ -40,7 +40,7 @@ fn piece_count(s: Split) -> usize
 {
     match s {
         Split::Pieces(n) => n,
-        Split::Refused(_) => MAX,
+        Split::Refused(_) => MAX as usize,
     }
 }
 
