@@ -1,12 +1,12 @@
 // The calls on sections and their blocks.
+use crate::lines::end_line;
+use crate::lines::put_first;
+use crate::lines::put_numbers;
 use crate::memory::bytes_memory;
 use crate::memory::numbers_memory;
 use crate::reply::Reply;
 use crate::reply::say_pairs;
 use crate::reply::write_out;
-use crate::text::end_line;
-use crate::text::put_first;
-use crate::text::put_numbers;
 use crate::words::are_pairs;
 use fields::address::BaseAddress;
 use fsm_blocks::fsse::SectionsAnswer;

@@ -1,11 +1,11 @@
 // The calls that read an image.
+use crate::lines::end_line;
+use crate::lines::pairs_line;
+use crate::lines::put_numbers;
 use crate::memory::bytes_memory;
 use crate::memory::numbers_memory;
 use crate::reply::Reply;
 use crate::reply::write_out;
-use crate::text::end_line;
-use crate::text::pairs_line;
-use crate::text::put_numbers;
 use image::ImageAnswer;
 use image::read_image;
 use text::words::write_bytes;

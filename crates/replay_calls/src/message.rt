@@ -1,12 +1,12 @@
 // The calls on the File Space Info message.
+use crate::lines::end_line;
+use crate::lines::put_counted;
+use crate::lines::put_first;
+use crate::lines::put_numbers;
 use crate::memory::bytes_memory;
 use crate::memory::numbers_memory;
 use crate::reply::Reply;
 use crate::reply::write_out;
-use crate::text::end_line;
-use crate::text::put_counted;
-use crate::text::put_first;
-use crate::text::put_numbers;
 use error::Number;
 use file_space_info::FileSpaceInfo;
 use file_space_info::FileSpaceStrategy;

@@ -1,13 +1,13 @@
 // The call of the plan.
 ghost use Prim.Native.Nat.{_≤_};
 ghost use lib.ListN.{length};
+use crate::lines::end_line;
+use crate::lines::put_numbers;
+use crate::lines::put_pairs;
 use crate::memory::bytes_memory;
 use crate::memory::numbers_memory;
 use crate::reply::Reply;
 use crate::reply::write_out;
-use crate::text::end_line;
-use crate::text::put_numbers;
-use crate::text::put_pairs;
 use fsm_plan::plan::PagedManagerPlan;
 use fsm_plan::plan::Planned;
 use fsm_plan::plan::plan_paged_managers;

@@ -1,8 +1,8 @@
 // Short answers, and standard output.
+use crate::lines::end_line;
+use crate::lines::pairs_line;
+use crate::lines::put_counted;
 use crate::memory::bytes_memory;
-use crate::text::end_line;
-use crate::text::pairs_line;
-use crate::text::put_counted;
 use error::Number;
 use error::Refusal;
 use libc::STDOUT_FILENO;

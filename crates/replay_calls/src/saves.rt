@@ -1,6 +1,8 @@
 // The call of a save. `lists` has the three lists and how much of each a save is lent, and of scratch.
 ghost use Prim.Native.Nat.{_≤_};
 ghost use lib.ListN.{length};
+use crate::lines::end_line;
+use crate::lines::put_bytes;
 use crate::lists::RUN;
 use crate::lists::SCRATCH;
 use crate::lists::file_lists;
@@ -8,8 +10,6 @@ use crate::lists::room_of;
 use crate::memory::bytes_memory;
 use crate::reply::Reply;
 use crate::reply::write_out;
-use crate::text::end_line;
-use crate::text::put_bytes;
 use replay_lines::answer::put_number;
 use save::Begin;
 use save::Target;

@@ -2,8 +2,8 @@ use mathlib.Core.Path.{_≡_}
 use Prim.Native.Nat.{_-_}
 use borrow.Author.Needs.{needs}
 use lib.ListN.{length}
-use Rattle.replay_calls.proofs.text.put_bytes.Statement.{statement}
-use Rattle.replay_calls.proofs.text.put_bytes.Tie as tie
+use Rattle.replay_calls.proofs.lines.put_bytes.Statement.{statement}
+use Rattle.replay_calls.proofs.lines.put_bytes.Tie as tie
 
 abbrev Inv-loop : tie.InvT-loop
 Inv-loop out₀ at bytes to₀ i₀ t7 out to i = length out ≡ length out₀

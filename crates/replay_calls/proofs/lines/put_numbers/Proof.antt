@@ -2,8 +2,8 @@ use mathlib.Core.Path.{_≡_}
 use Prim.Native.Nat.{_-_}
 use borrow.Author.Needs.{needs}
 use lib.ListN.{length}
-use Rattle.replay_calls.proofs.text.put_numbers.Statement.{statement}
-use Rattle.replay_calls.proofs.text.put_numbers.Tie as tie
+use Rattle.replay_calls.proofs.lines.put_numbers.Statement.{statement}
+use Rattle.replay_calls.proofs.lines.put_numbers.Tie as tie
 
 abbrev Inv-loop : tie.InvT-loop
 Inv-loop out₀ at run to₀ i₀ out to i = length out ≡ length out₀

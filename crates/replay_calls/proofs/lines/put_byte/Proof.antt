@@ -4,8 +4,8 @@ use Prim.Native.Nat.{ℕ}
 use denote.Ref.{now}
 use Rattle.text.specs.Text.{written}
 use borrow.Author.Needs.{needs}
-use Rattle.replay_calls.proofs.text.put_byte.Statement.{statement}
-use Rattle.replay_calls.proofs.text.put_byte.Tie as tie
+use Rattle.replay_calls.proofs.lines.put_byte.Statement.{statement}
+use Rattle.replay_calls.proofs.lines.put_byte.Tie as tie
 
 half-digit-requires : tie.Need-half-digit-requires
 half-digit-requires c κs = search needs

@@ -1,8 +1,8 @@
 use borrow.Author.Tests.{lt-ltb, le-ltb}
 use Rattle.replay_lines.specs.Words.{halfDigit}
 use borrow.Author.Needs.{needs}
-use Rattle.replay_calls.proofs.text.half_digit.Statement.{statement}
-use Rattle.replay_calls.proofs.text.half_digit.Tie as tie
+use Rattle.replay_calls.proofs.lines.half_digit.Statement.{statement}
+use Rattle.replay_calls.proofs.lines.half_digit.Tie as tie
 
 add-result : tie.Need-add-result
 add-result c = search needs
