@@ -25,9 +25,9 @@ use Rattle.free_space.specs.Runs.{isList}
 use Rattle.free_space.proofs.ListLaws.{listed}
 use Rattle.free_lists.specs.declared.calls.Which.{Which}
 use Rattle.free_lists.specs.declared.calls.Which.the-variants.{Metadata, Raw, Unclassified}
-use Rattle.free_lists.specs.Lists.{LentList, regionsOf, same, Lists, regionsIn, areLists, sharedByte, apart, together}
+use Rattle.free_lists.specs.Lists.{LentList, regionsOf, Lists, regionsIn, areLists, sharedByte, apart}
 use Rattle.free_lists.specs.Trailing.{put, falling, walk, allRegions, runStart}
-use Rattle.free_lists.specs.ListsSay.{FreeInAny, TwoShare, Together, NotTogether, three, five, RunTo, ListsSay}
+use Rattle.free_lists.specs.ListsSay.{FreeInAny, TwoShare, NotTogether, three, five, RunTo, ListsSay}
 
 -- ---- regions that share no byte
 
