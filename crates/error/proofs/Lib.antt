@@ -1,3 +1,4 @@
 pub mod TestLaws
 pub mod OutcomeLaws
 pub mod OverLaws
+pub mod EndsLaws

@@ -2,3 +2,4 @@ pub mod Refusals
 pub mod Outcome
 pub mod Lent
 pub mod Answers
+pub mod Ends

@@ -1,85 +1,39 @@
--- What each of the five calls answers and leaves, and why it refuses, whatever its arguments. Assumes nothing.
---   Ends      an outcome of which its answer, Nothing, or its number and values say what stands for them
---   Leaves    an accepted call was given a list, and leaves a list with this change to the free bytes
---   Refuses   why a call refuses, by document 01's number and values
---   Serves    an allocation: which region serves, from where, and what is left
---   TwoLeft   the one region that an allocation chooses has bytes left on both sides
---   Drops     `take_trailing`: the last region ends at the end of file, and goes
+-- What pins each of the five calls (specs/CallsSay.antt), proved: along the conditions of its definition, and then of the run that it leaves. Assumes nothing.
 use mathlib.Core.Path.{_≡_, refl, sym, ap, _∙_, subst}
 use mathlib.Core.List.{List, [], _∷_, _++_}
 use mathlib.Core.Bool.{Bool, true, false, cond, not, _&&_}
-use mathlib.Core.Logic.{_⊎_, inl, inr, ⊎-elim}
+use mathlib.Core.Logic.{inl, inr, ⊎-elim, _↔_}
 use Prim.Native.Nat.{ℕ, zero, suc, _+_, _-_, _*_, _%_, _≤_, _<_}
 use native.Mathlib.Omega.{arith}
-use borrow.Author.Tests.{ltb-true, ltb-false, eqb-true, eqb-false, not-true, not-false}
+use borrow.Author.Tests.{ltb-true, ltb-false, ne-eqb, eqb-true, eqb-false, not-true, not-false}
 use lib.Dec.{ltb, eqb}
 use lib.ListN.{length, getD, replicate, length-append, length-replicate}
-use Rattle.error.specs.Refusals.{numberOf, valuesOf}
-use Rattle.error.specs.Outcome.{Outcome, answer, nothing, refuse, Condition, firstOf}
+use Rattle.error.specs.Outcome.{Outcome, nothing, Condition, firstOf}
 use Rattle.error.specs.Lent.{With, with, over}
-use Rattle.error.proofs.TestLaws.{true-not-false, and-true}
+use Rattle.error.proofs.TestLaws.{le-or-lt, true-not-false, and-true}
+use Rattle.error.proofs.EndsLaws.{answers, says-nothing, chosen, untested, tested}
 use Rattle.error.proofs.OverLaws.{length-over, over-right, getD-above}
 use Rattle.fields.specs.Ranges.{top}
 use Rattle.free_regions.specs.declared.FreeRegion.{FreeRegion}
-use Rattle.free_regions.specs.Regions.{region, end, Free, shares, insert, cutAll, around, spliced, Found, none, at, best}
+use Rattle.free_regions.specs.Regions.{region, end, shares, insert, cutAll, around, spliced, Found, none, at, best}
 use Rattle.free_regions.specs.Units.{interiorStart, interiorSpan}
+use Rattle.free_regions.specs.Sets.{Shared, Adds, Removes, nth, FirstMultiple}
 use Rattle.free_regions.proofs.OkLaws.{Within, ok-prop}
-use Rattle.free_regions.proofs.SetLaws.{Between, Adds, Removes, insert-within, insert-free, taken-within, taken-free, were-free, dropped-within, dropped-free}
-use Rattle.free_regions.proofs.CutSets.{Apart, Strict, Grows, cut-all-within, cut-all-free, cut-all-long, insert-long, taken-long, dropped-long}
-use Rattle.free_regions.proofs.BestLaws.{nth, NoneSuffices, Best, best-none, best-at}
-use Rattle.free_regions.proofs.InteriorLaws.{FirstMultiple, first-multiple, interior-inside}
-use Rattle.free_regions.proofs.ShareLaws.{Common, shares-byte}
+use Rattle.free_regions.proofs.SetLaws.{insert-within, insert-free, taken-within, taken-free, were-free, dropped-within, dropped-free}
+use Rattle.free_regions.proofs.CutSets.{Grows, cut-all-within, cut-all-free, cut-all-long, insert-long, taken-long, dropped-long}
+use Rattle.free_regions.proofs.BestLaws.{best-none, best-at}
+use Rattle.free_regions.proofs.InteriorLaws.{first-multiple, interior-inside}
+use Rattle.free_regions.proofs.ShareLaws.{shares-byte}
 use Rattle.free_space.specs.declared.list.FreeList.{FreeList}
 use Rattle.free_space.specs.Runs.{flat, recordOf, regions, isList, stored}
-use Rattle.free_space.specs.Calls.{Gave, notList, overflows, noRoom, placed, keeping, giving, freed, rangeTaken, serve, allocated, allocatedUnits, trailingTaken}
+use Rattle.free_space.specs.Calls.{notList, overflows, partUnit, noRoom, placed, keeping, giving, freed, rangeTaken, serve, allocated, allocatedUnits, trailingTaken}
 use Rattle.free_space.proofs.DecodeLaws.{decode-stored, region-form}
 use Rattle.free_space.proofs.ListLaws.{listed, is-list-else}
-use Rattle.pairs.proofs.PairLaws.{length-decode, length-flat}
 use Rattle.pairs.specs.Pairs.{capacity}
-
--- ---- an outcome, along the conditions of its definition
-
-abbrev pub Says : {A : Type 0} → (A → Type 0) → Type 0 → (ℕ → List ℕ → Type 0) → Outcome A → Type 0
-Says P N R (answer a) = P a
-Says P N R nothing = N
-Says P N R (refuse n vs) = R n vs
-
-pub record Ends {A : Type 0} (P : A → Type 0) (N : Type 0) (R : ℕ → List ℕ → Type 0) (o : Outcome A) : Type 0 where
-  pub says : Says P N R o
-
-module _ {A : Type 0} {P : A → Type 0} {N : Type 0} {R : ℕ → List ℕ → Type 0} where
-  answers : {a : A} → P a → Ends P N R (answer a)
-  answers p = record { says = p }
-
-  says-nothing : N → Ends P N R nothing
-  says-nothing p = record { says = p }
-
-  refuses : {n : ℕ} {vs : List ℕ} → R n vs → Ends P N R (refuse n vs)
-  refuses p = record { says = p }
-
-  chosen : (t : Bool) {x y : Outcome A} → (t ≡ true → Ends P N R x) → (t ≡ false → Ends P N R y) → Ends P N R (cond t x y)
-  chosen true f g = f refl
-  chosen false f g = g refl
-
-  untested : (x : Outcome A) → Ends P N R x → Ends P N R (firstOf [] x)
-  unfolding firstOf
-  untested x p = p
-
-  tested : (c : Condition) (cs : List Condition) (x : Outcome A) → (c .holds ≡ true → R (numberOf (c .refusal)) (valuesOf (c .refusal)))
-      → (c .holds ≡ false → Ends P N R (firstOf cs x)) → Ends P N R (firstOf (c ∷ cs) x)
-  unfolding firstOf
-  tested c cs x f g = chosen (c .holds) (λ t. refuses (f t)) g
+use Rattle.pairs.proofs.PairLaws.{length-decode, length-flat}
+use Rattle.free_lists.specs.CallsSay.{Passes, Refuses, three, four, five, six, fourteen, CallSays, Leaves, FreeSays, TakeRangeSays, TwoLeft, ServeSays, AllocSays, PartUnit, UnitsSays, lastOf, TrailingSays, CallsSay}
 
 -- ---- what an accepted call leaves
-
-pub record Leaves (Change : List FreeRegion → List FreeRegion → Type 0) (xs : List ℕ) (l : FreeList) (ys : List ℕ) (m : FreeList) : Type 0 where
-  pub given : isList xs l ≡ true
-  pub left : isList ys m ≡ true
-  pub bytes : Change (regions xs l) (regions ys m)
-  -- the places of the run after the regions that are left: 0 up to the old count, and then as they were
-  pub long : length ys ≡ length xs
-  pub cleared : (k : ℕ) → 2 * m .count ≤ k → k < 2 * l .count → getD ys k 0 ≡ 0
-  pub rest : (k : ℕ) → 2 * m .count ≤ k → 2 * l .count ≤ k → getD ys k 0 ≡ getD xs k 0
 
 zeros-at : (i n k : ℕ) (xs : List ℕ) → i ≤ k → k < i + n → getD (over i (replicate n 0) xs) k 0 ≡ 0
 zeros-at i n k [] h l = refl
@@ -124,46 +78,35 @@ leaves Change xs l rs ok w room c =
       rest = stored-rest xs (l .count) rs;
     }
 
--- ---- why a call refuses
-
--- over, shared, part and full are what 4, 5, 6 and 14 then say; ⊥ is a refusal that the call never gives
-pub data Refuses (xs : List ℕ) (l : FreeList) (over shared part full : Type 0) : ℕ → List ℕ → Type 0 where
-  three : isList xs l ≡ false → Refuses xs l over shared part full 3 []
-  four : over → Refuses xs l over shared part full 4 []
-  five : shared → Refuses xs l over shared part full 5 []
-  six : part → Refuses xs l over shared part full 6 []
-  fourteen : l .count ≡ capacity xs → full → Refuses xs l over shared part full 14 (suc (l .count) ∷ capacity xs ∷ [])
+-- ---- the order of the refusals
 
 module _ (xs : List ℕ) (l : FreeList) (over shared part full : Type 0) {A : Type 0} {P : With A (List ℕ) → Type 0} {N : Type 0} where
   -- refusal 3 first
-  on-list : (cs : List Condition) (x : Outcome (With A (List ℕ))) → (isList xs l ≡ true → Ends P N (Refuses xs l over shared part full) (firstOf cs x))
-      → Ends P N (Refuses xs l over shared part full) (firstOf (notList xs l ∷ cs) x)
+  on-list : (cs : List Condition) (x : Outcome (With A (List ℕ))) → (isList xs l ≡ true → CallSays xs l over shared part full P N (firstOf cs x))
+      → CallSays xs l over shared part full P N (firstOf (notList xs l ∷ cs) x)
   on-list cs x f = tested (notList xs l) cs x (λ t. three (not-true (isList xs l) t)) (λ t. f (not-false (isList xs l) t))
 
   -- the regions rs are left if the run has room for them; full says why they are more than before
-  places : (give : FreeList → A) (Change : List FreeRegion → List FreeRegion → Type 0) (rs : List FreeRegion) → isList xs l ≡ true
+  places : (give : FreeList → A) (Change : List FreeRegion → List FreeRegion → Type 0) (rs : List FreeRegion) → Passes xs l over shared part
       → Within 0 top rs → Change (regions xs l) rs → (l .count < length rs → (length rs ≡ suc (l .count)) × full)
       → (Leaves Change xs l (stored xs (l .count) rs) (recordOf rs) → P (with (give (recordOf rs)) (stored xs (l .count) rs)))
-      → Ends P N (Refuses xs l over shared part full) (placed give xs l rs)
-  places give Change rs ok w c more f = tested (noRoom xs rs) _ _ no-room (λ t. untested _ (answers (f (leaves Change xs l rs ok w (ltb-false (capacity xs) (length rs) t) c))))
+      → CallSays xs l over shared part full P N (placed give xs l rs)
+  places give Change rs ok w c more f =
+      tested (noRoom xs rs) _ _ no-room (λ t. untested _ (answers (ok, f (leaves Change xs l rs (ok .list) w (ltb-false (capacity xs) (length rs) t) c))))
     where
       no-room : ltb (capacity xs) (length rs) ≡ true → Refuses xs l over shared part full 14 (length rs ∷ capacity xs ∷ [])
       no-room t =
           let h : capacity xs < length rs = ltb-true (capacity xs) (length rs) t in
-          let k : l .count ≤ capacity xs = omega (arith, listed xs l ok .room) in
+          let k : l .count ≤ capacity xs = omega (arith, listed xs l (ok .list) .room) in
           let q = more (omega arith) in
           let e : suc (l .count) ≡ length rs = omega (arith, q .0) in
-          subst (λ (n : ℕ). Refuses xs l over shared part full 14 (n ∷ capacity xs ∷ [])) e (fourteen (omega (arith, q .0)) (q .1))
+          subst (λ (n : ℕ). Refuses xs l over shared part full 14 (n ∷ capacity xs ∷ [])) e (fourteen ok (omega (arith, q .0)) (q .1))
+
+-- none of 4, 5 and 6 is one of the call's refusals
+passes : (xs : List ℕ) (l : FreeList) → isList xs l ≡ true → Passes xs l ⊥ ⊥ ⊥
+passes xs l ok = record { list = ok; fits = λ t. t; fresh = λ t. t; whole = λ t. t }
 
 -- ---- `free` and `take_range`
-
--- a byte of both
-abbrev pub Shared : ℕ → ℕ → List FreeRegion → Type 0
-Shared a e rs = Common (Between a e) (Free rs)
-
-pub record Frees (a e : ℕ) (xs : List ℕ) (l : FreeList) (ys : List ℕ) (m : FreeList) : Type 0 where
-  pub fresh : Shared a e (regions xs l) → ⊥
-  pub leaves : Leaves (Adds a e) xs l ys m
 
 module _ (xs : List ℕ) (l : FreeList) where
   within : isList xs l ≡ true → Within 0 top (regions xs l)
@@ -177,86 +120,70 @@ module _ (xs : List ℕ) (l : FreeList) where
   grew rs full ok g h = let n = long ok in ⊎-elim (λ p. absurd (omega arith)) (λ p. (omega arith, p .1)) g
 
   module _ (a len : ℕ) where
-    abbrev pub FreeEnds : Outcome (With FreeList (List ℕ)) → Type 0
-    FreeEnds = Ends (λ w. Frees a (a + len) xs l (w .memory) (w .value)) ⊥
-        (Refuses xs l (top < a + len) (Shared a (a + len) (regions xs l)) ⊥ (Apart a (a + len) (regions xs l)))
+    fit : ltb top (a + len) ≡ false → top < a + len → ⊥
+    fit o h = let k : a + len ≤ top = ltb-false top (a + len) o in omega arith
 
-    pub free-law : FreeEnds (freed xs l a len)
+    pub free-law : FreeSays xs l a len (freed xs l a len)
     unfolding freed
     free-law =
-        on-list xs l _ _ _ _ _ _ (λ ok. tested (overflows a len) _ _ (λ t. four (ltb-true top (a + len) t))
-        (λ o. tested _ _ _ (λ t. five (shares-byte (region a len) (regions xs l) .0 t))
-        (λ s. untested _ (by-zero ok (ltb-false top (a + len) o) (λ q. true-not-false (shares (region a len) (regions xs l)) (shares-byte (region a len) (regions xs l) .1 q) s) (eqb len 0) refl))))
+        on-list xs l _ _ _ _ _ _ (λ ok. tested (overflows a len) _ _ (λ t. four ok (ltb-true top (a + len) t))
+        (λ o. tested _ _ _ (λ t. five ok (fit o) (shares-byte (region a len) (regions xs l) .0 t))
+        (λ s. untested _ (by-zero (record {
+          list = ok;
+          fits = fit o;
+          fresh = λ q. true-not-false (shares (region a len) (regions xs l)) (shares-byte (region a len) (regions xs l) .1 q) s;
+          whole = λ t. t;
+        }) (eqb len 0) refl))))
       where
-        by-zero : isList xs l ≡ true → a + len ≤ top → (Shared a (a + len) (regions xs l) → ⊥) → (b : Bool) → eqb len 0 ≡ b
-            → FreeEnds (placed keeping xs l (cond b (regions xs l) (insert (region a len) (regions xs l))))
-        by-zero ok h f true t =
+        by-zero : Passes xs l (top < a + len) (Shared a (a + len) (regions xs l)) ⊥ → (b : Bool) → eqb len 0 ≡ b
+            → FreeSays xs l a len (placed keeping xs l (cond b (regions xs l) (insert (region a len) (regions xs l))))
+        by-zero p true t =
             let z : len ≡ 0 = eqb-true len 0 t in
-            let n = long ok in
-            places xs l _ _ _ _ keeping (Adds a (a + len)) (regions xs l) ok (within ok) (λ x. (inr, ⊎-elim (λ u. absurd (omega arith)) (λ f. f)))
-            (λ g. absurd (omega arith)) (λ p. record { fresh = f; leaves = p })
-        by-zero ok h f false t =
+            let n = long (p .list) in
+            places xs l _ _ _ _ keeping (Adds a (a + len)) (regions xs l) p (within (p .list)) (λ x. (inr, ⊎-elim (λ u. absurd (omega arith)) (λ f. f)))
+            (λ g. absurd (omega arith)) (λ q. q)
+        by-zero p false t =
             let z : len ≡ 0 → ⊥ = eqb-false len 0 t in
             let new = region a len in
             let rs = regions xs l in
-            places xs l _ _ _ _ keeping (Adds a (a + len)) (insert new rs) ok (insert-within 0 top new rs (within ok) (omega arith) (omega arith) h)
-            (insert-free 0 top new rs (within ok)) (grew (insert new rs) _ ok (insert-long 0 top new rs (within ok))) (λ p. record { fresh = f; leaves = p })
+            let h : a + len ≤ top = ⊎-elim (λ k. k) (λ k. absurd (p .fits k)) (le-or-lt (a + len) top) in
+            places xs l _ _ _ _ keeping (Adds a (a + len)) (insert new rs) p (insert-within 0 top new rs (within (p .list)) (omega arith) (omega arith) h)
+            (insert-free 0 top new rs (within (p .list)))
+            (λ h. let g = grew (insert new rs) _ (p .list) (insert-long 0 top new rs (within (p .list))) h in (g .0, (omega arith, g .1))) (λ q. q)
 
-    abbrev pub TakeEnds : Outcome (With FreeList (List ℕ)) → Type 0
-    TakeEnds = Ends (λ w. Leaves (Removes a (a + len)) xs l (w .memory) (w .value)) ⊥ (Refuses xs l (top < a + len) ⊥ ⊥ (Strict a (a + len) (regions xs l)))
-
-    pub take-law : TakeEnds (rangeTaken xs l a len)
+    pub take-law : TakeRangeSays xs l a len (rangeTaken xs l a len)
     unfolding rangeTaken
     take-law =
-        on-list xs l _ _ _ _ _ _ (λ ok. tested (overflows a len) _ _ (λ t. four (ltb-true top (a + len) t))
-        (λ o. untested _ (by-zero ok (eqb len 0) refl)))
+        on-list xs l _ _ _ _ _ _ (λ ok. tested (overflows a len) _ _ (λ t. four ok (ltb-true top (a + len) t))
+        (λ o. untested _ (by-zero (record { list = ok; fits = fit o; fresh = λ t. t; whole = λ t. t }) (eqb len 0) refl)))
       where
-        by-zero : isList xs l ≡ true → (b : Bool) → eqb len 0 ≡ b → TakeEnds (placed keeping xs l (cond b (regions xs l) (cutAll a (a + len) (regions xs l))))
-        by-zero ok true t =
+        by-zero : Passes xs l (top < a + len) ⊥ ⊥ → (b : Bool) → eqb len 0 ≡ b → TakeRangeSays xs l a len (placed keeping xs l (cond b (regions xs l) (cutAll a (a + len) (regions xs l))))
+        by-zero p true t =
             let z : len ≡ 0 = eqb-true len 0 t in
-            let n = long ok in
-            places xs l _ _ _ _ keeping (Removes a (a + len)) (regions xs l) ok (within ok) (λ x. (λ f. (f, λ u. omega arith), λ p. p .0))
-            (λ g. absurd (omega arith)) (λ p. p)
-        by-zero ok false t =
+            let n = long (p .list) in
+            places xs l _ _ _ _ keeping (Removes a (a + len)) (regions xs l) p (within (p .list)) (λ x. (λ f. (f, λ u. omega arith), λ q. q .0))
+            (λ g. absurd (omega arith)) (λ q. q)
+        by-zero p false t =
             let z : len ≡ 0 → ⊥ = eqb-false len 0 t in
             let some : a < a + len = omega arith in
             let rs = regions xs l in
-            places xs l _ _ _ _ keeping (Removes a (a + len)) (cutAll a (a + len) rs) ok (cut-all-within a (a + len) some 0 top rs (within ok))
-            (cut-all-free a (a + len) some rs) (grew (cutAll a (a + len) rs) _ ok (cut-all-long a (a + len) some 0 top rs (within ok))) (λ p. p)
+            places xs l _ _ _ _ keeping (Removes a (a + len)) (cutAll a (a + len) rs) p (cut-all-within a (a + len) some 0 top rs (within (p .list)))
+            (cut-all-free a (a + len) some rs)
+            (λ h. let g = grew (cutAll a (a + len) rs) _ (p .list) (cut-all-long a (a + len) some 0 top rs (within (p .list))) h in (g .0, (omega arith, g .1))) (λ q. q)
 
 -- ---- allocations
 
-pub record Serves (span : FreeRegion → ℕ) (Address : FreeRegion → ℕ → Type 0) (len : ℕ) (xs : List ℕ) (l : FreeList) (g : Gave) (ys : List ℕ) : Type 0 where
-  pub place : ℕ
-  pub some : 0 < len
-  pub best : Best span len (regions xs l) place
-  pub address : Address (nth (regions xs l) place) (g .addr)
-  pub were : (x : ℕ) → Between (g .addr) (g .addr + len) x → Free (regions xs l) x
-  pub leaves : Leaves (Removes (g .addr) (g .addr + len)) xs l ys (g .list)
-
-pub record TwoLeft (span start : FreeRegion → ℕ) (len : ℕ) (rs : List FreeRegion) : Type 0 where
-  pub place : ℕ
-  pub some : 0 < len
-  pub best : Best span len rs place
-  pub before : (nth rs place) .addr < start (nth rs place)
-  pub after : start (nth rs place) + len < end (nth rs place)
-
--- part and full say when it refuses with 6 and 14
-abbrev pub ServeEnds : List ℕ → FreeList → (FreeRegion → ℕ) → (FreeRegion → ℕ → Type 0) → ℕ → Type 0 → Type 0 → Outcome (With Gave (List ℕ)) → Type 0
-ServeEnds xs l span Address len part full =
-    Ends (λ w. Serves span Address len xs l (w .value) (w .memory)) ((len ≡ 0) ⊎ NoneSuffices span len (regions xs l)) (Refuses xs l ⊥ ⊥ part full)
-
 module _ (xs : List ℕ) (l : FreeList) (span start : FreeRegion → ℕ) (Address : FreeRegion → ℕ → Type 0) (len : ℕ) (part full : Type 0) where
   -- inside says that a region which suffices does so from start on
-  served : isList xs l ≡ true → ((r : FreeRegion) → 0 < len → len ≤ span r → (r .addr ≤ start r) × (start r + len ≤ end r) × Address r (start r))
-      → (TwoLeft span start len (regions xs l) → full) → ServeEnds xs l span Address len part full (cond (eqb len 0) nothing (serve start xs l len (best span len 0 (regions xs l))))
-  served ok inside two = chosen (eqb len 0) (λ z. says-nothing (inl (eqb-true len 0 z))) (λ z. by-found (eqb-false len 0 z) (best span len 0 (regions xs l)) refl)
+  served : Passes xs l ⊥ ⊥ part → ((r : FreeRegion) → 0 < len → len ≤ span r → (r .addr ≤ start r) × (start r + len ≤ end r) × Address r (start r))
+      → (TwoLeft span start len (regions xs l) → full) → ServeSays xs l span Address len part full (cond (eqb len 0) nothing (serve start xs l len (best span len 0 (regions xs l))))
+  served p inside two = chosen (eqb len 0) (λ z. says-nothing (p, inl (eqb-true len 0 z))) (λ z. by-found (eqb-false len 0 z) (best span len 0 (regions xs l)) refl)
     where
       rs : List FreeRegion
       rs = regions xs l
 
-      by-found : (len ≡ 0 → ⊥) → (f : Found) → best span len 0 (regions xs l) ≡ f → ServeEnds xs l span Address len part full (serve start xs l len f)
-      by-found z none e = says-nothing (inr (best-none span len rs e))
+      by-found : (len ≡ 0 → ⊥) → (f : Found) → best span len 0 (regions xs l) ≡ f → ServeSays xs l span Address len part full (serve start xs l len f)
+      by-found z none e = says-nothing (p, inr (best-none span len rs e))
       by-found z (at i s) e =
           let b = best-at span len rs i s e in
           let r = nth rs i in
@@ -264,63 +191,53 @@ module _ (xs : List ℕ) (l : FreeList) (span start : FreeRegion → ℕ) (Addre
           let some : 0 < len = omega arith in
           let q = inside r some (b .suffices) in
           let ss = spliced rs i (suc i) (around r from len) in
-          places xs l _ _ _ _ (giving from) (Removes from (from + len)) ss ok
-          (taken-within 0 top i from len rs (region 0 0) (within xs l ok) (b .there) some (q .0) (q .1))
-          (taken-free 0 top i from len rs (region 0 0) (within xs l ok) (b .there) some (q .0) (q .1))
+          let w = within xs l (p .list) in
+          places xs l _ _ _ _ (giving from) (Removes from (from + len)) ss p
+          (taken-within 0 top i from len rs (region 0 0) w (b .there) some (q .0) (q .1))
+          (taken-free 0 top i from len rs (region 0 0) w (b .there) some (q .0) (q .1))
           (λ h.
-          let g = grew xs l ss _ ok (taken-long i from len rs (region 0 0) (b .there)) h in
+          let g = grew xs l ss _ (p .list) (taken-long i from len rs (region 0 0) (b .there)) h in
           (g .0, two (record { place = i; some = some; best = b; before = g .1 .0; after = g .1 .1 })))
-          (λ p. record {
+          (λ t. record {
             place = i;
             some = some;
             best = b;
             address = q .2;
-            were = were-free 0 top i from len rs (region 0 0) (within xs l ok) (b .there) some (q .0) (q .1);
-            leaves = p;
+            were = were-free 0 top i from len rs (region 0 0) w (b .there) some (q .0) (q .1);
+            leaves = t;
           })
 
-part-unit : (len unit : ℕ) → (not (eqb unit 0) && not (eqb (len % unit) 0)) ≡ true → (unit ≡ 0 → ⊥) × (len % unit ≡ 0 → ⊥)
-part-unit len unit t =
-    let p = and-true (not (eqb unit 0)) (not (eqb (len % unit) 0)) t in
-    (eqb-false unit 0 (not-true (eqb unit 0) (p .0)), eqb-false (len % unit) 0 (not-true (eqb (len % unit) 0) (p .1)))
+part-unit : (len unit : ℕ) → (not (eqb unit 0) && not (eqb (len % unit) 0)) ≡ true ↔ PartUnit len unit
+part-unit len unit = (
+  λ t. let p = and-true (not (eqb unit 0)) (not (eqb (len % unit) 0)) t in
+      (eqb-false unit 0 (not-true (eqb unit 0) (p .0)), eqb-false (len % unit) 0 (not-true (eqb (len % unit) 0) (p .1))),
+  λ p. rw (ne-eqb unit 0 (p .0), ne-eqb (len % unit) 0 (p .1)) refl,
+)
 
 module _ (xs : List ℕ) (l : FreeList) (len : ℕ) where
-  -- from the front; never 14
-  pub alloc-law : ServeEnds xs l (λ r. r .len) (λ r p. p ≡ r .addr) len ⊥ ⊥ (allocated xs l len)
+  -- from the front, so that no bytes are left before it
+  pub alloc-law : AllocSays xs l len (allocated xs l len)
   unfolding allocated
   alloc-law =
       on-list xs l _ _ _ _ _ _
-      (λ ok. untested _ (served xs l (λ r. r .len) (λ r. r .addr) (λ r p. p ≡ r .addr) len ⊥ ⊥ ok
+      (λ ok. untested _ (served xs l (λ r. r .len) (λ r. r .addr) (λ r p. p ≡ r .addr) len ⊥ ⊥ (passes xs l ok)
       (λ r some h. (omega arith, omega arith, refl)) (λ q. let h = q .before in omega arith)))
 
-  pub units-law : (unit : ℕ) → ServeEnds xs l (interiorSpan unit) (λ r p. FirstMultiple unit (r .addr) p) len
-      ((unit ≡ 0 → ⊥) × (len % unit ≡ 0 → ⊥)) (TwoLeft (interiorSpan unit) (interiorStart unit) len (regions xs l)) (allocatedUnits xs l len unit)
+  pub units-law : (unit : ℕ) → UnitsSays xs l len unit (allocatedUnits xs l len unit)
   unfolding allocatedUnits
   units-law unit =
       on-list xs l _ _ _ _ _ _
-      (λ ok. tested _ _ _ (λ t. six (part-unit len unit t))
-      (λ t. untested _ (served xs l (interiorSpan unit) (interiorStart unit) (λ r p. FirstMultiple unit (r .addr) p) len _ _ ok
-      (λ r some h. let q = interior-inside unit len r some h in let m = first-multiple (r .addr) unit (q .0) in (m .above, q .1, m)) (λ q. q))))
+      (λ ok. tested _ _ _ (λ t. six ok (λ v. v) (λ v. v) (part-unit len unit .0 t))
+      (λ t. untested _ (served xs l (interiorSpan unit) (interiorStart unit) (λ r p. FirstMultiple unit (r .addr) p) len _ _
+      (record { list = ok; fits = λ v. v; fresh = λ v. v; whole = λ q. true-not-false (partUnit len unit) (part-unit len unit .1 q) t })
+      (λ r some h. let q = interior-inside unit len r some h in let m = first-multiple unit (q .0) (r .addr) in (m .above, q .1, m)) (λ q. q))))
 
 -- ---- `take_trailing`
 
-abbrev pub lastOf : List FreeRegion → FreeRegion
-lastOf rs = nth rs (length rs - 1)
-
-pub record Drops (eof : ℕ) (xs : List ℕ) (l : FreeList) (g : Gave) (ys : List ℕ) : Type 0 where
-  pub some : 0 < length (regions xs l)
-  pub ends : end (lastOf (regions xs l)) ≡ eof
-  pub address : g .addr ≡ (lastOf (regions xs l)) .addr
-  pub leaves : Leaves (Removes (g .addr) eof) xs l ys (g .list)
-
 module _ (xs : List ℕ) (l : FreeList) (eof : ℕ) where
-  abbrev pub TrailingEnds : Outcome (With Gave (List ℕ)) → Type 0
-  TrailingEnds = Ends (λ w. Drops eof xs l (w .value) (w .memory)) ((length (regions xs l) ≡ 0) ⊎ (end (lastOf (regions xs l)) ≡ eof → ⊥)) (Refuses xs l ⊥ ⊥ ⊥ ⊥)
-
-  -- never 14
-  pub trailing-law : TrailingEnds (trailingTaken xs l eof)
+  pub trailing-law : TrailingSays xs l eof (trailingTaken xs l eof)
   unfolding trailingTaken
-  trailing-law = on-list xs l _ _ _ _ _ _ (λ ok. untested _ (by-last ok (eqb (length rs) 0) refl (eqb (end (lastOf rs)) eof) refl))
+  trailing-law = on-list xs l _ _ _ _ _ _ (λ ok. untested _ (by-last (passes xs l ok) (eqb (length rs) 0) refl (eqb (end (lastOf rs)) eof) refl))
     where
       rs : List FreeRegion
       rs = regions xs l
@@ -328,16 +245,28 @@ module _ (xs : List ℕ) (l : FreeList) (eof : ℕ) where
       ss : List FreeRegion
       ss = spliced rs (length rs - 1) (suc (length rs - 1)) []
 
-      by-last : isList xs l ≡ true → (e : Bool) → eqb (length rs) 0 ≡ e → (f : Bool) → eqb (end (lastOf rs)) eof ≡ f
-          → TrailingEnds (cond (not e && f) (placed (giving ((lastOf rs) .addr)) xs l ss) nothing)
-      by-last ok true t f u = says-nothing (inl (eqb-true (length rs) 0 t))
-      by-last ok false t false u = says-nothing (inr (eqb-false (end (lastOf rs)) eof u))
-      by-last ok false t true u =
+      by-last : Passes xs l ⊥ ⊥ ⊥ → (e : Bool) → eqb (length rs) 0 ≡ e → (f : Bool) → eqb (end (lastOf rs)) eof ≡ f
+          → TrailingSays xs l eof (cond (not e && f) (placed (giving ((lastOf rs) .addr)) xs l ss) nothing)
+      by-last p true t f u = says-nothing (p, inl (eqb-true (length rs) 0 t))
+      by-last p false t false u = says-nothing (p, inr (eqb-false (end (lastOf rs)) eof u))
+      by-last p false t true u =
           let z : length rs ≡ 0 → ⊥ = eqb-false (length rs) 0 t in
           let e : end (lastOf rs) ≡ eof = eqb-true (end (lastOf rs)) eof u in
           let last = length rs - 1 in
-          let n = long xs l ok in
+          let n = long xs l (p .list) in
+          let w = within xs l (p .list) in
           let k : last < length rs = omega arith in
           let d = region 0 0 in
-          places xs l _ _ _ _ (giving ((lastOf rs) .addr)) (Removes ((lastOf rs) .addr) eof) ss ok (dropped-within 0 top last rs d (within xs l ok) k)
-          (rw e at (dropped-free 0 top last rs d (within xs l ok) k)) (λ h. absurd (omega (arith, dropped-long last rs k))) (λ p. record { some = omega arith; ends = e; address = refl; leaves = p })
+          places xs l _ _ _ _ (giving ((lastOf rs) .addr)) (Removes ((lastOf rs) .addr) eof) ss p (dropped-within 0 top last rs d w k)
+          (rw e at (dropped-free 0 top last rs d w k)) (λ h. absurd (omega (arith, dropped-long last rs k))) (λ q. record { some = omega arith; ends = e; address = refl; leaves = q })
+
+-- ---- all five
+
+pub calls-say : (xs : List ℕ) (l : FreeList) → CallsSay xs l
+calls-say xs l = record {
+  free = free-law xs l;
+  take-range = take-law xs l;
+  alloc = alloc-law xs l;
+  alloc-whole-units = units-law xs l;
+  take-trailing = trailing-law xs l;
+}

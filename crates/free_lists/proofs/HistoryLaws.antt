@@ -9,11 +9,12 @@ use borrow.Author.Tests.{le-leb, lt-leb, lt-ltb, le-ltb}
 use lib.Dec.{eqb}
 use lib.ListN.{length}
 use Rattle.error.specs.Outcome.{Outcome, answer, nothing, refuse}
+use Rattle.error.specs.Ends.{Ends}
 use Rattle.error.specs.Lent.{With, leaving}
 use Rattle.error.proofs.TestLaws.{le-or-lt, true-not-false}
 use Rattle.fields.specs.Ranges.{Range}
 use Rattle.free_regions.specs.Regions.{Free}
-use Rattle.free_regions.proofs.SetLaws.{Between, Adds, Removes}
+use Rattle.free_regions.specs.Sets.{Between, Adds, Removes}
 use Rattle.free_space.specs.declared.list.FreeList.{FreeList}
 use Rattle.free_space.specs.Runs.{isList}
 use Rattle.free_space.specs.Calls.{keeping}
@@ -24,7 +25,8 @@ use Rattle.free_lists.specs.declared.calls.ListCall.{ListCall}
 use Rattle.free_lists.specs.declared.calls.ListCall.the-variants as call
 use Rattle.free_lists.specs.Lists.{LentList, listIn, regionsOf, same, Lists}
 use Rattle.free_lists.specs.History.{Effect, effect, bytes, perform, CallOn, next, run, begun, Last, never, was, holds, goesOver, later, lastOver, wasFree, ByHistory}
-use Rattle.free_lists.proofs.CallLaws.{Ends, Leaves, free-law, take-law, alloc-law, units-law, trailing-law}
+use Rattle.free_lists.specs.CallsSay.{Leaves}
+use Rattle.free_lists.proofs.CallLaws.{free-law, take-law, alloc-law, units-law, trailing-law}
 
 -- whether a byte is free after the last call over it, where F tells whether it was before all of them
 abbrev Now : Last → Type 0 → Type 0
@@ -76,11 +78,11 @@ module _ {A : Type 0} {P : With A (List ℕ) → Type 0} {N : Type 0} {R : ℕ �
   goes (refuse n vs) e f = record { list = refl; free = λ b. (λ t. t, λ t. t) }
 
 performed : (c : ListCall) (l : LentList) → Good c l (perform c l)
-performed (call.Free a n) l = goes keeping _ (call.Free a n) l _ (free-law (l .run) (l .list) a n) (λ w p. adds (call.Free a n) l a (a + n) (w .memory) (w .value) refl (p .leaves))
-performed (call.Alloc n) l = goes _ _ (call.Alloc n) l _ (alloc-law (l .run) (l .list) n) (λ w p. removes (call.Alloc n) l _ _ _ _ refl (p .leaves))
-performed (call.AllocWholeUnits n u) l = goes _ _ (call.AllocWholeUnits n u) l _ (units-law (l .run) (l .list) n u) (λ w p. removes (call.AllocWholeUnits n u) l _ _ _ _ refl (p .leaves))
-performed (call.TakeRange a n) l = goes _ _ (call.TakeRange a n) l _ (take-law (l .run) (l .list) a n) (λ w p. removes (call.TakeRange a n) l _ _ _ _ refl p)
-performed (call.TakeTrailing e) l = goes _ _ (call.TakeTrailing e) l _ (trailing-law (l .run) (l .list) e) (λ w p. removes (call.TakeTrailing e) l _ _ _ _ refl (p .leaves))
+performed (call.Free a n) l = goes keeping _ (call.Free a n) l _ (free-law (l .run) (l .list) a n) (λ w p. adds (call.Free a n) l a (a + n) (w .memory) (w .value) refl (p .1))
+performed (call.Alloc n) l = goes _ _ (call.Alloc n) l _ (alloc-law (l .run) (l .list) n) (λ w p. removes (call.Alloc n) l _ _ _ _ refl (p .1 .leaves))
+performed (call.AllocWholeUnits n u) l = goes _ _ (call.AllocWholeUnits n u) l _ (units-law (l .run) (l .list) n u) (λ w p. removes (call.AllocWholeUnits n u) l _ _ _ _ refl (p .1 .leaves))
+performed (call.TakeRange a n) l = goes _ _ (call.TakeRange a n) l _ (take-law (l .run) (l .list) a n) (λ w p. removes (call.TakeRange a n) l _ _ _ _ refl (p .1))
+performed (call.TakeTrailing e) l = goes _ _ (call.TakeTrailing e) l _ (trailing-law (l .run) (l .list) e) (λ w p. removes (call.TakeTrailing e) l _ _ _ _ refl (p .1 .leaves))
 
 -- ---- calls in a row
 

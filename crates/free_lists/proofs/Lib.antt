@@ -3,3 +3,4 @@ pub mod HistoryLaws
 pub mod SharingLaws
 pub mod TrailingLaws
 pub mod ApplyLaws
+pub mod RunLaws

@@ -2,3 +2,5 @@ pub mod Lists
 pub mod Trailing
 pub mod History
 pub mod Walks
+pub mod CallsSay
+pub mod ListsSay

@@ -1,7 +1,4 @@
 -- What `best` finds, of any span. Assumes nothing.
---   nth            the region at a place of a list
---   NoneSuffices   no region of a list has the span that is asked for
---   Best           the region at a place suffices, none that suffices has a smaller span, and none with as small a span stands before it
 use mathlib.Core.Path.{_≡_, refl, subst}
 use mathlib.Core.List.{List, [], _∷_}
 use mathlib.Core.Logic.{⊎-elim}
@@ -9,22 +6,11 @@ use Prim.Native.Nat.{ℕ, zero, suc, _+_, _≤_, _<_}
 use native.Mathlib.Nat.{not-suc-le-zero, le-of-suc-le-suc}
 use native.Mathlib.Omega.{arith}
 use borrow.Author.Tests.{le-leb, lt-leb}
-use lib.ListN.{length, getD}
+use lib.ListN.{length}
 use Rattle.error.proofs.TestLaws.{le-or-lt}
 use Rattle.free_regions.specs.declared.FreeRegion.{FreeRegion}
-use Rattle.free_regions.specs.Regions.{region, Found, none, at, oneAt, lower, best}
-
-abbrev pub nth : List FreeRegion → ℕ → FreeRegion
-nth rs i = getD rs i (region 0 0)
-
-abbrev pub NoneSuffices : (FreeRegion → ℕ) → ℕ → List FreeRegion → Type 0
-NoneSuffices span len rs = (j : ℕ) → j < length rs → span (nth rs j) < len
-
-pub record Best (span : FreeRegion → ℕ) (len : ℕ) (rs : List FreeRegion) (i : ℕ) : Type 0 where
-  pub there : i < length rs
-  pub suffices : len ≤ span (nth rs i)
-  pub least : (j : ℕ) → j < length rs → len ≤ span (nth rs j) → span (nth rs i) ≤ span (nth rs j)
-  pub lowest : (j : ℕ) → j < i → len ≤ span (nth rs j) → span (nth rs i) < span (nth rs j)
+use Rattle.free_regions.specs.Regions.{Found, none, at, oneAt, lower, best}
+use Rattle.free_regions.specs.Sets.{nth, NoneSuffices, Best}
 
 module _ (span : FreeRegion → ℕ) (len : ℕ) where
   -- what was found among regions of which the first stands at i

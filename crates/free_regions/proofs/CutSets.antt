@@ -1,6 +1,5 @@
 -- What `take_range` does to the set of free bytes, and when a change leaves a region more than there was. Assumes nothing.
---   Apart    no region of a list touches a range, so that nothing folds
---   Strict   a range lies strictly inside one region of a list
+--   Grows   a list has a region more than another, exactly where something holds
 use mathlib.Core.Path.{_≡_, refl, sym, ap, ap₂, _∙_, subst}
 use mathlib.Core.List.{List, [], _∷_, _++_}
 use mathlib.Core.Bool.{Bool, true, false, cond}
@@ -14,8 +13,9 @@ use lib.ListN.{length, getD, length-append}
 use Rattle.error.proofs.TestLaws.{le-or-lt}
 use Rattle.free_regions.specs.declared.FreeRegion.{FreeRegion}
 use Rattle.free_regions.specs.Regions.{region, end, In, Free, join, absorb, insert, piece, cut, cutAll, around, spliced}
+use Rattle.free_regions.specs.Sets.{Between, Removes, TouchesNone, StrictlyInside}
 use Rattle.free_regions.proofs.OkLaws.{Within}
-use Rattle.free_regions.proofs.SetLaws.{Between, Removes, piece-within, piece-free, append-within, free-append, within-low}
+use Rattle.free_regions.proofs.SetLaws.{piece-within, piece-free, append-within, free-append, within-low}
 
 -- ---- the set
 
@@ -122,11 +122,7 @@ taken-long i start len rs d l =
     ⊎-elim (λ p. inl (omega arith, λ t. p .1 (omega arith, omega arith))) (λ p. inr (omega arith, (omega arith, omega arith)))
     (pieces-long (r .addr) (start - r .addr) (start + len) (end r - (start + len)))
 
-abbrev pub Strict : ℕ → ℕ → List FreeRegion → Type 0
-Strict a e [] = ⊥
-Strict a e (r ∷ rs) = ((r .addr < a) × (e < end r)) ⊎ Strict a e rs
-
-strict-low : (a e low high : ℕ) (rs : List FreeRegion) → Within low high rs → Strict a e rs → low < a
+strict-low : (a e low high : ℕ) (rs : List FreeRegion) → Within low high rs → StrictlyInside a e rs → low < a
 strict-low a e low high [] w t = absurd t
 strict-low a e low high (r ∷ rs) w (inl t) = omega arith
 strict-low a e low high (r ∷ rs) w (inr t) = let q = strict-low a e (suc (end r)) high rs (w .3) t in omega arith
@@ -139,7 +135,7 @@ module _ (a e : ℕ) (h : a < e) where
       (λ p. inr (p .0, omega arith, omega arith))
       (pieces-long (r .addr) (min (end r) a - r .addr) (max e (r .addr)) (end r - max e (r .addr)))
 
-  pub cut-all-long : (low high : ℕ) (rs : List FreeRegion) → Within low high rs → Grows rs (cutAll a e rs) (Strict a e rs)
+  pub cut-all-long : (low high : ℕ) (rs : List FreeRegion) → Within low high rs → Grows rs (cutAll a e rs) (StrictlyInside a e rs)
   cut-all-long low high [] w = inl (omega arith, λ t. t)
   cut-all-long low high (r ∷ rs) w =
       let s : length (cut a e r ++ cutAll a e rs) ≡ length (cut a e r) + length (cutAll a e rs) = length-append (cut a e r) (cutAll a e rs) in
@@ -158,11 +154,7 @@ module _ (a e : ℕ) (h : a < e) where
       all-above low (r ∷ rs) w k =
           ap₂ (λ (p q : List FreeRegion). p ++ q) (cut-above a e r (omega arith) (w .0) (omega arith)) (all-above (suc (end r)) rs (w .3) (omega arith))
 
-abbrev pub Apart : ℕ → ℕ → List FreeRegion → Type 0
-Apart a e [] = Unit {0}
-Apart a e (r ∷ rs) = ((end r < a) ⊎ (e < r .addr)) × Apart a e rs
-
-apart-above : (a e low high : ℕ) (rs : List FreeRegion) → Within low high rs → e < low → Apart a e rs
+apart-above : (a e low high : ℕ) (rs : List FreeRegion) → Within low high rs → e < low → TouchesNone a e rs
 apart-above a e low high [] w h = tt
 apart-above a e low high (r ∷ rs) w h = (inr (omega arith), apart-above a e (suc (end r)) high rs (w .3) (omega arith))
 
@@ -174,12 +166,12 @@ absorb-long m (r ∷ rs) = go (leb (r .addr) (end m)) (absorb-long (join m r) rs
     go true ih = omega arith
     go false ih = omega arith
 
-pub insert-long : (low high : ℕ) (new : FreeRegion) (rs : List FreeRegion) → Within low high rs → Grows rs (insert new rs) (Apart (new .addr) (end new) rs)
+pub insert-long : (low high : ℕ) (new : FreeRegion) (rs : List FreeRegion) → Within low high rs → Grows rs (insert new rs) (TouchesNone (new .addr) (end new) rs)
 insert-long low high new [] w = inr (refl, tt)
 insert-long low high new (r ∷ rs) w = below (ltb (end r) (new .addr)) refl (insert-long (suc (end r)) high new rs (w .3))
   where
     P : Type 0
-    P = Apart (new .addr) (end new) rs
+    P = TouchesNone (new .addr) (end new) rs
 
     Q : Type 0
     Q = ((end r < new .addr) ⊎ (end new < r .addr)) × P

@@ -1,13 +1,12 @@
 -- Laws of a region's end and of its aligned interior: the cases of the definitions, in the code's terms. Assumes nothing.
 --   startOf, spanOf   where an interior begins, and its bytes; 0 where there is none
---   FirstMultiple     a number is the first multiple of a unit at or after another
 use mathlib.Core.Path.{_≡_, refl, sym, ap, ap₂, _∙_, subst}
 use mathlib.Core.Bool.{Bool, true, false, cond}
-use mathlib.Core.Logic.{⊎-elim}
+use mathlib.Core.Logic.{_⊎_, inl, inr, ⊎-elim}
 use Prim.Native.Nat.{ℕ, zero, suc, _+_, _-_, _*_, _/_, _%_, _≤_, _<_}
-use native.Mathlib.Nat.{div-add-mod', mul-mod-left, mul-le-mul-right, div-lt-iff-lt-mul, le-of-suc-le-suc, not-suc-le-zero, suc-mul}
+use native.Mathlib.Nat.{div-add-mod', mul-mod-left, mul-le-mul-right, div-lt-iff-lt-mul, mod-lt, add-mod-right, le-of-suc-le-suc, not-suc-le-zero, suc-mul}
 use native.Mathlib.Omega.{arith}
-use borrow.Author.Tests.{eq-eqb, ne-eqb, eqb-false, lt-ltb, le-ltb, ltb-false}
+use borrow.Author.Tests.{eq-eqb, ne-eqb, eqb-true, eqb-false, lt-ltb, le-ltb, ltb-true, ltb-false}
 use lib.Dec.{eqb}
 use Rattle.error.specs.declared.Number.{Number}
 use Rattle.error.specs.declared.Number.the-variants as number
@@ -16,6 +15,7 @@ use Rattle.error.specs.declared.Refusal.the-variants.{Overflow}
 use Rattle.error.specs.Outcome.{Outcome, answer, nothing, refuse, refused}
 use Rattle.error.specs.Answers.{numberOutcome}
 use Rattle.error.proofs.OutcomeLaws.{refuses, passes, first-answers}
+use Rattle.error.proofs.EndsLaws.{answers, says-nothing, chosen, untested, tested}
 use Rattle.error.proofs.TestLaws.{le-or-lt}
 use Rattle.fields.specs.Ranges.{top, sum, firstMultiple}
 use Rattle.fields.proofs.RangeLaws.{sum-is, first-at, first-after, first-ge}
@@ -23,6 +23,7 @@ use Rattle.free_regions.specs.declared.FreeRegion.{FreeRegion}
 use Rattle.free_regions.specs.declared.Interior.{Interior}
 use Rattle.free_regions.specs.Regions.{end}
 use Rattle.free_regions.specs.Units.{lastMultiple, interiorStart, interiorSpan, Whole, interior, interiorOutcome}
+use Rattle.free_regions.specs.Sets.{FirstMultiple, LastMultiple, Inside, NoneInside, four, InteriorSays}
 
 -- ---- what the answer for the end tells
 
@@ -145,18 +146,42 @@ interior-tells u r o x fits a h =
 
 -- ---- where an interior lies
 
-pub record FirstMultiple (u a s : ℕ) : Type 0 where
-  pub multiple : s % u ≡ 0
-  pub above : a ≤ s
-  pub first : s < a + u
+-- the greater of two multiples is at least a unit above the other
+unit-apart : (u m n : ℕ) → m % u ≡ 0 → n % u ≡ 0 → m < n → m + u ≤ n
+unit-apart u m n e f h =
+    let p = div-add-mod' m u in
+    let q = div-add-mod' n u in
+    ⊎-elim
+    (λ (k : n / u ≤ m / u). let t : n / u * u ≤ m / u * u = mul-le-mul-right u k in absurd (omega arith))
+    (λ (k : m / u < n / u). let t : suc (m / u) * u ≤ n / u * u = mul-le-mul-right u k in omega (arith, suc-mul (m / u) u))
+    (le-or-lt (n / u) (m / u))
 
-pub first-multiple : (a u : ℕ) → 0 < u → FirstMultiple u a (firstMultiple a u)
-unfolding firstMultiple
-first-multiple a u p = record {
-  multiple = mul-mod-left ((a + (u - 1)) / u) u;
-  above = first-ge a u p;
-  first = omega (arith, div-add-mod' (a + (u - 1)) u);
-}
+module _ (u : ℕ) (some : 0 < u) where
+  pub first-multiple : (a : ℕ) → FirstMultiple u a (firstMultiple a u)
+  unfolding firstMultiple
+  first-multiple a = record { multiple = is; above = first-ge a u some; first = λ m z h. ⊎-elim (λ k. k) (λ k. absurd (omega (arith, near, unit-apart u m s z is k))) (le-or-lt s m) }
+    where
+      s : ℕ
+      s = (a + (u - 1)) / u * u
+
+      is : s % u ≡ 0
+      is = mul-mod-left ((a + (u - 1)) / u) u
+
+      near : s < a + u
+      near = omega (arith, div-add-mod' (a + (u - 1)) u)
+
+  pub last-multiple : (e : ℕ) → LastMultiple u e (lastMultiple e u)
+  unfolding lastMultiple
+  last-multiple e = record { multiple = is; below = omega (arith, all); last = λ m z h. ⊎-elim (λ k. k) (λ k. absurd (omega (arith, all, mod-lt e some, unit-apart u s m is z k))) (le-or-lt m s) }
+    where
+      s : ℕ
+      s = e / u * u
+
+      is : s % u ≡ 0
+      is = mul-mod-left (e / u) u
+
+      all : s + e % u ≡ e
+      all = div-add-mod' e u
 
 -- an interior that suffices lies within its region; unit 0 has none
 pub interior-inside : (u len : ℕ) (r : FreeRegion) → 0 < len → len ≤ interiorSpan u r → (0 < u) × (interiorStart u r + len ≤ end r)
@@ -172,3 +197,50 @@ pub units-serve : (u : ℕ) (r : FreeRegion) (len start span : ℕ) → 0 < len 
 units-serve u r len start span some h is from =
     let at : start ≡ interiorStart u r = from (omega (arith, h, is)) in
     (at, omega (arith, at, interior-inside u len r some h .1))
+
+-- ---- what pins `aligned_interior`
+
+module _ (u : ℕ) (r : FreeRegion) where
+  abbrev from : ℕ
+  from = interiorStart u r
+
+  span-unit : (u ≡ 0 → ⊥) → interiorSpan u r ≡ lastMultiple (end r) u - from
+  span-unit n = rw (ne-eqb u 0 n)
+
+  none-inside : end r ≤ top → interiorSpan u r ≡ 0 → NoneInside u r
+  none-inside fits z = record { within = fits; none = go (eqb u 0) refl }
+    where
+      go : (b : Bool) → eqb u 0 ≡ b → (u ≡ 0) ⊎ ((m : ℕ) → m % u ≡ 0 → r .addr ≤ m → end r < m + u)
+      go true t = inl (eqb-true u 0 t)
+      go false t =
+          let n : u ≡ 0 → ⊥ = eqb-false u 0 t in
+          let some : 0 < u = omega arith in
+          inr (λ m w h.
+          let p : from ≤ m = first-multiple u some (r .addr) .first m w h in
+          ⊎-elim
+          (λ (k : m + u ≤ end r). let q : m + u ≤ lastMultiple (end r) u = last-multiple u some (end r) .last (m + u) (add-mod-right m u ∙ w) k in
+          absurd (omega (arith, z, span-unit n)))
+          (λ k. k)
+          (le-or-lt (m + u) (end r)))
+
+  inside : end r ≤ top → (interiorSpan u r ≡ 0 → ⊥) → Inside u r (record { start = from; span = interiorSpan u r })
+  inside fits n =
+      let k : 0 < interiorSpan u r = omega arith in
+      let p = interior-inside u (interiorSpan u r) r k (omega arith) in
+      let some : 0 < u = p .0 in
+      let e : from + interiorSpan u r ≡ lastMultiple (end r) u = omega (arith, span-unit (λ z. omega arith)) in
+      record {
+        within = fits;
+        unit = some;
+        some = k;
+        start = first-multiple u some (r .addr);
+        stop = subst (LastMultiple u (end r)) (sym e) (last-multiple u some (end r));
+      }
+
+  pub interior-law : InteriorSays u r
+  unfolding interior
+  interior-law = record {
+    says = tested _ _ _ (λ t. four (ltb-true top (end r) t)) (λ o. let fits : end r ≤ top = ltb-false top (end r) o in
+        untested _ (chosen (eqb (interiorSpan u r) 0) (λ z. says-nothing (none-inside fits (eqb-true (interiorSpan u r) 0 z)))
+        (λ z. answers (inside fits (eqb-false (interiorSpan u r) 0 z)))));
+  }

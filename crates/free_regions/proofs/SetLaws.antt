@@ -1,7 +1,4 @@
 -- What the list calls do to the set of free bytes: of `insert`, and of a region that gives way to regions within it. Assumes nothing.
---   Between   a byte lies from a place up to another
---   Adds      a list of regions holds what another does, and the bytes of a range
---   Removes   a list of regions holds what another does, but for the bytes of a range
 use mathlib.Core.Path.{_≡_, refl}
 use mathlib.Core.List.{List, [], _∷_, _++_}
 use mathlib.Core.Bool.{Bool, true, false, cond}
@@ -15,16 +12,8 @@ use lib.Dec.{leb, ltb, eqb}
 use Rattle.error.proofs.TestLaws.{le-or-lt}
 use Rattle.free_regions.specs.declared.FreeRegion.{FreeRegion}
 use Rattle.free_regions.specs.Regions.{region, end, In, Free, join, absorb, insert, spliced, piece, around}
+use Rattle.free_regions.specs.Sets.{Between, Adds, Removes}
 use Rattle.free_regions.proofs.OkLaws.{Within}
-
-abbrev pub Between : ℕ → ℕ → ℕ → Type 0
-Between a e x = (a ≤ x) × (x < e)
-
-abbrev pub Adds : ℕ → ℕ → List FreeRegion → List FreeRegion → Type 0
-Adds a e rs ss = (x : ℕ) → Free ss x ↔ (Between a e x ⊎ Free rs x)
-
-abbrev pub Removes : ℕ → ℕ → List FreeRegion → List FreeRegion → Type 0
-Removes a e rs ss = (x : ℕ) → Free ss x ↔ (Free rs x × (Between a e x → ⊥))
 
 pub in-or-out : (r : FreeRegion) (x : ℕ) → In r x ⊎ (In r x → ⊥)
 in-or-out r x =

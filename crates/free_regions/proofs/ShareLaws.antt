@@ -1,5 +1,4 @@
 -- Regions and lists of regions that share a byte: the tests hold exactly where some byte lies in both. Assumes nothing.
---   Common   some byte is one of two sets
 use mathlib.Core.Path.{_≡_, refl}
 use mathlib.Core.List.{List, [], _∷_}
 use mathlib.Core.Logic.{_⊎_, inl, inr, ⊎-elim, _↔_}
@@ -12,11 +11,9 @@ use lib.ListN.{length, take, drop, getD}
 use Rattle.error.proofs.TestLaws.{true-not-false}
 use Rattle.free_regions.specs.declared.FreeRegion.{FreeRegion}
 use Rattle.free_regions.specs.Regions.{end, In, Free, meets, shares, shareBytes}
+use Rattle.free_regions.specs.Sets.{Common}
 use Rattle.free_regions.proofs.OkLaws.{Within}
 use Rattle.free_regions.proofs.OrderLaws.{EndBefore}
-
-abbrev pub Common : (ℕ → Type 0) → (ℕ → Type 0) → Type 0
-Common P Q = (x : ℕ) × (P x) × (Q x)
 
 -- ---- exactly where some byte lies in both
 

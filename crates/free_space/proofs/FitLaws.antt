@@ -12,7 +12,8 @@ use lib.Dec.{leb, ltb}
 use Rattle.error.proofs.TestLaws.{le-or-lt}
 use Rattle.free_regions.specs.declared.FreeRegion.{FreeRegion}
 use Rattle.free_regions.specs.Regions.{region, Found, none, at, oneAt, lower, best}
-use Rattle.free_regions.proofs.BestLaws.{nth, best-at}
+use Rattle.free_regions.specs.Sets.{nth}
+use Rattle.free_regions.proofs.BestLaws.{best-at}
 use Rattle.pairs.proofs.PairLaws.{length-decode, decode-at, decode-drop, decode-end}
 use Rattle.free_space.specs.declared.list.FreeList.{FreeList}
 use Rattle.free_space.specs.declared.fit.Search.{Search}

@@ -13,4 +13,4 @@ pub mod SlotsLaws
 pub mod ReadLaws
 pub mod WrittenLaws
 pub mod ImageLaws
-pub mod EndsLaws
+pub mod NothingLaws

@@ -10,3 +10,4 @@ pub mod TakeLaws
 pub mod AddrLaws
 pub mod ChainLaws
 pub mod NextLaws
+pub mod LowestLaws

@@ -5,3 +5,4 @@ pub mod Sources
 pub mod Passes
 pub mod Runs
 pub mod Nexts
+pub mod NextSays

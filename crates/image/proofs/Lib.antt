@@ -1,4 +1,4 @@
 pub mod PlaceLaws
 pub mod CountLaws
 pub mod ImageLaws
-pub mod EndsLaws
+pub mod NothingLaws

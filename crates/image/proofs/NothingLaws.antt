@@ -4,9 +4,9 @@ use mathlib.Core.List.{List}
 use Prim.Native.Nat.{ℕ}
 use Rattle.error.specs.Outcome.{nothing}
 use Rattle.file_space_info.specs.Message.{fixedRead}
-use Rattle.fsm_blocks.proofs.EndsLaws.{Ends, first-ends, then-ends, slots-end}
+use Rattle.fsm_blocks.proofs.NothingLaws.{NotNothing, first-ends, then-ends, slots-end}
 use Rattle.image.specs.Reading.{readImage}
 
 pub read-image : (place : ℕ) (image : List ℕ) → readImage place image ≡ nothing → ⊥
 unfolding readImage fixedRead
-read-image place image e = subst Ends e (then-ends _ _ (first-ends _ _ tt) (λ m. slots-end 8 0 _ image))
+read-image place image e = subst NotNothing e (then-ends _ _ (first-ends _ _ tt) (λ m. slots-end 8 0 _ image))
