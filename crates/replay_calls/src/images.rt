@@ -64,6 +64,16 @@ fn say_run(counts: &[u64], run: &[u64]) -> Reply {
     Reply::Silent
 }
 
+fn read_into(image: &[u8], place: u64, run: &mut [u64]) -> Reply {
+    let read = read_image(image, place, run);
+    let answer = read.answer;
+    let counts = read.counts;
+    match answer {
+        ImageAnswer::Read => say_run(&counts, run),
+        ImageAnswer::Refused(r) => Reply::Refused(r),
+    }
+}
+
 // Reads into a lent run of as many numbers as asked for, each 7 before.
 pub(crate) fn image_into_call(args: &[u64], image: &[u8]) -> Reply {
     if args.len() != 2 {
@@ -71,15 +81,9 @@ pub(crate) fn image_into_call(args: &[u64], image: &[u8]) -> Reply {
     }
     let mut run = [7; 32768];
     let room = args[1];
-    if (run.len() as u64) < room {
+    if 32768 < room {
         return Reply::Bad;
     }
     let n = room as usize;
-    let read = read_image(image, args[0], &mut run[0..n]);
-    let answer = read.answer;
-    let counts = read.counts;
-    match answer {
-        ImageAnswer::Read => say_run(&counts, &run[0..n]),
-        ImageAnswer::Refused(r) => Reply::Refused(r),
-    }
+    read_into(image, args[0], &mut run[0..n])
 }
