@@ -39,7 +39,7 @@ pub fn are_lists(meta: &[u64], raw: &[u64], unclassified: &[u64], lists: FileLis
 }
 
 // The i-th region. A number that the run does not have is 0.
-fn region_at(run: &[u64], i: usize) -> FreeRegion
+fn nth_region(run: &[u64], i: usize) -> FreeRegion
     ensures { λ r. ⌜ r ≡ regionAt (now (run .entry)) i ⌝ }
 {
     let p = pair_at(run, i);
@@ -60,8 +60,8 @@ fn share_two(a: &[u64], n: usize, b: &[u64], m: usize) -> bool
         if m <= j {
             return false;
         }
-        let r = region_at(a, i);
-        let s = region_at(b, j);
+        let r = nth_region(a, i);
+        let s = nth_region(b, j);
         if r.addr + r.len <= s.addr {
             i += 1;
         } else {
@@ -127,7 +127,7 @@ fn height_of(run: &[u64], n: usize) -> u64
     if n == 0 {
         return 0;
     }
-    let last = region_at(run, n - 1);
+    let last = nth_region(run, n - 1);
     last.addr + 1
 }
 
@@ -145,7 +145,7 @@ fn highest(meta: &[u64], raw: &[u64], unclassified: &[u64], at: Cursors) -> Reac
         }
         let last = at.meta - 1;
         return Reached::At {
-            region: region_at(meta, last),
+            region: nth_region(meta, last),
             rest: Cursors {
                 meta: last,
                 raw: at.raw,
@@ -156,7 +156,7 @@ fn highest(meta: &[u64], raw: &[u64], unclassified: &[u64], at: Cursors) -> Reac
     if c <= b {
         let last = at.raw - 1;
         return Reached::At {
-            region: region_at(raw, last),
+            region: nth_region(raw, last),
             rest: Cursors {
                 meta: at.meta,
                 raw: last,
@@ -166,7 +166,7 @@ fn highest(meta: &[u64], raw: &[u64], unclassified: &[u64], at: Cursors) -> Reac
     }
     let last = at.unclassified - 1;
     Reached::At {
-        region: region_at(unclassified, last),
+        region: nth_region(unclassified, last),
         rest: Cursors {
             meta: at.meta,
             raw: at.raw,

@@ -9,24 +9,24 @@ use Rattle.free_lists.proofs.height_of.Tie as tie
 returns : tie.Need-returns
 returns c = search needs
 
-sub-region-at : tie.Need-sub-region-at
-sub-region-at c = search needs
+sub-nth-region : tie.Need-sub-nth-region
+sub-nth-region c = search needs
 
-region-at-requires : tie.Need-region-at-requires
-region-at-requires c κs = search needs
+nth-region-requires : tie.Need-nth-region-requires
+nth-region-requires c κs = search needs
 
 add-result : tie.Need-add-result
 add-result c =
     let a = c .before .before .before .before .args in
     let e : suc (a .n - 1) ≡ a .n = omega arith in
-    let l = last-of (a .n - 1) _ (c .before .before .before .before .pre) e (c .before .region-at .ensures) in
+    let l = last-of (a .n - 1) _ (c .before .before .before .before .pre) e (c .before .nth-region .ensures) in
     record { fits = omega (arith, l .within, l .some) }
 
 returns-2 : tie.Need-returns-2
 returns-2 c =
     let a = c .before .before .before .before .args in
     let e : suc (a .n - 1) ≡ a .n = omega arith in
-    omega (arith, last-of (a .n - 1) _ (c .before .before .before .before .pre) e (c .before .region-at .ensures) .high)
+    omega (arith, last-of (a .n - 1) _ (c .before .before .before .before .pre) e (c .before .nth-region .ensures) .high)
 
 pub height-of-spec : {M : Type 1} → statement M
-height-of-spec = tie.close (tie.spec returns sub-region-at region-at-requires add-result returns-2)
+height-of-spec = tie.close (tie.spec returns sub-nth-region nth-region-requires add-result returns-2)

@@ -33,29 +33,29 @@ returns c = reached-none (heights (c .before .before .before)) (omega arith) (c 
 sub-last : tie.Need-sub-last
 sub-last c = some-meta (heights (c .before .before .before .before)) (c .before .if2 .left)
 
-region-at-requires : tie.Need-region-at-requires
-region-at-requires c κs = search needs
+nth-region-requires : tie.Need-nth-region-requires
+nth-region-requires c κs = search needs
 
 returns-2 : tie.Need-returns-2
-returns-2 c = next-meta (heights (c .before .before .before .before .before)) _ (c .region-at .ensures) (omega arith) (c .before .before .if2 .left)
+returns-2 c = next-meta (heights (c .before .before .before .before .before)) _ (c .nth-region .ensures) (omega arith) (c .before .before .if2 .left)
 
 sub-last-2 : tie.Need-sub-last-2
 sub-last-2 c = some-raw (heights (c .before .before .before .before)) (omega arith) (omega arith)
 
-region-at-requires-2 : tie.Need-region-at-requires-2
-region-at-requires-2 c κs = search needs
+nth-region-requires-2 : tie.Need-nth-region-requires-2
+nth-region-requires-2 c κs = search needs
 
 returns-3 : tie.Need-returns-3
-returns-3 c = next-raw (heights (c .before .before .before .before .before)) _ (c .region-at2 .ensures) (omega arith) (omega arith)
+returns-3 c = next-raw (heights (c .before .before .before .before .before)) _ (c .nth-region2 .ensures) (omega arith) (omega arith)
 
 sub-last-3 : tie.Need-sub-last-3
 sub-last-3 c = some-unclassified (heights (c .before .before .before .before)) (omega arith) (omega arith)
 
-region-at-requires-3 : tie.Need-region-at-requires-3
-region-at-requires-3 c κs = search needs
+nth-region-requires-3 : tie.Need-nth-region-requires-3
+nth-region-requires-3 c κs = search needs
 
 returns-4 : tie.Need-returns-4
-returns-4 c = next-unclassified (heights (c .before .before .before .before .before)) _ (c .region-at3 .ensures) (omega arith) (omega arith)
+returns-4 c = next-unclassified (heights (c .before .before .before .before .before)) _ (c .nth-region3 .ensures) (omega arith) (omega arith)
 
 pub highest-spec : {M : Type 1} → statement M
 highest-spec =
@@ -67,11 +67,11 @@ highest-spec =
     max-requires
     returns
     sub-last
-    region-at-requires
+    nth-region-requires
     returns-2
     sub-last-2
-    region-at-requires-2
+    nth-region-requires-2
     returns-3
     sub-last-3
-    region-at-requires-3
+    nth-region-requires-3
     returns-4)

@@ -18,16 +18,16 @@ loop-holds c = record { same = refl }
 returns : tie.Need-returns Inv-loop μ-loop
 returns c = let l = c .before .before in no-others (l .loop .inv) (l .before .before .before .pre .1) (c .if1 .taken)
 
-region-at-requires : tie.Need-region-at-requires Inv-loop μ-loop
-region-at-requires c κs = search needs
+nth-region-requires : tie.Need-nth-region-requires Inv-loop μ-loop
+nth-region-requires c κs = search needs
 
-region-at-requires-2 : tie.Need-region-at-requires-2 Inv-loop μ-loop
-region-at-requires-2 c κs = search needs
+nth-region-requires-2 : tie.Need-nth-region-requires-2 Inv-loop μ-loop
+nth-region-requires-2 c κs = search needs
 
 add-if2 : tie.Need-add-if2 Inv-loop μ-loop
 add-if2 c =
     let l = c .before .before .before .before .before in
-    let f = order-fits (l .before .before .before .pre .0) _ _ (c .before .before .region-at .ensures) (c .before .before .before .before .loop-test .taken) in
+    let f = order-fits (l .before .before .before .pre .0) _ _ (c .before .before .nth-region .ensures) (c .before .before .before .before .loop-test .taken) in
     record { fits = omega (arith, f .within) }
 
 add-i : tie.Need-add-i Inv-loop μ-loop
@@ -41,13 +41,13 @@ loop-again c =
     let t = c .before .before .before in
     let l = t .before .before .before in
     let s = l .before .before .before .before in
-    pass-left (l .before .loop .inv) (s .pre .0) (s .pre .1) _ _ (t .before .region-at .ensures) (t .region-at2 .ensures) (l .loop-test .taken) (t .before .before .if1 .left) (omega arith)
+    pass-left (l .before .loop .inv) (s .pre .0) (s .pre .1) _ _ (t .before .nth-region .ensures) (t .nth-region2 .ensures) (l .loop-test .taken) (t .before .before .if1 .left) (omega arith)
 
 add-if3 : tie.Need-add-if3 Inv-loop μ-loop
 add-if3 c =
     let t = c .before .before .before .before in
     let l = t .before .before .before in
-    let f = order-fits (l .before .before .before .before .pre .1) _ _ (t .region-at2 .ensures) (t .before .before .if1 .left) in
+    let f = order-fits (l .before .before .before .before .pre .1) _ _ (t .nth-region2 .ensures) (t .before .before .if1 .left) in
     record { fits = omega (arith, f .within) }
 
 returns-2 : tie.Need-returns-2 Inv-loop μ-loop
@@ -55,7 +55,7 @@ returns-2 c =
     let t = c .before .before .before .before .before .before in
     let l = t .before .before .before in
     let s = l .before .before .before .before in
-    both (l .before .loop .inv) (s .pre .0) (s .pre .1) _ _ (t .before .region-at .ensures) (t .region-at2 .ensures) (l .loop-test .taken) (t .before .before .if1 .left)
+    both (l .before .loop .inv) (s .pre .0) (s .pre .1) _ _ (t .before .nth-region .ensures) (t .nth-region2 .ensures) (l .loop-test .taken) (t .before .before .if1 .left)
     (omega arith) (omega arith)
 
 add-j : tie.Need-add-j Inv-loop μ-loop
@@ -69,7 +69,7 @@ loop-again-2 c =
     let t = c .before .before .before .before .before .before in
     let l = t .before .before .before in
     let s = l .before .before .before .before in
-    pass-right (l .before .loop .inv) (s .pre .0) (s .pre .1) _ _ (t .before .region-at .ensures) (t .region-at2 .ensures) (l .loop-test .taken) (t .before .before .if1 .left) (omega arith)
+    pass-right (l .before .loop .inv) (s .pre .0) (s .pre .1) _ _ (t .before .nth-region .ensures) (t .nth-region2 .ensures) (l .loop-test .taken) (t .before .before .if1 .left) (omega arith)
 
 returns-3 : tie.Need-returns-3 Inv-loop μ-loop
 returns-3 c = no-more (c .before .loop .inv) (c .before .before .before .before .pre .0) (c .loop-test .left)
@@ -82,8 +82,8 @@ share-two-spec =
     μ-loop
     loop-holds
     returns
-    region-at-requires
-    region-at-requires-2
+    nth-region-requires
+    nth-region-requires-2
     add-if2
     add-i
     loop-less

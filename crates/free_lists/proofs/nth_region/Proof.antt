@@ -2,8 +2,8 @@ use mathlib.Core.Path.{ap}
 use borrow.Author.Needs.{needs}
 use Rattle.pairs.specs.declared.Pair.{Pair}
 use Rattle.free_regions.specs.Regions.{region}
-use Rattle.free_lists.proofs.region_at.Statement.{statement}
-use Rattle.free_lists.proofs.region_at.Tie as tie
+use Rattle.free_lists.proofs.nth_region.Statement.{statement}
+use Rattle.free_lists.proofs.nth_region.Tie as tie
 
 pair-at-requires : tie.Need-pair-at-requires
 pair-at-requires c κs = search needs
@@ -11,5 +11,5 @@ pair-at-requires c κs = search needs
 returns : tie.Need-returns
 returns c = ap (λ (p : Pair). region (p .addr) (p .len)) (c .pair-at .ensures)
 
-pub region-at-spec : {M : Type 1} → statement M
-region-at-spec = tie.close (tie.spec pair-at-requires returns)
+pub nth-region-spec : {M : Type 1} → statement M
+nth-region-spec = tie.close (tie.spec pair-at-requires returns)
