@@ -6,6 +6,7 @@ ghost use Rattle.error.specs.Lent.{with};
 ghost use Rattle.fsm_sections.specs.Sections.{section, decode};
 ghost use Rattle.text.specs.Text.{written};
 ghost use Rattle.holes_text.specs.Listing.{rowText, slotText, slotsOf, listingText, refusedText};
+use fields::number::min;
 use text::words::write_bytes;
 use text::words::write_word;
 
@@ -18,22 +19,12 @@ fn write_row(out: &mut [u8], at: usize, slot: u64, addr: u64, size: u64) -> usiz
     write_word(out, third, size, b'\n')
 }
 
-// `count`, or what there is if that is less.
-fn least(count: u64, there: usize) -> usize
-    ensures { λ r. ⌜ r ≡ min count there ⌝ }
-{
-    if count < there as u64 {
-        return count as usize;
-    }
-    there
-}
-
 // Writes the lines of a slot's sections: the first `count` pairs of the run, or all if it has fewer.
 fn write_slot(out: &mut [u8], at: usize, slot: u64, run: &[u64], count: u64) -> usize
     requires { ⌜ at ≤ length (now out) ⌝ }
     ensures { λ r. ⌜ with r (now (out .exit)) ≡ written at (slotText slot (decode count (now (run .entry)))) (now (out .entry)) ⌝ }
 {
-    let n = least(count, run.len() / 2);
+    let n = min(count, (run.len() / 2) as u64) as usize;
     let mut to = at;
     let mut i = 0;
     while i < n {

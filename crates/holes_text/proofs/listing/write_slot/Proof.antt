@@ -17,13 +17,13 @@ Inv-loop out₀ at slot run count n to₀ i₀ out to i =
 abbrev μ-loop : tie.MeasureT-loop
 μ-loop out₀ at slot run count n to₀ i₀ out to i = n - i
 
-least-requires : tie.Need-least-requires Inv-loop μ-loop
-least-requires c κs = search needs
+min-requires : tie.Need-min-requires Inv-loop μ-loop
+min-requires c κs = search needs
 
 loop-holds : tie.Need-loop-holds Inv-loop μ-loop
 loop-holds c =
     let a = c .before .before .before .args in
-    (omega arith, lines-start (a .slot) (c .least .result) (now (a .run)) (a .count) (a .at) (now (a .out)) (c .before .before .before .pre) (c .least .ensures))
+    (omega arith, lines-start (a .slot) (c .min .result) (now (a .run)) (a .count) (a .at) (now (a .out)) (c .before .before .before .pre) (c .min .ensures))
 
 mul-p : tie.Need-mul-p Inv-loop μ-loop
 mul-p c = omega arith
@@ -57,21 +57,21 @@ loop-again c =
     let b = c .before .before .before .before .before .before in
     let l = b .before .loop in
     let a = b .before .before .before .before .before .args in
-    let n = b .before .before .least .result in
+    let n = b .before .before .min .result in
     (omega arith, lines-step (a .slot) n (now (a .run)) (omega arith) (l .i) (l .to) (l .out) (l .inv .1) (b .loop-test .taken) (c .before .before .write-row .ensures))
 
 same-length : tie.Need-same-length Inv-loop μ-loop
 same-length c =
     let l = c .before .loop in
     let a = c .before .before .before .before .before .args in
-    let n = c .before .before .least .result in
+    let n = c .before .before .min .result in
     printing-length (a .at) (slotText (a .slot) (decode (a .count) (now (a .run)))) (now (a .out)) (l .to) (linesFrom (a .slot) n (now (a .run)) (l .i)) (l .out) (l .inv .1)
 
 returns : tie.Need-returns Inv-loop μ-loop
 returns c =
     let l = c .before .loop in
     let a = c .before .before .before .before .before .args in
-    lines-end (a .slot) (c .before .before .least .result) (now (a .run)) (omega arith) (l .i) (l .to) (l .out) (l .inv .1) (c .loop-test .left)
+    lines-end (a .slot) (c .before .before .min .result) (now (a .run)) (omega arith) (l .i) (l .to) (l .out) (l .inv .1) (c .loop-test .left)
 
 pub write-slot-spec : {M : Type 1} → statement M
 write-slot-spec =
@@ -79,7 +79,7 @@ write-slot-spec =
     (tie.spec
     Inv-loop
     μ-loop
-    least-requires
+    min-requires
     loop-holds
     mul-p
     mul-write-row
