@@ -5,6 +5,7 @@ ghost use Prim.Native.Nat.{_<_, _≤_};
 ghost use Rattle.error.specs.Lent.{with};
 ghost use Rattle.text.specs.Text.{written};
 ghost use Rattle.replay_lines.specs.Words.{halfDigit, hexByte};
+use fields::number::min;
 use replay_lines::answer::put_number;
 use text::words::write_bytes;
 use text::words::write_word;
@@ -61,26 +62,16 @@ pub(crate) fn end_line(out: &mut [u8], at: usize) -> usize {
     at
 }
 
-// The lesser of a length and a count.
-pub(crate) fn least(len: usize, count: u64) -> usize
-    ensures { λ r. ⌜ r ≤ len ⌝ }
-{
-    if len as u64 <= count {
-        return len;
-    }
-    count as usize
-}
-
 // Puts a count and as many numbers of a run, or all if it has fewer.
 pub(crate) fn put_counted(out: &mut [u8], at: usize, run: &[u64], count: u64) -> usize {
-    let n = least(run.len(), count);
+    let n = min(run.len() as u64, count) as usize;
     let to = put_number(out, at, count);
     put_numbers(out, to, &run[0..n])
 }
 
 // Puts a count and as many pairs of a run, or all if it has fewer.
 pub(crate) fn put_pairs(out: &mut [u8], at: usize, run: &[u64], count: u64) -> usize {
-    let n = 2 * least(run.len() / 2, count);
+    let n = 2 * min((run.len() / 2) as u64, count) as usize;
     let to = put_number(out, at, count);
     put_numbers(out, to, &run[0..n])
 }
@@ -93,6 +84,6 @@ pub(crate) fn pairs_line(out: &mut [u8], at: usize, run: &[u64], count: u64) -> 
 
 // Puts the first `count` bytes, or all if there are fewer.
 pub(crate) fn put_first(out: &mut [u8], at: usize, bytes: &[u8], count: u64) -> usize {
-    let n = least(bytes.len(), count);
+    let n = min(bytes.len() as u64, count) as usize;
     put_bytes(out, at, &bytes[0..n])
 }

@@ -4,7 +4,6 @@ ghost use mathlib.Core.Path.{_≡_};
 ghost use Prim.Native.Nat.{_≤_};
 ghost use lib.ListN.{length};
 ghost use Rattle.error.specs.Lent.{over};
-use crate::lines::least;
 use crate::reply::Reply;
 use crate::reply::number_reply;
 use crate::reply::say_numbers;
@@ -12,6 +11,7 @@ use crate::reply::say_pairs;
 use crate::words::few_of;
 use crate::words::line_numbers;
 use crate::words::name_in;
+use fields::number::min;
 use free_lists::FileLists;
 use free_lists::calls::Answered;
 use free_lists::calls::ListCall;
@@ -128,7 +128,7 @@ pub(crate) fn room_of(lists: &[u64], i: usize) -> usize
     requires { ⌜ (24583 ≤ length (now lists)) × (i ≤ 2) ⌝ }
     ensures { λ r. ⌜ r ≤ 8192 ⌝ }
 {
-    least(RUN, lists[ROOMS + i])
+    min(RUN as u64, lists[ROOMS + i]) as usize
 }
 
 // Answers a call on one list: the first number says on which of them.
