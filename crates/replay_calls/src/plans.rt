@@ -8,13 +8,12 @@ use crate::memory::bytes_memory;
 use crate::memory::numbers_memory;
 use crate::reply::Reply;
 use crate::reply::write_out;
+use fields::convert::UNDEF;
 use fsm_plan::plan::PagedManagerPlan;
 use fsm_plan::plan::Planned;
 use fsm_plan::plan::plan_paged_managers;
 use replay_lines::answer::put_number;
 use text::words::write_bytes;
-
-const UNDEF: u64 = 18446744073709551615;
 
 // The places of a run of sections among the numbers of a call: its numbers stand from `from` up to `end`.
 struct Run {

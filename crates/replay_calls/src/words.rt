@@ -4,6 +4,7 @@ ghost use mathlib.Core.Path.{_≡_};
 ghost use Prim.Native.Nat.{_-_, _≤_, _<_};
 ghost use lib.ListN.{length, take, drop};
 ghost use Rattle.replay_lines.specs.Words.{spelledBy};
+use fields::number::MAX;
 use replay_lines::call::is_call;
 
 // How many numbers or bytes were read; where the text breaks the protocol, it is not fine.
@@ -108,7 +109,7 @@ fn number_at(text: &[u8], at: usize) -> Spelled
                 end: i,
             };
         }
-        if (18446744073709551615 - digit) / 10 < value {
+        if (MAX - digit) / 10 < value {
             return Spelled {
                 fine: false,
                 value: value,
