@@ -5,10 +5,10 @@ ghost use Rattle.error.specs.Lent.{with, leaving};
 ghost use Rattle.free_space.specs.Calls.{freed, allocated, allocatedUnits, rangeTaken, trailingTaken};
 ghost use Rattle.free_space.specs.Calls.{keptOutcome, givenOutcome};
 ghost use Rattle.bench_abi.specs.Counts.{listOf, keptCount, givenCount, keptLeft, givenLeft};
-use fields::number::MAX;
 use free_space::list::FreeList;
 use free_space::list::Given;
 use free_space::list::Kept;
+use numbers::MAX;
 
 fn kept_count(k: Kept) -> usize
     ensures { λ r. ⌜ r ≡ keptCount (keptOutcome k) ⌝ }

@@ -8,7 +8,6 @@ ghost use Rattle.fsm_writer.specs.Serializing.{writtenOutcome, writtenFshd, wri
 ghost use Rattle.fsm_pages.specs.Split.{splitOutcome, splitInto};
 ghost use Rattle.fields.specs.Ranges.{orTop, leftOrTop};
 use fields::address::BaseAddress;
-use fields::number::MAX;
 use fsm_blocks::fsse::SectionsAnswer;
 use fsm_blocks::persisted::read_persisted_sections;
 use fsm_pages::pages::Split;
@@ -16,6 +15,7 @@ use fsm_pages::pages::split_at_pages;
 use fsm_writer::writer::Written;
 use fsm_writer::writer::serialize_fshd;
 use fsm_writer::writer::serialize_fsse;
+use numbers::MAX;
 
 fn byte_count(w: Written) -> u64
     ensures { λ r. ⌜ r ≡ orTop (writtenOutcome w) ⌝ }

@@ -2,4 +2,3 @@ pub mod LeLaws
 pub mod WidthLaws
 pub mod RangeLaws
 pub mod LayoutLaws
-pub mod ShiftLaws

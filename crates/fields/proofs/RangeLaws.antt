@@ -135,13 +135,3 @@ module _ (value page : ℕ) where
 
       pub aligned-is : value + (page - value % page) ≤ top → answer (value + (page - value % page)) ≡ alignedUp value page
       aligned-is h = ap answer (sym after) ∙ below-top (omega (arith, after))
-
--- ---- `saturating_add`
-
-pub sat-over : (a b : ℕ) → top - a < b → a ≤ top → top ≡ sat (a + b)
-unfolding sat
-sat-over a b h l = omega arith
-
-pub sat-under : (a b : ℕ) → b ≤ top - a → a ≤ top → a + b ≡ sat (a + b)
-unfolding sat
-sat-under a b h l = omega arith

@@ -2,9 +2,9 @@
 ghost use mathlib.Core.Path.{_≡_};
 ghost use Rattle.error.specs.Answers.{numberOutcome};
 ghost use Rattle.fields.specs.Ranges.{sum};
-use crate::number::MAX;
 use error::Number;
 use error::Refusal;
+use numbers::MAX;
 
 pub struct BaseAddress(pub u64);
 

@@ -6,10 +6,10 @@ ghost use Rattle.error.specs.Lent.{over};
 ghost use Rattle.error.specs.Answers.{checkedOutcome};
 ghost use Rattle.fields.specs.Le.{leBytes, leValue};
 ghost use Rattle.fields.specs.Ranges.{enough};
-use crate::index::min;
-use crate::number::MAX;
 use error::Checked;
 use error::Refusal;
+use numbers::MAX;
+use numbers::index::min;
 
 // Whether `needed` bytes are readable at `offset`.
 pub fn ensure_len(data: &[u8], offset: usize, needed: usize) -> Checked

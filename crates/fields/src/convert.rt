@@ -2,9 +2,9 @@
 ghost use mathlib.Core.Path.{_≡_};
 ghost use Rattle.error.specs.Answers.{numberOutcome};
 ghost use Rattle.fields.specs.Ranges.{rangeOutcome, range, undefinedOutcome, undefinedAt, alignedUp};
-use crate::number::MAX;
 use error::Number;
 use error::Refusal;
+use numbers::MAX;
 
 // The undefined address of 8 bytes.
 pub const UNDEF: u64 = MAX;

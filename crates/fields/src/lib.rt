@@ -3,6 +3,4 @@
 pub mod address;
 pub mod bytes;
 pub mod convert;
-pub mod index;
-pub mod number;
 pub mod width;

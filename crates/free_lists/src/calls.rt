@@ -100,6 +100,16 @@ pub fn perform(run: &mut [u64], list: FreeList, call: ListCall) -> Performed
     }
 }
 
+fn lists_of(metadata: FreeList, raw: FreeList, unclassified: FreeList) -> FileLists
+    ensures { λ r. ⌜ r ≡ record { metadata = metadata; raw = raw; unclassified = unclassified } ⌝ }
+{
+    FileLists {
+        metadata: metadata,
+        raw: raw,
+        unclassified: unclassified,
+    }
+}
+
 // Makes a call on one of three lists.
 pub fn apply(
     metadata: &mut [u64],
@@ -124,11 +134,7 @@ pub fn apply(
             let after = made.list;
             Applied {
                 answer: answer,
-                lists: FileLists {
-                    metadata: after,
-                    raw: r,
-                    unclassified: u,
-                },
+                lists: lists_of(after, r, u),
             }
         }
         Which::Raw => {
@@ -137,11 +143,7 @@ pub fn apply(
             let after = made.list;
             Applied {
                 answer: answer,
-                lists: FileLists {
-                    metadata: m,
-                    raw: after,
-                    unclassified: u,
-                },
+                lists: lists_of(m, after, u),
             }
         }
         Which::Unclassified => {
@@ -150,11 +152,7 @@ pub fn apply(
             let after = made.list;
             Applied {
                 answer: answer,
-                lists: FileLists {
-                    metadata: m,
-                    raw: r,
-                    unclassified: after,
-                },
+                lists: lists_of(m, r, after),
             }
         }
     }

@@ -12,10 +12,10 @@ ghost use Rattle.free_lists.specs.Walks.{InOrder, AllInOrder, listsTo, r
 use error::Checked;
 use error::Number;
 use error::Refusal;
-use fields::number::max;
 use free_regions::FreeRegion;
 use free_space::check::is_list;
 use free_space::list::FreeList;
+use numbers::max;
 use pairs::pair_at;
 
 // The records of the three lists of a file. Their runs are lent beside them, in the same order.

@@ -5,7 +5,7 @@ ghost use Rattle.fields.specs.Ranges.{sum};
 ghost use Rattle.free_regions.specs.Units.{interior, interiorOutcome};
 use error::Number;
 use error::Refusal;
-use fields::number::MAX;
+use numbers::MAX;
 
 // The bytes from `addr` up to `addr + len`.
 pub struct FreeRegion {

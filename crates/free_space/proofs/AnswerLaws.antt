@@ -20,9 +20,11 @@ use Rattle.free_regions.proofs.ShareLaws.{shares-empty}
 use Rattle.pairs.proofs.PairLaws.{length-decode, decode-at}
 use Rattle.free_space.specs.declared.list.FreeList.{FreeList}
 use Rattle.free_space.specs.declared.decide.Decision.the-variants.{Refused, Nothing}
+use Rattle.free_space.specs.declared.decide.RangeCall.{RangeCall}
+use Rattle.free_space.specs.declared.decide.RangeCall.the-variants as range
 use Rattle.free_space.specs.Runs.{regionAt, regions, isList}
 use Rattle.free_space.specs.Calls.{Gave, giving, placed, without, serve, keeping, freedRegions, leftRegions, allocated, allocatedUnits, freed, rangeTaken, trailingTaken, partUnit}
-use Rattle.free_space.specs.Decisions.{ifList, givenBy, keptBy}
+use Rattle.free_space.specs.Decisions.{ifList, ranged, givenBy, keptBy}
 use Rattle.free_space.proofs.ListLaws.{listed}
 use Rattle.free_space.proofs.SpliceLaws.{kept-same}
 
@@ -93,11 +95,11 @@ module _ (xs : List ℕ) (l : FreeList) (len unit : ℕ) where
 -- ---- `free`
 
 module _ (xs : List ℕ) (l : FreeList) (a len : ℕ) where
-  pub free-bad : isList xs l ≡ false → refused NotAList ≡ freed xs l a len
+  free-bad : isList xs l ≡ false → refused NotAList ≡ freed xs l a len
   unfolding freed
   free-bad e = sym (first-holds _ _ _ _ (ap not e))
 
-  pub free-over : top < a + len → keptBy xs l (ifList (isList xs l) (Refused Overflow)) ≡ freed xs l a len
+  free-over : top < a + len → keptBy xs l (ifList (isList xs l) (Refused Overflow)) ≡ freed xs l a len
   unfolding freed firstOf
   free-over h = rw (lt-ltb top (a + len) h) (go (isList xs l))
     where
@@ -117,7 +119,7 @@ module _ (xs : List ℕ) (l : FreeList) (a len : ℕ) where
         ap (placed keeping xs l) (sym e)
         ∙ sym (first-passes _ _ _ _ (ap not ok) ∙ first-passes _ _ _ _ (le-ltb top (a + len) fits) ∙ first-passes _ _ _ _ s ∙ first-none _)
 
-    pub free-zero : len ≡ 0 → keptBy xs l (ifList (isList xs l) Nothing) ≡ freed xs l a len
+    free-zero : len ≡ 0 → keptBy xs l (ifList (isList xs l) Nothing) ≡ freed xs l a len
     free-zero z = go (isList xs l) refl
       where
         go : (t : Bool) → isList xs l ≡ t → keptBy xs l (ifList t Nothing) ≡ freed xs l a len
@@ -133,11 +135,11 @@ module _ (xs : List ℕ) (l : FreeList) (a len : ℕ) where
 -- ---- `take_range`
 
 module _ (xs : List ℕ) (l : FreeList) (a len : ℕ) where
-  pub range-bad : isList xs l ≡ false → refused NotAList ≡ rangeTaken xs l a len
+  range-bad : isList xs l ≡ false → refused NotAList ≡ rangeTaken xs l a len
   unfolding rangeTaken
   range-bad e = sym (first-holds _ _ _ _ (ap not e))
 
-  pub range-over : top < a + len → keptBy xs l (ifList (isList xs l) (Refused Overflow)) ≡ rangeTaken xs l a len
+  range-over : top < a + len → keptBy xs l (ifList (isList xs l) (Refused Overflow)) ≡ rangeTaken xs l a len
   unfolding rangeTaken firstOf
   range-over h = rw (lt-ltb top (a + len) h) (go (isList xs l))
     where
@@ -150,7 +152,7 @@ module _ (xs : List ℕ) (l : FreeList) (a len : ℕ) where
     unfolding rangeTaken
     passed rs ok e = ap (placed keeping xs l) (sym e) ∙ sym (first-passes _ _ _ _ (ap not ok) ∙ first-passes _ _ _ _ (le-ltb top (a + len) fits) ∙ first-none _)
 
-    pub range-zero : len ≡ 0 → keptBy xs l (ifList (isList xs l) Nothing) ≡ rangeTaken xs l a len
+    range-zero : len ≡ 0 → keptBy xs l (ifList (isList xs l) Nothing) ≡ rangeTaken xs l a len
     range-zero z = go (isList xs l) refl
       where
         go : (t : Bool) → isList xs l ≡ t → keptBy xs l (ifList t Nothing) ≡ rangeTaken xs l a len
@@ -159,6 +161,21 @@ module _ (xs : List ℕ) (l : FreeList) (a len : ℕ) where
 
     pub range-else : isList xs l ≡ true → (len ≡ 0 → ⊥) → placed keeping xs l (cutAll a (a + len) (regions xs l)) ≡ rangeTaken xs l a len
     range-else ok z = passed (cutAll a (a + len) (regions xs l)) ok (rw (ne-eqb len 0 z))
+
+-- ---- both
+
+module _ (xs : List ℕ) (l : FreeList) (a len : ℕ) where
+  pub ranged-bad : (q : RangeCall) → isList xs l ≡ false → refused NotAList ≡ ranged q xs l a len
+  ranged-bad range.Free = free-bad xs l a len
+  ranged-bad range.Take = range-bad xs l a len
+
+  pub ranged-over : (q : RangeCall) → top < a + len → keptBy xs l (ifList (isList xs l) (Refused Overflow)) ≡ ranged q xs l a len
+  ranged-over range.Free = free-over xs l a len
+  ranged-over range.Take = range-over xs l a len
+
+  pub ranged-zero : (q : RangeCall) → a + len ≤ top → len ≡ 0 → keptBy xs l (ifList (isList xs l) Nothing) ≡ ranged q xs l a len
+  ranged-zero range.Free = free-zero xs l a len
+  ranged-zero range.Take = range-zero xs l a len
 
 -- ---- `take_trailing`
 

@@ -12,8 +12,8 @@ use crate::list::FreeList;
 use crate::run::region_at;
 use crate::units::Measure;
 use crate::units::measured;
-use fields::number::MAX;
 use free_regions::FreeRegion;
+use numbers::MAX;
 
 // How a pass ends: no list, no region that suffices, or the place of the one that serves.
 pub(crate) enum Search {

@@ -5,7 +5,7 @@ ghost use mathlib.Core.List.{_∷_, _++_};
 ghost use Prim.Native.Nat.{_≤_, _<_};
 ghost use lib.ListN.{take, drop};
 ghost use Rattle.fields.specs.Ranges.{top};
-ghost use Rattle.free_regions.specs.Regions.{end, absorb, insert};
+ghost use Rattle.free_regions.specs.Regions.{region, end, absorb, insert};
 ghost use Rattle.free_space.specs.Runs.{regionAt, regions, isList};
 ghost use Rattle.free_space.specs.Calls.{placed, keeping};
 ghost use Rattle.free_space.specs.Splices.{Apart};
@@ -23,6 +23,19 @@ pub(crate) struct Joined {
     pub(crate) region: FreeRegion,
 }
 
+// The region of `len` bytes from `addr` on, and the place to which it reaches.
+fn region_to(index: usize, addr: u64, len: u64) -> Joined
+    ensures { λ j. ⌜ j ≡ record { index = index; region = region addr len } ⌝ }
+{
+    Joined {
+        index: index,
+        region: FreeRegion {
+            addr: addr,
+            len: len,
+        },
+    }
+}
+
 // `new` stands before the region at `i`: with the region below it, if they touch.
 fn join_below(run: &[u64], list: FreeList, i: usize, new: FreeRegion) -> Joined
     requires { ⌜ Apart (now run) list (new .addr) (end new) i i × (0 < new .len) × (end new ≤ top) ⌝ }
@@ -31,13 +44,7 @@ fn join_below(run: &[u64], list: FreeList, i: usize, new: FreeRegion) -> Joined
     if 0 < i {
         let r = region_at(run, i - 1);
         if r.addr + r.len == new.addr {
-            return Joined {
-                index: i - 1,
-                region: FreeRegion {
-                    addr: r.addr,
-                    len: r.len + new.len,
-                },
-            };
+            return region_to(i - 1, r.addr, r.len + new.len);
         }
     }
     Joined {
@@ -54,13 +61,7 @@ fn join_above(run: &[u64], list: FreeList, i: usize, new: FreeRegion) -> Joined
     if i < list.count {
         let r = region_at(run, i);
         if new.addr + new.len == r.addr {
-            return Joined {
-                index: i + 1,
-                region: FreeRegion {
-                    addr: new.addr,
-                    len: new.len + r.len,
-                },
-            };
+            return region_to(i + 1, new.addr, new.len + r.len);
         }
     }
     Joined {

@@ -18,8 +18,8 @@ use crate::manager::put_manager;
 use error::Number;
 use error::Refusal;
 use fields::address::BaseAddress;
-use fields::number::saturating_add;
 use fields::width::is_width;
+use numbers::saturating_add;
 
 // How many sections all managers have, at most 2^64 - 1.
 fn slots_count(bytes: &[u8], slots: &[u64], base: BaseAddress, offset_size: u8) -> Number

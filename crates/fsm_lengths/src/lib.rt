@@ -11,9 +11,9 @@ ghost use Rattle.fsm_blocks.specs.Settings.{startingSet, fsseUsed};
 ghost use Rattle.fsm_lengths.specs.Lengths.{unplaced, fsseLen};
 use error::Number;
 use error::Refusal;
-use fields::number::MAX;
 use fields::width::enc_size;
 use fields::width::is_width;
+use numbers::MAX;
 
 // Whether the sizes add up above 2^64 - 1.
 fn sum_overflows(sizes: &[u64]) -> bool

@@ -14,10 +14,10 @@ ghost use Rattle.fsm_sections.specs.Runs.{endsAbove};
 ghost use Rattle.fsm_pages.specs.Split.{splitCount, splitInto, splitOutcome};
 use error::Number;
 use error::Refusal;
-use fields::number::MAX;
-use fields::number::quotient;
-use fields::number::remainder;
-use fields::number::saturating_add;
+use numbers::MAX;
+use numbers::quotient;
+use numbers::remainder;
+use numbers::saturating_add;
 use pairs::is_run;
 
 // How many pieces a run of sections was cut into.

@@ -5,11 +5,11 @@ ghost use Rattle.fsm_sections.specs.Sections.{section};
 ghost use Rattle.fsm_sections.specs.Sources.{partOf, chainCount, Given, Within};
 ghost use Rattle.fsm_sections.specs.declared.Part.the-variants.{Pages};
 ghost use Rattle.fsm_plan.specs.Order.{sourceOf, Next};
-use fields::number::quotient;
 use fsm_sections::Chain;
 use fsm_sections::FreeSection;
 use fsm_sections::Taken;
 use fsm_sections::next::next_region;
+use numbers::quotient;
 
 // How many metadata, raw and unclassified regions there are, and the page size.
 pub struct Counts {

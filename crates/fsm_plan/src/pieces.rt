@@ -11,10 +11,10 @@ ghost use Rattle.pairs.specs.Pairs.{isRun};
 ghost use Rattle.fsm_sections.specs.Runs.{endsAbove};
 use crate::chains::pages_of;
 use error::Number;
-use fields::number::quotient;
-use fields::number::saturating_add;
 use fields::width::enc_size;
 use fsm_pages::pages::split_count;
+use numbers::quotient;
+use numbers::saturating_add;
 
 // How many pieces all sections have, at most 2^64 - 1.
 pub(crate) fn piece_count(sections: &[u64], count: usize, page: u64) -> u64

@@ -27,9 +27,9 @@ use crate::sharing::is_shared;
 use error::Number;
 use error::Refusal;
 use fields::convert::UNDEF;
-use fields::number::MAX;
 use fsm_writer::slots::Slot;
 use fsm_writer::slots::slot_len;
+use numbers::MAX;
 
 // Where the blocks of slots 0, 2 and 6 stand, and how many sections each slot has. A slot without sections has no blocks, and the
 // undefined address for both.

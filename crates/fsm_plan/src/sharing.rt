@@ -8,8 +8,8 @@ ghost use Rattle.fsm_sections.specs.Sources.{rest, Given, Within};
 ghost use Rattle.fsm_plan.specs.Order.{atAddr, repeats, Meet, chainOf, Stepped, Alike, Raised, sourceOf, inSlot6};
 use crate::chains::Counts;
 use crate::chains::next_chain;
-use fields::number::MAX;
 use fsm_sections::Taken;
+use numbers::MAX;
 
 // One above the addresses that were seen, if that is known.
 pub enum Floor {

@@ -5,9 +5,9 @@ ghost use Rattle.fields.specs.Ranges.{sum};
 ghost use Rattle.fsm_sections.specs.Sources.{headSize};
 use error::Number;
 use error::Refusal;
-use fields::number::MAX;
-use fields::number::min;
-use fields::number::remainder;
+use numbers::MAX;
+use numbers::min;
+use numbers::remainder;
 
 pub mod next;
 

@@ -10,16 +10,16 @@ ghost use Rattle.fsm_sections.specs.Passes.{leastAddr, spaceOf};
 ghost use Rattle.fsm_writer.specs.Counting.{RunGiven, storable};
 use error::Number;
 use error::Refusal;
-use fields::number::MAX;
-use fields::number::min;
-use fields::number::quotient;
-use fields::number::remainder;
 use fsm_sections::Chain;
 use fsm_sections::FreeSection;
 use fsm_sections::Part;
 use fsm_sections::Source;
 use fsm_sections::Taken;
 use fsm_sections::next::next_region;
+use numbers::MAX;
+use numbers::min;
+use numbers::quotient;
+use numbers::remainder;
 
 // One section, or none where it would be empty.
 fn one_chain(addr: u64, size: u64) -> Chain

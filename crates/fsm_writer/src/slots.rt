@@ -29,10 +29,10 @@ use crate::writer::write_fsse;
 use error::Checked;
 use error::Number;
 use error::Refusal;
-use fields::number::MAX;
 use fields::width::enc_size;
 use fsm_sections::Part;
 use fsm_sections::Source;
+use numbers::MAX;
 use pairs::is_run;
 
 // The pieces below a page of the first run's regions; or the whole pages of the first two runs' regions, and the third's uncut.

@@ -6,7 +6,7 @@ ghost use Rattle.error.specs.Lent.{with};
 ghost use Rattle.fsm_sections.specs.Sections.{section, decode};
 ghost use Rattle.text.specs.Text.{written};
 ghost use Rattle.holes_text.specs.Listing.{rowText, slotText, slotsOf, listingText, refusedText};
-use fields::number::min;
+use numbers::min;
 use text::words::write_bytes;
 use text::words::write_word;
 

@@ -5,9 +5,9 @@ ghost use Rattle.error.specs.Lent.{leaving, with};
 ghost use Rattle.fsm_pages.specs.Split.{splitOutcome};
 ghost use Rattle.split_records.specs.Records.{splitRecords};
 ghost use Rattle.host_records.specs.Shown.{shown, leftShown};
-use fields::number::MAX;
 use fsm_pages::pages::Split;
 use fsm_sections::FreeSection;
+use numbers::MAX;
 use split_records::split_at_pages;
 
 // The number that C sees of an answer.

@@ -11,7 +11,6 @@ ghost use Rattle.image.specs.Reading.{messageAt, sectionsIn, readInto, i
 use error::Number;
 use error::Refusal;
 use fields::address::BaseAddress;
-use fields::number::min;
 use file_space_info::FileSpaceInfo;
 use file_space_info::MESSAGE_LEN;
 use file_space_info::NUM_FILE_FSM_MANAGERS;
@@ -19,6 +18,7 @@ use file_space_info::Parsed;
 use fsm_blocks::fsse::SectionsAnswer;
 use fsm_blocks::manager::manager_count;
 use fsm_blocks::persisted::read_persisted_sections;
+use numbers::min;
 
 pub enum ImageAnswer {
     Read,

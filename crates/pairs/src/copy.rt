@@ -4,8 +4,8 @@ ghost use Prim.Native.Nat.{_+_, _-_, _≤_, min};
 ghost use lib.ListN.{length};
 ghost use lib.Seq.{slice};
 ghost use Rattle.error.specs.Lent.{over};
-use fields::index::min;
-use fields::index::saturating_sub;
+use numbers::index::min;
+use numbers::index::saturating_sub;
 
 // Moves the numbers from `from` up to `end` to `to`, at or below them.
 fn move_down(run: &mut [u64], from: usize, end: usize, to: usize)

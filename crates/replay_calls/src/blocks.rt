@@ -5,8 +5,7 @@ use crate::lines::put_numbers;
 use crate::memory::bytes_memory;
 use crate::memory::numbers_memory;
 use crate::reply::Reply;
-use crate::reply::say_pairs;
-use crate::reply::write_out;
+use crate::reply::pairs_reply;
 use crate::words::are_pairs;
 use fields::address::BaseAddress;
 use fsm_blocks::fsse::SectionsAnswer;
@@ -21,7 +20,7 @@ use fsm_writer::writer::serialize_fshd;
 use fsm_writer::writer::serialize_fsse;
 use text::words::write_bytes;
 
-pub(crate) fn split_call(args: &[u64]) -> Reply {
+pub(crate) fn split_call(args: &[u64], out: &mut [u8]) -> Reply {
     if args.len() < 2 {
         return Reply::Bad;
     }
@@ -32,7 +31,7 @@ pub(crate) fn split_call(args: &[u64]) -> Reply {
     let mut sections = numbers_memory();
     let split = split_at_pages(&args[2..], count, args[0], &mut sections);
     match split {
-        Split::Pieces(n) => say_pairs(b"", &sections, n as u64),
+        Split::Pieces(n) => pairs_reply(b"", &sections, n as u64, out),
         Split::Refused(r) => Reply::Refused(r),
     }
 }
@@ -44,24 +43,25 @@ fn blocks_line(fshd: &[u8], n: u64, fsse: &[u8], m: u64, out: &mut [u8]) -> usiz
     end_line(out, to)
 }
 
-fn say_blocks(fshd: &[u8], n: u64, fsse: &[u8], m: u64) -> Reply {
-    let mut out = bytes_memory();
-    let len = blocks_line(fshd, n, fsse, m, &mut out);
-    write_out(&out, len);
-    Reply::Silent
-}
-
 // Serializes the FSSE, and writes it after the FSHD's first n bytes.
-fn fsse_answer(run: &[u64], fshd_addr: u64, o: u8, class: u8, fshd: &[u8], n: u64) -> Reply {
+fn fsse_answer(
+    run: &[u64],
+    fshd_addr: u64,
+    o: u8,
+    class: u8,
+    fshd: &[u8],
+    n: u64,
+    out: &mut [u8],
+) -> Reply {
     let mut fsse = bytes_memory();
     let written = serialize_fsse(run, run.len() / 2, fshd_addr, o, class, &mut fsse);
     match written {
-        Written::Bytes(m) => say_blocks(fshd, n, &fsse, m),
+        Written::Bytes(m) => Reply::Text(blocks_line(fshd, n, &fsse, m, out)),
         Written::Refused(r) => Reply::Refused(r),
     }
 }
 
-pub(crate) fn serialize_call(args: &[u64]) -> Reply {
+pub(crate) fn serialize_call(args: &[u64], out: &mut [u8]) -> Reply {
     if args.len() < 5 {
         return Reply::Bad;
     }
@@ -80,7 +80,7 @@ pub(crate) fn serialize_call(args: &[u64]) -> Reply {
     let mut fshd = bytes_memory();
     let written = serialize_fshd(&args[5..], count, args[2], o as u8, &mut fshd);
     match written {
-        Written::Bytes(n) => fsse_answer(&args[5..], args[1], o as u8, class as u8, &fshd, n),
+        Written::Bytes(n) => fsse_answer(&args[5..], args[1], o as u8, class as u8, &fshd, n, out),
         Written::Refused(r) => Reply::Refused(r),
     }
 }
@@ -99,14 +99,7 @@ fn header_line(h: FsmHeader, out: &mut [u8]) -> usize {
     end_line(out, to)
 }
 
-fn say_header(h: FsmHeader) -> Reply {
-    let mut out = [0; 256];
-    let len = header_line(h, &mut out);
-    write_out(&out, len);
-    Reply::Silent
-}
-
-pub(crate) fn fshd_parse_call(args: &[u64], bytes: &[u8]) -> Reply {
+pub(crate) fn fshd_parse_call(args: &[u64], bytes: &[u8], out: &mut [u8]) -> Reply {
     if args.len() != 1 {
         return Reply::Bad;
     }
@@ -116,19 +109,19 @@ pub(crate) fn fshd_parse_call(args: &[u64], bytes: &[u8]) -> Reply {
     }
     let header = FsmHeader::parse(bytes, o as u8);
     match header {
-        HeaderAnswer::Header(h) => say_header(h),
+        HeaderAnswer::Header(h) => Reply::Text(header_line(h, out)),
         HeaderAnswer::Refused(r) => Reply::Refused(r),
     }
 }
 
-fn sections_answer(answer: SectionsAnswer, sections: &[u64]) -> Reply {
+fn sections_answer(answer: SectionsAnswer, sections: &[u64], out: &mut [u8]) -> Reply {
     match answer {
-        SectionsAnswer::Read(n) => say_pairs(b"ok ", sections, n),
+        SectionsAnswer::Read(n) => pairs_reply(b"ok ", sections, n, out),
         SectionsAnswer::Refused(r) => Reply::Refused(r),
     }
 }
 
-pub(crate) fn fsse_parse_call(args: &[u64], bytes: &[u8]) -> Reply {
+pub(crate) fn fsse_parse_call(args: &[u64], bytes: &[u8], out: &mut [u8]) -> Reply {
     if args.len() != 4 {
         return Reply::Bad;
     }
@@ -150,10 +143,10 @@ pub(crate) fn fsse_parse_call(args: &[u64], bytes: &[u8]) -> Reply {
     };
     let mut sections = numbers_memory();
     let answer = parse_fsse(bytes, header, o as u8, &mut sections);
-    sections_answer(answer, &sections)
+    sections_answer(answer, &sections, out)
 }
 
-pub(crate) fn read_call(args: &[u64], bytes: &[u8]) -> Reply {
+pub(crate) fn read_call(args: &[u64], bytes: &[u8], out: &mut [u8]) -> Reply {
     if args.len() < 3 {
         return Reply::Bad;
     }
@@ -167,5 +160,5 @@ pub(crate) fn read_call(args: &[u64], bytes: &[u8]) -> Reply {
     let base = BaseAddress(args[1]);
     let mut sections = numbers_memory();
     let answer = read_persisted_sections(bytes, &args[3..], base, o as u8, &mut sections);
-    sections_answer(answer, &sections)
+    sections_answer(answer, &sections, out)
 }

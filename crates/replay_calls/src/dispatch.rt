@@ -34,26 +34,26 @@ fn run_name(line: &[u8]) -> u64 {
 }
 
 // Answers a call with a run of numbers, by its place among the names of `run_name`.
-fn run_answer(call: u64, args: &[u64]) -> Reply {
+fn run_answer(call: u64, args: &[u64], out: &mut [u8]) -> Reply {
     match call {
         1 => fsse_len_call(args),
         2 => blocks_len_call(args),
-        3 => split_call(args),
-        4 => serialize_call(args),
-        5 => plan_call(args),
-        6 => serialize_message_call(args),
-        _ => managers_call(args),
+        3 => split_call(args, out),
+        4 => serialize_call(args, out),
+        5 => plan_call(args, out),
+        6 => serialize_message_call(args, out),
+        _ => managers_call(args, out),
     }
 }
 
-fn run_call(call: u64, line: &[u8]) -> Reply {
+fn run_call(call: u64, line: &[u8], out: &mut [u8]) -> Reply {
     let mut numbers = numbers_memory();
     let read = line_numbers(line, &mut numbers);
     if !read.fine {
         return Reply::Bad;
     }
     let n = read.count;
-    run_answer(call, &numbers[0..n])
+    run_answer(call, &numbers[0..n], out)
 }
 
 fn bytes_name(line: &[u8]) -> u64 {
@@ -64,19 +64,19 @@ fn bytes_name(line: &[u8]) -> u64 {
 }
 
 // Answers a call with bytes, by its place among the names of `bytes_name`.
-fn bytes_answer(call: u64, args: &[u64], bytes: &[u8]) -> Reply {
+fn bytes_answer(call: u64, args: &[u64], bytes: &[u8], out: &mut [u8]) -> Reply {
     match call {
-        4 => fshd_parse_call(args, bytes),
-        5 => fsse_parse_call(args, bytes),
-        6 => read_call(args, bytes),
-        7 => parse_message_call(args, bytes),
-        8 => image_call(args, bytes),
-        9 => image_into_call(args, bytes),
-        _ => sum_call(call, args, bytes),
+        4 => fshd_parse_call(args, bytes, out),
+        5 => fsse_parse_call(args, bytes, out),
+        6 => read_call(args, bytes, out),
+        7 => parse_message_call(args, bytes, out),
+        8 => image_call(args, bytes, out),
+        9 => image_into_call(args, bytes, out),
+        _ => sum_call(call, args, bytes, out),
     }
 }
 
-fn bytes_call(call: u64, line: &[u8]) -> Reply {
+fn bytes_call(call: u64, line: &[u8], out: &mut [u8]) -> Reply {
     let mut numbers = numbers_memory();
     let mut bytes = io::large_buffer();
     let words = read_words(line, &mut numbers, &mut bytes);
@@ -85,11 +85,11 @@ fn bytes_call(call: u64, line: &[u8]) -> Reply {
     }
     let n = words.numbers;
     let m = words.bytes;
-    bytes_answer(call, &numbers[0..n], &bytes[0..m])
+    bytes_answer(call, &numbers[0..n], &bytes[0..m], out)
 }
 
 // Answers a save, which changes a copy of the image that its bytes are.
-fn save_line(line: &[u8], lists: &[u64]) -> Reply
+fn save_line(line: &[u8], lists: &[u64], out: &mut [u8]) -> Reply
     requires { ⌜ 24583 ≤ length (now lists) ⌝ }
 {
     let mut numbers = numbers_memory();
@@ -100,24 +100,24 @@ fn save_line(line: &[u8], lists: &[u64]) -> Reply
     }
     let n = words.numbers;
     let m = words.bytes;
-    save_call(&numbers[0..n], &mut image[0..m], lists)
+    save_call(&numbers[0..n], &mut image[0..m], lists, out)
 }
 
 // Answers a call that needs no list.
-fn plain_call(line: &[u8]) -> Reply {
+fn plain_call(line: &[u8], out: &mut [u8]) -> Reply {
     let run = run_name(line);
     if 0 < run {
-        return run_call(run, line);
+        return run_call(run, line, out);
     }
     let bytes = bytes_name(line);
     if 0 < bytes {
-        return bytes_call(bytes, line);
+        return bytes_call(bytes, line, out);
     }
     address_call(line)
 }
 
 // The answer to a line. An empty line and one from `#` have none.
-pub(crate) fn answer_line(line: &[u8], lists: &mut [u64]) -> Reply
+pub(crate) fn answer_line(line: &[u8], lists: &mut [u64], out: &mut [u8]) -> Reply
     requires { ⌜ 24583 ≤ length (now lists) ⌝ }
 {
     if line.len() == 0 {
@@ -127,11 +127,11 @@ pub(crate) fn answer_line(line: &[u8], lists: &mut [u64]) -> Reply
         return Reply::Silent;
     }
     if is_call(line, b"save") {
-        return save_line(line, lists);
+        return save_line(line, lists, out);
     }
     let call = lists_name(line);
     if 0 < call {
-        return lists_call(call, line, lists);
+        return lists_call(call, line, lists, out);
     }
-    plain_call(line)
+    plain_call(line, out)
 }

@@ -2,10 +2,8 @@
 use crate::lines::end_line;
 use crate::lines::pairs_line;
 use crate::lines::put_numbers;
-use crate::memory::bytes_memory;
 use crate::memory::numbers_memory;
 use crate::reply::Reply;
-use crate::reply::write_out;
 use image::ImageAnswer;
 use image::read_image;
 use text::words::write_bytes;
@@ -28,14 +26,7 @@ fn counts_line(counts: &[u64], sections: &[u64], out: &mut [u8]) -> usize {
     pairs_line(out, run, sections, total(counts))
 }
 
-fn say_counts(counts: &[u64], sections: &[u64]) -> Reply {
-    let mut out = bytes_memory();
-    let len = counts_line(counts, sections, &mut out);
-    write_out(&out, len);
-    Reply::Silent
-}
-
-pub(crate) fn image_call(args: &[u64], image: &[u8]) -> Reply {
+pub(crate) fn image_call(args: &[u64], image: &[u8], out: &mut [u8]) -> Reply {
     if args.len() != 1 {
         return Reply::Bad;
     }
@@ -44,7 +35,7 @@ pub(crate) fn image_call(args: &[u64], image: &[u8]) -> Reply {
     let answer = read.answer;
     let counts = read.counts;
     match answer {
-        ImageAnswer::Read => say_counts(&counts, &sections),
+        ImageAnswer::Read => Reply::Text(counts_line(&counts, &sections, out)),
         ImageAnswer::Refused(r) => Reply::Refused(r),
     }
 }
@@ -57,25 +48,18 @@ fn run_line(counts: &[u64], run: &[u64], out: &mut [u8]) -> usize {
     end_line(out, end)
 }
 
-fn say_run(counts: &[u64], run: &[u64]) -> Reply {
-    let mut out = bytes_memory();
-    let len = run_line(counts, run, &mut out);
-    write_out(&out, len);
-    Reply::Silent
-}
-
-fn read_into(image: &[u8], place: u64, run: &mut [u64]) -> Reply {
+fn read_into(image: &[u8], place: u64, run: &mut [u64], out: &mut [u8]) -> Reply {
     let read = read_image(image, place, run);
     let answer = read.answer;
     let counts = read.counts;
     match answer {
-        ImageAnswer::Read => say_run(&counts, run),
+        ImageAnswer::Read => Reply::Text(run_line(&counts, run, out)),
         ImageAnswer::Refused(r) => Reply::Refused(r),
     }
 }
 
 // Reads into a lent run of as many numbers as asked for, each 7 before.
-pub(crate) fn image_into_call(args: &[u64], image: &[u8]) -> Reply {
+pub(crate) fn image_into_call(args: &[u64], image: &[u8], out: &mut [u8]) -> Reply {
     if args.len() != 2 {
         return Reply::Bad;
     }
@@ -85,5 +69,5 @@ pub(crate) fn image_into_call(args: &[u64], image: &[u8]) -> Reply {
         return Reply::Bad;
     }
     let n = room as usize;
-    read_into(image, args[0], &mut run[0..n])
+    read_into(image, args[0], &mut run[0..n], out)
 }

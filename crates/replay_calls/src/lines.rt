@@ -5,7 +5,7 @@ ghost use Prim.Native.Nat.{_<_, _≤_};
 ghost use Rattle.error.specs.Lent.{with};
 ghost use Rattle.text.specs.Text.{written};
 ghost use Rattle.replay_lines.specs.Words.{halfDigit, hexByte};
-use fields::number::min;
+use numbers::min;
 use replay_lines::answer::put_number;
 use text::words::write_bytes;
 use text::words::write_word;

@@ -6,18 +6,18 @@ ghost use lib.ListN.{length};
 ghost use Rattle.error.specs.Lent.{over};
 use crate::reply::Reply;
 use crate::reply::number_reply;
-use crate::reply::say_numbers;
-use crate::reply::say_pairs;
+use crate::reply::numbers_reply;
+use crate::reply::pairs_reply;
 use crate::words::few_of;
 use crate::words::line_numbers;
 use crate::words::name_in;
-use fields::number::min;
 use free_lists::FileLists;
 use free_lists::calls::Answered;
 use free_lists::calls::ListCall;
 use free_lists::calls::perform;
 use free_lists::trailing_run_start;
 use free_space::list::FreeList;
+use numbers::min;
 
 // The numbers that the run of a list has.
 pub(crate) const RUN: usize = 8192;
@@ -64,18 +64,25 @@ fn is_empty_call(list: FreeList) -> Reply {
 }
 
 // The calls that ask of one list.
-fn question(call: u64, run: &[u64], list: FreeList, first: u64) -> Reply {
+fn question(call: u64, run: &[u64], list: FreeList, first: u64, out: &mut [u8]) -> Reply {
     match call {
         6 => number_reply(list.largest_whole_units(run, first)),
         7 => number_reply(list.largest(run)),
         8 => is_empty_call(list),
-        10 => say_pairs(b"", run, list.count as u64),
-        _ => say_numbers(run),
+        10 => pairs_reply(b"", run, list.count as u64, out),
+        _ => numbers_reply(run, out),
     }
 }
 
 // The calls on one list, by their places among the names of `lists_name`.
-fn one_list(call: u64, run: &mut [u64], list: FreeList, first: u64, second: u64) -> AfterCall {
+fn one_list(
+    call: u64,
+    run: &mut [u64],
+    list: FreeList,
+    first: u64,
+    second: u64,
+    out: &mut [u8],
+) -> AfterCall {
     match call {
         1 => change(
             run,
@@ -108,7 +115,7 @@ fn one_list(call: u64, run: &mut [u64], list: FreeList, first: u64, second: u64)
             count: FreeList::new().count,
         },
         _ => AfterCall {
-            reply: question(call, run, list, first),
+            reply: question(call, run, list, first, out),
             count: list.count,
         },
     }
@@ -132,7 +139,7 @@ pub(crate) fn room_of(lists: &[u64], i: usize) -> usize
 }
 
 // Answers a call on one list: the first number says on which of them.
-fn list_call(call: u64, line: &[u8], lists: &mut [u64]) -> Reply
+fn list_call(call: u64, line: &[u8], lists: &mut [u64], out: &mut [u8]) -> Reply
     requires { ⌜ 24583 ≤ length (now lists) ⌝ }
 {
     let few = few_of(line);
@@ -149,7 +156,14 @@ fn list_call(call: u64, line: &[u8], lists: &mut [u64]) -> Reply
     };
     let from = i * RUN;
     let end = from + room_of(lists, i);
-    let answered = one_list(call, &mut lists[from..end], list, few.second, few.third);
+    let answered = one_list(
+        call,
+        &mut lists[from..end],
+        list,
+        few.second,
+        few.third,
+        out,
+    );
     lists[COUNTS + i] = answered.count as u64;
     answered.reply
 }
@@ -289,7 +303,7 @@ pub(crate) fn lists_name(line: &[u8]) -> u64 {
 }
 
 // Answers a call on the lists, by its place among the names of `lists_name`.
-pub(crate) fn lists_call(call: u64, line: &[u8], lists: &mut [u64]) -> Reply
+pub(crate) fn lists_call(call: u64, line: &[u8], lists: &mut [u64], out: &mut [u8]) -> Reply
     requires { ⌜ 24583 ≤ length (now lists) ⌝ }
 {
     match call {
@@ -297,6 +311,6 @@ pub(crate) fn lists_call(call: u64, line: &[u8], lists: &mut [u64]) -> Reply
         13 => trailing_run_start_call(line, lists),
         14 => scratch_call(line, lists),
         15 => room_call(line, lists),
-        _ => list_call(call, line, lists),
+        _ => list_call(call, line, lists, out),
     }
 }

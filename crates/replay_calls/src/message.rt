@@ -6,7 +6,6 @@ use crate::lines::put_numbers;
 use crate::memory::bytes_memory;
 use crate::memory::numbers_memory;
 use crate::reply::Reply;
-use crate::reply::write_out;
 use error::Number;
 use file_space_info::FileSpaceInfo;
 use file_space_info::FileSpaceStrategy;
@@ -34,14 +33,7 @@ fn message_line(info: FileSpaceInfo, addrs: &[u64], count: usize, out: &mut [u8]
     end_line(out, end)
 }
 
-fn say_message(info: FileSpaceInfo, addrs: &[u64], count: usize) -> Reply {
-    let mut out = bytes_memory();
-    let len = message_line(info, addrs, count, &mut out);
-    write_out(&out, len);
-    Reply::Silent
-}
-
-pub(crate) fn parse_message_call(args: &[u64], bytes: &[u8]) -> Reply {
+pub(crate) fn parse_message_call(args: &[u64], bytes: &[u8], out: &mut [u8]) -> Reply {
     if args.len() != 2 {
         return Reply::Bad;
     }
@@ -56,31 +48,28 @@ pub(crate) fn parse_message_call(args: &[u64], bytes: &[u8]) -> Reply {
     let mut addrs = numbers_memory();
     let parsed = FileSpaceInfo::parse(bytes, o as u8, l as u8, &mut addrs);
     match parsed {
-        Parsed::Message { info, count } => say_message(info, &addrs, count),
+        Parsed::Message { info, count } => Reply::Text(message_line(info, &addrs, count, out)),
         Parsed::Refused(r) => Reply::Refused(r),
     }
 }
 
-// Writes the first `count` bytes of a message.
-fn say_bytes(message: &[u8], count: u64) -> Reply {
-    let mut out = bytes_memory();
-    let end = put_first(&mut out, 0, message, count);
-    let len = end_line(&mut out, end);
-    write_out(&out, len);
-    Reply::Silent
+// The line of the first `count` bytes of a message.
+fn bytes_line(message: &[u8], count: u64, out: &mut [u8]) -> usize {
+    let end = put_first(out, 0, message, count);
+    end_line(out, end)
 }
 
-// Serializes a message, and writes its bytes.
-fn message_bytes(info: FileSpaceInfo, addrs: &[u64]) -> Reply {
+// A message serialized.
+fn message_bytes(info: FileSpaceInfo, addrs: &[u64], out: &mut [u8]) -> Reply {
     let mut message = bytes_memory();
     let written = info.serialize(addrs, &mut message);
     match written {
-        Number::Is(n) => say_bytes(&message, n),
+        Number::Is(n) => Reply::Text(bytes_line(&message, n, out)),
         Number::Refused(r) => Reply::Refused(r),
     }
 }
 
-pub(crate) fn serialize_message_call(args: &[u64]) -> Reply {
+pub(crate) fn serialize_message_call(args: &[u64], out: &mut [u8]) -> Reply {
     if args.len() < 7 {
         return Reply::Bad;
     }
@@ -111,10 +100,10 @@ pub(crate) fn serialize_message_call(args: &[u64]) -> Reply {
         page_end_meta_threshold: page_end as u16,
         eoa_pre_fsm: args[5],
     };
-    message_bytes(info, &args[7..])
+    message_bytes(info, &args[7..], out)
 }
 
-pub(crate) fn managers_call(args: &[u64]) -> Reply {
+pub(crate) fn managers_call(args: &[u64], out: &mut [u8]) -> Reply {
     if args.len() != 16 {
         return Reply::Bad;
     }
@@ -143,5 +132,5 @@ pub(crate) fn managers_call(args: &[u64]) -> Reply {
         args[2],
     );
     let addrs = message.slots;
-    message_bytes(message.info, &addrs)
+    message_bytes(message.info, &addrs, out)
 }

@@ -4,10 +4,8 @@ ghost use lib.ListN.{length};
 use crate::lines::end_line;
 use crate::lines::put_numbers;
 use crate::lines::put_pairs;
-use crate::memory::bytes_memory;
 use crate::memory::numbers_memory;
 use crate::reply::Reply;
-use crate::reply::write_out;
 use fields::convert::UNDEF;
 use fsm_plan::plan::PagedManagerPlan;
 use fsm_plan::plan::Planned;
@@ -124,13 +122,6 @@ fn plan_line(p: PagedManagerPlan, sections: &[u64], out: &mut [u8]) -> usize {
     end_line(out, last)
 }
 
-fn say_plan(p: PagedManagerPlan, sections: &[u64]) -> Reply {
-    let mut out = bytes_memory();
-    let len = plan_line(p, sections, &mut out);
-    write_out(&out, len);
-    Reply::Silent
-}
-
 // Whether three runs end where the numbers do.
 fn are_runs(meta: Run, raw: Run, unclassified: Run, len: usize) -> bool {
     if !meta.fine {
@@ -145,7 +136,7 @@ fn are_runs(meta: Run, raw: Run, unclassified: Run, len: usize) -> bool {
     unclassified.end == len
 }
 
-pub(crate) fn plan_call(args: &[u64]) -> Reply {
+pub(crate) fn plan_call(args: &[u64], out: &mut [u8]) -> Reply {
     if args.len() < 6 {
         return Reply::Bad;
     }
@@ -179,7 +170,7 @@ pub(crate) fn plan_call(args: &[u64]) -> Reply {
         &mut sections,
     );
     match planned {
-        Planned::Plan(p) => say_plan(p, &sections),
+        Planned::Plan(p) => Reply::Text(plan_line(p, &sections, out)),
         Planned::Refused(refusal) => Reply::Refused(refusal),
     }
 }

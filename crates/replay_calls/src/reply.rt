@@ -1,8 +1,7 @@
-// Short answers, and standard output.
+// The answers, and standard output.
 use crate::lines::end_line;
 use crate::lines::pairs_line;
 use crate::lines::put_counted;
-use crate::memory::bytes_memory;
 use error::Number;
 use error::Refusal;
 use libc::STDOUT_FILENO;
@@ -15,9 +14,10 @@ use replay_lines::answer::refused;
 use replay_lines::answer::word_line;
 use text::words::write_bytes;
 
-// The short answer to a call. None is left to be written where the line needs none, or has a long one that is written already.
+// The answer to a call: none for a line that needs none, a short one, or how many bytes of the memory for answers a long one has.
 pub(crate) enum Reply {
     Silent,
+    Text(usize),
     Bad,
     Done,
     Nothing,
@@ -36,10 +36,11 @@ pub(crate) fn number_reply(number: Number) -> Reply {
     }
 }
 
-// The line of a short answer.
+// The line of an answer.
 fn reply_line(out: &mut [u8], reply: Reply) -> usize {
     match reply {
         Reply::Silent => 0,
+        Reply::Text(len) => len,
         Reply::Bad => bad(out),
         Reply::Done => done(out),
         Reply::Nothing => nothing(out),
@@ -53,33 +54,26 @@ fn reply_line(out: &mut [u8], reply: Reply) -> usize {
 }
 
 // Writes the first `len` bytes of an answer.
-pub(crate) fn write_out(out: &[u8], len: usize) {
+fn write_out(out: &[u8], len: usize) {
     if len <= out.len() {
         io::write_all(STDOUT_FILENO, &out[0..len]);
     }
 }
 
-// Writes a short answer. Three numbers of twenty digits are the longest.
-pub(crate) fn say(reply: Reply) {
-    let mut out = [0; 80];
-    let len = reply_line(&mut out, reply);
-    write_out(&out, len);
+// Writes an answer.
+pub(crate) fn say(reply: Reply, out: &mut [u8]) {
+    let len = reply_line(out, reply);
+    write_out(out, len);
 }
 
-// Writes a run of numbers.
-pub(crate) fn say_numbers(run: &[u64]) -> Reply {
-    let mut out = bytes_memory();
-    let at = put_counted(&mut out, 0, run, run.len() as u64);
-    let len = end_line(&mut out, at);
-    write_out(&out, len);
-    Reply::Silent
+// A run of numbers.
+pub(crate) fn numbers_reply(run: &[u64], out: &mut [u8]) -> Reply {
+    let at = put_counted(out, 0, run, run.len() as u64);
+    Reply::Text(end_line(out, at))
 }
 
-// Writes a word, a count and as many pairs of a run.
-pub(crate) fn say_pairs(word: &[u8], run: &[u64], count: u64) -> Reply {
-    let mut out = bytes_memory();
-    let at = write_bytes(&mut out, 0, word);
-    let len = pairs_line(&mut out, at, run, count);
-    write_out(&out, len);
-    Reply::Silent
+// A word, a count and as many pairs of a run.
+pub(crate) fn pairs_reply(word: &[u8], run: &[u64], count: u64, out: &mut [u8]) -> Reply {
+    let at = write_bytes(out, 0, word);
+    Reply::Text(pairs_line(out, at, run, count))
 }

@@ -9,7 +9,6 @@ use crate::lists::file_lists;
 use crate::lists::room_of;
 use crate::memory::bytes_memory;
 use crate::reply::Reply;
-use crate::reply::write_out;
 use replay_lines::answer::put_number;
 use save::Begin;
 use save::Target;
@@ -27,12 +26,9 @@ fn image_line(len: u64, image: &[u8], out: &mut [u8]) -> usize {
 }
 
 // Makes k steps of a save, and writes the image that they leave.
-fn steps(s: Save, k: u64, image: &mut [u8], scratch: &[u8]) -> Reply {
+fn steps(s: Save, k: u64, image: &mut [u8], scratch: &[u8], out: &mut [u8]) -> Reply {
     save_steps(s, image, scratch, k);
-    let mut out = bytes_memory();
-    let len = image_line(s.len, image, &mut out);
-    write_out(&out, len);
-    Reply::Silent
+    Reply::Text(image_line(s.len, image, out))
 }
 
 fn begin(args: &[u64], lists: &[u64], image: &[u8], scratch: &mut [u8]) -> Begin
@@ -58,17 +54,23 @@ fn begin(args: &[u64], lists: &[u64], image: &[u8], scratch: &mut [u8]) -> Begin
 }
 
 // Saves the lists over an image, and makes as many steps as the fourth number says.
-fn save_lists(args: &[u64], lists: &[u64], image: &mut [u8], scratch: &mut [u8]) -> Reply
+fn save_lists(
+    args: &[u64],
+    lists: &[u64],
+    image: &mut [u8],
+    scratch: &mut [u8],
+    out: &mut [u8],
+) -> Reply
     requires { ⌜ (4 ≤ length (now args)) × (24583 ≤ length (now lists)) ⌝ }
 {
     let begun = begin(args, lists, image, scratch);
     match begun {
-        Begin::Begun(s) => steps(s, args[3], image, scratch),
+        Begin::Begun(s) => steps(s, args[3], image, scratch, out),
         Begin::Refused(r) => Reply::Refused(r),
     }
 }
 
-pub(crate) fn save_call(args: &[u64], image: &mut [u8], lists: &[u64]) -> Reply
+pub(crate) fn save_call(args: &[u64], image: &mut [u8], lists: &[u64], out: &mut [u8]) -> Reply
     requires { ⌜ 24583 ≤ length (now lists) ⌝ }
 {
     if args.len() != 4 {
@@ -79,5 +81,5 @@ pub(crate) fn save_call(args: &[u64], image: &mut [u8], lists: &[u64]) -> Reply
         return Reply::Bad;
     }
     let mut scratch = bytes_memory();
-    save_lists(args, lists, image, &mut scratch[0..n])
+    save_lists(args, lists, image, &mut scratch[0..n], out)
 }

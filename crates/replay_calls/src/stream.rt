@@ -5,6 +5,7 @@ ghost use lib.ListN.{length};
 use crate::dispatch::answer_line;
 use crate::lists::SCRATCH;
 use crate::lists::put_front;
+use crate::memory::bytes_memory;
 use crate::reply::Reply;
 use crate::reply::say;
 use libc::STDIN_FILENO;
@@ -109,22 +110,23 @@ fn too_long(line: &[u8]) -> Reply {
 }
 
 // The answer to a line of `n` bytes.
-fn answer(line: &[u8], n: usize, lists: &mut [u64]) -> Reply
+fn answer(line: &[u8], n: usize, lists: &mut [u64], out: &mut [u8]) -> Reply
     requires { ⌜ 24583 ≤ length (now lists) ⌝ }
 {
     if line.len() <= n {
         return too_long(line);
     }
-    answer_line(&line[0..n], lists)
+    answer_line(&line[0..n], lists, out)
 }
 
 // Reads on, and answers the line if it is whole.
-fn step(chunk: &mut [u8], line: &mut [u8], lists: &mut [u64], input: Input) -> Input
+fn step(chunk: &mut [u8], line: &mut [u8], lists: &mut [u64], out: &mut [u8], input: Input) -> Input
     requires { ⌜ 24583 ≤ length (now lists) ⌝ }
 {
     let after = read_on(chunk, line, input);
     if after.whole {
-        say(answer(line, after.have, lists));
+        let reply = answer(line, after.have, lists, out);
+        say(reply, out);
     }
     after
 }
@@ -138,7 +140,7 @@ fn iterations_left(iterations: u64, more: bool) -> u64
 }
 
 // Reads and answers up to 2^40 lines or chunks.
-fn replay(chunk: &mut [u8], line: &mut [u8], lists: &mut [u64])
+fn replay(chunk: &mut [u8], line: &mut [u8], lists: &mut [u64], out: &mut [u8])
     requires { ⌜ 24583 ≤ length (now lists) ⌝ }
 {
     let mut input = Input {
@@ -150,7 +152,7 @@ fn replay(chunk: &mut [u8], line: &mut [u8], lists: &mut [u64])
     };
     let mut iterations: u64 = 1099511627776;
     while 0 < iterations {
-        input = step(chunk, line, lists, input);
+        input = step(chunk, line, lists, out, input);
         iterations = iterations_left(iterations, input.more);
     }
 }
@@ -167,6 +169,7 @@ pub fn run() {
     let mut chunk = io::large_buffer();
     let mut line = line_buffer();
     let mut lists = lists_buffer();
+    let mut out = bytes_memory();
     lend_all(&mut lists);
-    replay(&mut chunk, &mut line, &mut lists);
+    replay(&mut chunk, &mut line, &mut lists, &mut out);
 }

@@ -4,7 +4,6 @@ ghost use Rattle.error.specs.Lent.{with};
 ghost use Rattle.text.specs.Text.{written};
 ghost use Rattle.replay_calls.specs.Sums.{lookup3Call, hashlittleCall, verifyCall};
 use crate::reply::Reply;
-use crate::reply::write_out;
 use checksum::hashlittle;
 use checksum::jenkins_lookup3;
 use checksum::verify_trailing;
@@ -52,9 +51,6 @@ fn sum_line(call: u64, args: &[u64], data: &[u8], out: &mut [u8]) -> usize {
     }
 }
 
-pub(crate) fn sum_call(call: u64, args: &[u64], data: &[u8]) -> Reply {
-    let mut out = [0; 80];
-    let len = sum_line(call, args, data, &mut out);
-    write_out(&out, len);
-    Reply::Silent
+pub(crate) fn sum_call(call: u64, args: &[u64], data: &[u8], out: &mut [u8]) -> Reply {
+    Reply::Text(sum_line(call, args, data, out))
 }

@@ -4,7 +4,7 @@ ghost use mathlib.Core.Path.{_≡_};
 ghost use Prim.Native.Nat.{_-_, _≤_, _<_};
 ghost use lib.ListN.{length, take, drop};
 ghost use Rattle.replay_lines.specs.Words.{spelledBy};
-use fields::number::MAX;
+use numbers::MAX;
 use replay_lines::call::is_call;
 
 // How many numbers or bytes were read; where the text breaks the protocol, it is not fine.

@@ -18,7 +18,6 @@ use crate::Target;
 use error::Checked;
 use error::Number;
 use error::Refusal;
-use fields::number::MAX;
 use file_space_info::MESSAGE_LEN;
 use free_lists::FileLists;
 use free_lists::are_lists;
@@ -26,6 +25,7 @@ use free_lists::check_lists;
 use free_space::list::FreeList;
 use fsm_writer::slots::Slot;
 use fsm_writer::slots::slot_len;
+use numbers::MAX;
 
 // Counted from the first block byte: slot 0 has the blocks up to `raw`, slot 2 those up to `large`, slot 6 those up to `len`.
 pub(crate) struct Offsets {

@@ -11,10 +11,10 @@ ghost use Rattle.fsm_pages.specs.Split.{splitOutcome};
 ghost use Rattle.split_records.specs.Records.{splitAnswer, piecesIn, splitRecords, piecesLeft};
 use error::Number;
 use error::Refusal;
-use fields::number::min;
 use fsm_pages::pages::Split;
 use fsm_pages::pages::split_count;
 use fsm_sections::FreeSection;
+use numbers::min;
 
 // A piece, and how far the cutting is then: `done` bytes of section `section`.
 struct Cut {

@@ -18,22 +18,26 @@ region-at-requires c κs =
 add-if2 : tie.Need-add-if2
 add-if2 c = search needs
 
-add-t9 : tie.Need-add-t9
-add-t9 c = search needs
+add-region-to : tie.Need-add-region-to
+add-region-to c = search needs
 
-add-t10 : tie.Need-add-t10
-add-t10 c =
+add-region-to-2 : tie.Need-add-region-to-2
+add-region-to-2 c =
     let a = c .before .before .before .before .before .before .before .before .before .args in
     let pre = c .before .before .before .before .before .before .before .before .before .pre in
     let g = c .before .before .before .before .before .region-at in
     omega (arith, read-fits (now (a .run)) (a .list) (a .i) (g .result) (pre .0) (c .before .before .before .before .before .before .if1 .taken) (g .ensures) .within)
 
+region-to-requires : tie.Need-region-to-requires
+region-to-requires c κs = search needs
+
 returns : tie.Need-returns
 returns c =
-    let a = c .before .before .before .before .before .before .before .before .before .args in
-    let pre = c .before .before .before .before .before .before .before .before .before .pre in
-    let g = c .before .before .before .before .before .region-at in
-    (omega arith, omega arith, absorb-touch (now (a .run)) (a .list) (pre .0) (a .new) (a .i) (g .result) (c .before .before .before .before .before .before .if1 .taken) (g .ensures) (c .before .before .if2 .taken))
+    let a = c .before .before .before .before .before .before .before .before .before .before .args in
+    let pre = c .before .before .before .before .before .before .before .before .before .before .pre in
+    let g = c .before .before .before .before .before .before .region-at in
+    rw (c .region-to .ensures)
+    (omega arith, omega arith, absorb-touch (now (a .run)) (a .list) (pre .0) (a .new) (a .i) (g .result) (c .before .before .before .before .before .before .before .if1 .taken) (g .ensures) (c .before .before .before .if2 .taken))
 
 returns-2 : tie.Need-returns-2
 returns-2 c =
@@ -54,4 +58,12 @@ returns-3 c =
 pub join-above-spec : {M : Type 1} → statement M
 join-above-spec =
     tie.close
-    (tie.spec region-at-requires add-if2 add-t9 add-t10 returns returns-2 returns-3)
+    (tie.spec
+    region-at-requires
+    add-if2
+    add-region-to
+    add-region-to-2
+    region-to-requires
+    returns
+    returns-2
+    returns-3)

@@ -27,20 +27,24 @@ add-if2 c =
     let h : a .i - 1 < a .list .count = omega (arith, p .high .within) in
     omega (arith, read-fits (now (a .run)) (a .list) (a .i - 1) (g .result) (p .list) h (g .ensures) .within)
 
-sub-t10 : tie.Need-sub-t10
-sub-t10 c = search needs
+sub-region-to : tie.Need-sub-region-to
+sub-region-to c = search needs
 
-add-t11 : tie.Need-add-t11
-add-t11 c = search needs
+add-region-to : tie.Need-add-region-to
+add-region-to c = search needs
+
+region-to-requires : tie.Need-region-to-requires
+region-to-requires c κs = search needs
 
 returns : tie.Need-returns
 returns c =
-    let a = c .before .before .before .before .before .before .before .before .args in
-    let pre = c .before .before .before .before .before .before .before .before .pre in
-    let g = c .before .before .before .before .before .region-at in (
+    let a = c .before .before .before .before .before .before .before .before .before .args in
+    let pre = c .before .before .before .before .before .before .before .before .before .pre in
+    let g = c .before .before .before .before .before .before .region-at in
+    rw (c .region-to .ensures) (
       omega arith,
       omega arith,
-      insert-touch (now (a .run)) (a .list) (a .new) (pre .1) (a .i) (pre .0) (c .before .before .before .before .before .before .if1 .taken) (g .result) (g .ensures) (c .before .before .if2 .taken),
+      insert-touch (now (a .run)) (a .list) (a .new) (pre .1) (a .i) (pre .0) (c .before .before .before .before .before .before .before .if1 .taken) (g .result) (g .ensures) (c .before .before .before .if2 .taken),
     )
 
 returns-2 : tie.Need-returns-2
@@ -63,8 +67,9 @@ join-below-spec =
     sub-region-at
     region-at-requires
     add-if2
-    sub-t10
-    add-t11
+    sub-region-to
+    add-region-to
+    region-to-requires
     returns
     returns-2
     returns-3)

@@ -6,10 +6,15 @@ use Rattle.replay_calls.proofs.stream.replay.Statement.{statement}
 use Rattle.replay_calls.proofs.stream.replay.Tie as tie
 
 abbrev Inv-loop : tie.InvT-loop
-Inv-loop chunk₀ line₀ lists₀ input₀ iterations₀ chunk line lists input iterations = (24583 ≤ length lists) × (length lists ≡ length lists₀) × (length chunk ≡ length chunk₀) × (length line ≡ length line₀)
+Inv-loop chunk₀ line₀ lists₀ out₀ input₀ iterations₀ chunk line lists out input iterations =
+    (24583 ≤ length lists)
+    × (length lists ≡ length lists₀)
+    × (length chunk ≡ length chunk₀)
+    × (length line ≡ length line₀)
+    × (length out ≡ length out₀)
 
 abbrev μ-loop : tie.MeasureT-loop
-μ-loop chunk₀ line₀ lists₀ input₀ iterations₀ chunk line lists input iterations = iterations
+μ-loop chunk₀ line₀ lists₀ out₀ input₀ iterations₀ chunk line lists out input iterations = iterations
 
 loop-holds : tie.Need-loop-holds Inv-loop μ-loop
 loop-holds c = search needs
@@ -35,6 +40,9 @@ same-length-2 c = search needs
 same-length-3 : tie.Need-same-length-3 Inv-loop μ-loop
 same-length-3 c = search needs
 
+same-length-4 : tie.Need-same-length-4 Inv-loop μ-loop
+same-length-4 c = search needs
+
 returns : tie.Need-returns Inv-loop μ-loop
 returns c = search needs
 
@@ -52,4 +60,5 @@ replay-spec =
     same-length
     same-length-2
     same-length-3
+    same-length-4
     returns)

@@ -3,6 +3,8 @@ ghost use mathlib.Core.Path.{_≡_};
 ghost use Prim.Native.Nat.{_+_, _-_, _/_, _%_, _^_, _<_, min, max};
 ghost use Rattle.error.specs.Outcome.{sat};
 
+pub mod index;
+
 // The greatest 64-bit number.
 pub const MAX: u64 = 18446744073709551615;
 

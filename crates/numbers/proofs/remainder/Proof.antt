@@ -2,10 +2,10 @@ use mathlib.Core.Path.{sym, ap, _∙_}
 use Prim.Native.Nat.{ℕ, _%_}
 use native.Mathlib.Nat.{mod-zero}
 use native.Mathlib.Omega.{arith}
-use Rattle.fields.proofs.ShiftLaws.{below, after-multiple}
+use Rattle.numbers.proofs.NumberLaws.{below, after-multiple}
 use borrow.Author.Needs.{needs}
-use Rattle.fields.proofs.number.remainder.Statement.{statement}
-use Rattle.fields.proofs.number.remainder.Tie as tie
+use Rattle.numbers.proofs.remainder.Statement.{statement}
+use Rattle.numbers.proofs.remainder.Tie as tie
 
 shift-of-requires : tie.Need-shift-of-requires
 shift-of-requires c κs = search needs

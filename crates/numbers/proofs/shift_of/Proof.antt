@@ -1,7 +1,7 @@
-use Rattle.fields.proofs.ShiftLaws.{power}
+use Rattle.numbers.proofs.NumberLaws.{power}
 use borrow.Author.Needs.{needs}
-use Rattle.fields.proofs.number.shift_of.Statement.{statement}
-use Rattle.fields.proofs.number.shift_of.Tie as tie
+use Rattle.numbers.proofs.shift_of.Statement.{statement}
+use Rattle.numbers.proofs.shift_of.Tie as tie
 
 cast-if2 : tie.Need-cast-if2
 cast-if2 c = search needs

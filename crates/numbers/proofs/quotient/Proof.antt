@@ -1,10 +1,10 @@
 use mathlib.Core.Path.{sym, ap, _∙_}
 use Prim.Native.Nat.{ℕ, _/_}
 use native.Mathlib.Nat.{div-zero}
-use Rattle.fields.proofs.ShiftLaws.{by-shift}
+use Rattle.numbers.proofs.NumberLaws.{by-shift}
 use borrow.Author.Needs.{needs}
-use Rattle.fields.proofs.number.quotient.Statement.{statement}
-use Rattle.fields.proofs.number.quotient.Tie as tie
+use Rattle.numbers.proofs.quotient.Statement.{statement}
+use Rattle.numbers.proofs.quotient.Tie as tie
 
 shift-of-requires : tie.Need-shift-of-requires
 shift-of-requires c κs = search needs
