@@ -43,34 +43,34 @@ impl Figures {
 
 /// The least time of each of two calls, their samples taken in turns.
 fn in_turns<T>(mut first: impl FnMut() -> T, mut second: impl FnMut() -> T) -> (f64, f64) {
-    let turns = turns(&mut second);
+    let iterations = iterations(&mut second);
     let mut least = (f64::MAX, f64::MAX);
     for _ in 0..SAMPLES {
-        least.0 = least.0.min(sample(turns, &mut first));
-        least.1 = least.1.min(sample(turns, &mut second));
+        least.0 = least.0.min(sample(iterations, &mut first));
+        least.1 = least.1.min(sample(iterations, &mut second));
     }
     least
 }
 
-/// How many turns take about one sample.
-fn turns<T>(f: &mut impl FnMut() -> T) -> u32 {
-    let mut turns = 1;
+/// How many iterations take about one sample.
+fn iterations<T>(f: &mut impl FnMut() -> T) -> u32 {
+    let mut iterations = 1;
     loop {
         let began = Instant::now();
-        for _ in 0..turns {
+        for _ in 0..iterations {
             black_box(f());
         }
-        if began.elapsed() >= SAMPLE || turns >= 1 << 24 {
-            return turns;
+        if began.elapsed() >= SAMPLE || iterations >= 1 << 24 {
+            return iterations;
         }
-        turns *= 2;
+        iterations *= 2;
     }
 }
 
-fn sample<T>(turns: u32, f: &mut impl FnMut() -> T) -> f64 {
+fn sample<T>(iterations: u32, f: &mut impl FnMut() -> T) -> f64 {
     let began = Instant::now();
-    for _ in 0..turns {
+    for _ in 0..iterations {
         black_box(f());
     }
-    began.elapsed().as_nanos() as f64 / f64::from(turns)
+    began.elapsed().as_nanos() as f64 / f64::from(iterations)
 }

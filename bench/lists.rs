@@ -1,5 +1,5 @@
 //! The list calls, at 16, 1,000 and 65,536 regions. Each figure changes the middle (or the last) region and puts it back, so that
-//! every turn meets the same list.
+//! every iteration meets the same list.
 
 use crate::figures::Figures;
 use crate::free_space::FreeList;

@@ -26,7 +26,7 @@ def generated(seed, count, kinds=tuple(KINDS), edge=False):
     calls = []
     while len(calls) < count:
         for kind in kinds:
-            # One turn of lists has some hundred calls, those of the others a few.
+            # One round of lists has some hundred calls, those of the others a few.
             if kind == "lists" and len(kinds) > 1 and draws.chance(0.85):
                 continue
             calls += [" ".join(map(str, call)) for call in KINDS[kind](draws)]

@@ -99,11 +99,11 @@ module _ (i : Which) where
   abbrev Word : CallOn → Lists → ℕ → Last
   Word c ls b = cond (same i (c .list)) (goesOver (c .what) (perform (c .what) (ls i) .outcome) b) never
 
-  record Turn (c : CallOn) (ls : Lists) : Type 0 where
+  record Iteration (c : CallOn) (ls : Lists) : Type 0 where
     list : isList (next c ls i .run) (next c ls i .list) ≡ isList (ls i .run) (ls i .list)
     free : (b : ℕ) → Free (regionsOf (next c ls i)) b ↔ Now (Word c ls b) (Free (regionsOf (ls i)) b)
 
-  iteration : (c : CallOn) (ls : Lists) → Turn c ls
+  iteration : (c : CallOn) (ls : Lists) → Iteration c ls
   iteration c ls = let g = pick (same i (c .list)) in record { list = g .0; free = g .1 }
     where
       d : Effect

@@ -284,8 +284,8 @@ module _ {M : Type 1} (𝓤 : URA M) (H : Heap 𝓤) (A : Atoms 𝓤) (W : Given
             gd,
           ))
 
-      turns : (t : ℕ) → ent 𝓤 (Inv t) (Wp 𝓤 H C Λ En code.Mir.turn-1 (afterTurn 𝓤 H (Below t) Left))
-      turns t = exE 𝓤 (λ (p : ℕ × ℕ × ℕ). guard 𝓤 (Facts t p) (⋆ 𝓤 H A (At (p .0) (p .1) (p .2)))) (λ p. guardE 𝓤 (Facts t p) (⋆ 𝓤 H A (At (p .0) (p .1) (p .2))) (λ h. step-at t (p .0)
+      iterations : (t : ℕ) → ent 𝓤 (Inv t) (Wp 𝓤 H C Λ En code.Mir.turn-1 (afterTurn 𝓤 H (Below t) Left))
+      iterations t = exE 𝓤 (λ (p : ℕ × ℕ × ℕ). guard 𝓤 (Facts t p) (⋆ 𝓤 H A (At (p .0) (p .1) (p .2)))) (λ p. guardE 𝓤 (Facts t p) (⋆ 𝓤 H A (At (p .0) (p .1) (p .2))) (λ h. step-at t (p .0)
           (p .1) (p .2) (h .0) (h .1)))
 
       loops : ent 𝓤 (⋆ 𝓤 H A (At 0 0 0)) (Wp 𝓤 H C Λ En (loop code.Mir.turn-1) Left)
@@ -293,7 +293,7 @@ module _ {M : Type 1} (𝓤 : URA M) (H : Heap 𝓤) (A : Atoms 𝓤) (W : Given
           via 𝓤 (Inv m)
           (via 𝓤 (guard 𝓤 (Facts m (0, 0, 0)) (⋆ 𝓤 H A (At 0 0 0))) (guardI 𝓤 (Facts m (0, 0, 0)) (⋆ 𝓤 H A (At 0 0 0)) (omega arith, (sym (all-left xs n page), lit< tt, lit< tt)))
           (exI 𝓤 (λ (p : ℕ × ℕ × ℕ). guard 𝓤 (Facts m p) (⋆ 𝓤 H A (At (p .0) (p .1) (p .2)))) (0, 0, 0)))
-          (loop-rule 𝓤 H (W .laws) 𝓣 _<_ (Nat·lt-wfRel .wf) En code.Mir.turn-1 Left Inv turns m)
+          (loop-rule 𝓤 H (W .laws) 𝓣 _<_ (Nat·lt-wfRel .wf) En code.Mir.turn-1 Left Inv iterations m)
 
       -- the loop is begun
       begins : ent 𝓤 (⋆ 𝓤 H A (Body (‵ (fat fullShare S′.mir l₅ 0 ua)) (‵ (fat fullShare word l₆ 0 (vint w64 m))) (‵ (fat fullShare word l₁₁ 0 (vint w64 (length ys))))))
