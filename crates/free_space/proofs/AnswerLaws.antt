@@ -9,8 +9,8 @@ use borrow.Author.Tests.{lt-ltb, le-ltb, eq-eqb, ne-eqb}
 use lib.Dec.{eqb}
 use lib.ListN.{length, getD}
 use Rattle.error.specs.declared.Refusal.the-variants.{NotAList, Overflow, SharedAddress, PartUnit}
-use Rattle.error.specs.Outcome.{Outcome, nothing, refused, firstOf}
-use Rattle.error.specs.Lent.{With}
+use Rattle.error.specs.Outcome.{Outcome, answer, nothing, refused, firstOf}
+use Rattle.error.specs.Lent.{With, with}
 use Rattle.error.proofs.OutcomeLaws.{first-none, first-holds, first-passes, passes}
 use Rattle.fields.specs.Ranges.{top}
 use Rattle.free_regions.specs.declared.FreeRegion.{FreeRegion}
@@ -20,11 +20,9 @@ use Rattle.free_regions.proofs.ShareLaws.{shares-empty}
 use Rattle.pairs.proofs.PairLaws.{length-decode, decode-at}
 use Rattle.free_space.specs.declared.list.FreeList.{FreeList}
 use Rattle.free_space.specs.declared.decide.Decision.the-variants.{Refused, Nothing}
-use Rattle.free_space.specs.declared.decide.RangeCall.{RangeCall}
-use Rattle.free_space.specs.declared.decide.RangeCall.the-variants as range
 use Rattle.free_space.specs.Runs.{regionAt, regions, isList}
 use Rattle.free_space.specs.Calls.{Gave, giving, placed, without, serve, keeping, freedRegions, leftRegions, allocated, allocatedUnits, freed, rangeTaken, trailingTaken, partUnit}
-use Rattle.free_space.specs.Decisions.{ifList, ranged, givenBy, keptBy}
+use Rattle.free_space.specs.Decisions.{ifList, givenBy, keptBy}
 use Rattle.free_space.proofs.ListLaws.{listed}
 use Rattle.free_space.proofs.SpliceLaws.{kept-same}
 
@@ -95,17 +93,13 @@ module _ (xs : List ℕ) (l : FreeList) (len unit : ℕ) where
 -- ---- `free`
 
 module _ (xs : List ℕ) (l : FreeList) (a len : ℕ) where
-  free-bad : isList xs l ≡ false → refused NotAList ≡ freed xs l a len
+  pub free-bad : isList xs l ≡ false → refused NotAList ≡ freed xs l a len
   unfolding freed
   free-bad e = sym (first-holds _ _ _ _ (ap not e))
 
-  free-over : top < a + len → keptBy xs l (ifList (isList xs l) (Refused Overflow)) ≡ freed xs l a len
-  unfolding freed firstOf
-  free-over h = rw (lt-ltb top (a + len) h) (go (isList xs l))
-    where
-      go : (t : Bool) → keptBy xs l (ifList t (Refused Overflow)) ≡ cond (not t) (refused NotAList) (refused Overflow)
-      go true = refl
-      go false = refl
+  pub free-over : isList xs l ≡ true → top < a + len → refused Overflow ≡ freed xs l a len
+  unfolding freed
+  free-over ok h = sym (first-passes _ _ _ _ (ap not ok) ∙ first-holds _ _ _ _ (lt-ltb top (a + len) h))
 
   module _ (fits : a + len ≤ top) where
     pub free-shared : isList xs l ≡ true → shares (region a len) (regions xs l) ≡ true → refused SharedAddress ≡ freed xs l a len
@@ -119,14 +113,10 @@ module _ (xs : List ℕ) (l : FreeList) (a len : ℕ) where
         ap (placed keeping xs l) (sym e)
         ∙ sym (first-passes _ _ _ _ (ap not ok) ∙ first-passes _ _ _ _ (le-ltb top (a + len) fits) ∙ first-passes _ _ _ _ s ∙ first-none _)
 
-    free-zero : len ≡ 0 → keptBy xs l (ifList (isList xs l) Nothing) ≡ freed xs l a len
-    free-zero z = go (isList xs l) refl
-      where
-        go : (t : Bool) → isList xs l ≡ t → keptBy xs l (ifList t Nothing) ≡ freed xs l a len
-        go true ok =
-            kept-same xs l (regions xs l) ok refl
-            ∙ accepted (regions xs l) ok (shares-empty (region a len) (regions xs l) z) (rw (eq-eqb len 0 z))
-        go false e = free-bad e
+    pub free-zero : isList xs l ≡ true → len ≡ 0 → answer (with l xs) ≡ freed xs l a len
+    free-zero ok z =
+        kept-same xs l (regions xs l) ok refl
+        ∙ accepted (regions xs l) ok (shares-empty (region a len) (regions xs l) z) (rw (eq-eqb len 0 z))
 
     pub free-else : isList xs l ≡ true → (len ≡ 0 → ⊥) → shares (region a len) (regions xs l) ≡ false
         → placed keeping xs l (insert (region a len) (regions xs l)) ≡ freed xs l a len
@@ -135,47 +125,24 @@ module _ (xs : List ℕ) (l : FreeList) (a len : ℕ) where
 -- ---- `take_range`
 
 module _ (xs : List ℕ) (l : FreeList) (a len : ℕ) where
-  range-bad : isList xs l ≡ false → refused NotAList ≡ rangeTaken xs l a len
+  pub range-bad : isList xs l ≡ false → refused NotAList ≡ rangeTaken xs l a len
   unfolding rangeTaken
   range-bad e = sym (first-holds _ _ _ _ (ap not e))
 
-  range-over : top < a + len → keptBy xs l (ifList (isList xs l) (Refused Overflow)) ≡ rangeTaken xs l a len
-  unfolding rangeTaken firstOf
-  range-over h = rw (lt-ltb top (a + len) h) (go (isList xs l))
-    where
-      go : (t : Bool) → keptBy xs l (ifList t (Refused Overflow)) ≡ cond (not t) (refused NotAList) (refused Overflow)
-      go true = refl
-      go false = refl
+  pub range-over : isList xs l ≡ true → top < a + len → refused Overflow ≡ rangeTaken xs l a len
+  unfolding rangeTaken
+  range-over ok h = sym (first-passes _ _ _ _ (ap not ok) ∙ first-holds _ _ _ _ (lt-ltb top (a + len) h))
 
   module _ (fits : a + len ≤ top) where
     passed : (rs : List FreeRegion) → isList xs l ≡ true → leftRegions (regions xs l) a len ≡ rs → placed keeping xs l rs ≡ rangeTaken xs l a len
     unfolding rangeTaken
     passed rs ok e = ap (placed keeping xs l) (sym e) ∙ sym (first-passes _ _ _ _ (ap not ok) ∙ first-passes _ _ _ _ (le-ltb top (a + len) fits) ∙ first-none _)
 
-    range-zero : len ≡ 0 → keptBy xs l (ifList (isList xs l) Nothing) ≡ rangeTaken xs l a len
-    range-zero z = go (isList xs l) refl
-      where
-        go : (t : Bool) → isList xs l ≡ t → keptBy xs l (ifList t Nothing) ≡ rangeTaken xs l a len
-        go true ok = kept-same xs l (regions xs l) ok refl ∙ passed (regions xs l) ok (rw (eq-eqb len 0 z))
-        go false e = range-bad e
+    pub range-zero : isList xs l ≡ true → len ≡ 0 → answer (with l xs) ≡ rangeTaken xs l a len
+    range-zero ok z = kept-same xs l (regions xs l) ok refl ∙ passed (regions xs l) ok (rw (eq-eqb len 0 z))
 
     pub range-else : isList xs l ≡ true → (len ≡ 0 → ⊥) → placed keeping xs l (cutAll a (a + len) (regions xs l)) ≡ rangeTaken xs l a len
     range-else ok z = passed (cutAll a (a + len) (regions xs l)) ok (rw (ne-eqb len 0 z))
-
--- ---- both
-
-module _ (xs : List ℕ) (l : FreeList) (a len : ℕ) where
-  pub ranged-bad : (q : RangeCall) → isList xs l ≡ false → refused NotAList ≡ ranged q xs l a len
-  ranged-bad range.Free = free-bad xs l a len
-  ranged-bad range.Take = range-bad xs l a len
-
-  pub ranged-over : (q : RangeCall) → top < a + len → keptBy xs l (ifList (isList xs l) (Refused Overflow)) ≡ ranged q xs l a len
-  ranged-over range.Free = free-over xs l a len
-  ranged-over range.Take = range-over xs l a len
-
-  pub ranged-zero : (q : RangeCall) → a + len ≤ top → len ≡ 0 → keptBy xs l (ifList (isList xs l) Nothing) ≡ ranged q xs l a len
-  ranged-zero range.Free = free-zero xs l a len
-  ranged-zero range.Take = range-zero xs l a len
 
 -- ---- `take_trailing`
 

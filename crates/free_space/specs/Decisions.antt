@@ -2,7 +2,6 @@
 -- contracts of private functions. Assumes nothing.
 --   fitted     a change, where the run has room for the regions that it leaves; else refusal 14
 --   ifList     a decision, or refusal 3 where the test for it fails
---   ranged     `free` or `take_range`, by what a call does with a range
 --   givenBy    the outcome of a decision, for a call that gives an address out
 --   keptBy     the same for one that gives nothing out
 --   Applicable        a decision that can be carried out
@@ -23,10 +22,8 @@ use Rattle.free_space.specs.declared.list.FreeList.{FreeList}
 use Rattle.free_space.specs.declared.run.Patch.{Patch}
 use Rattle.free_space.specs.declared.decide.Decision.{Decision}
 use Rattle.free_space.specs.declared.decide.Decision.the-variants.{Refused, Nothing, Change}
-use Rattle.free_space.specs.declared.decide.RangeCall.{RangeCall}
-use Rattle.free_space.specs.declared.decide.RangeCall.the-variants as range
 use Rattle.free_space.specs.Runs.{regions}
-use Rattle.free_space.specs.Calls.{Gave, giving, keeping, leave, freed, rangeTaken}
+use Rattle.free_space.specs.Calls.{Gave, giving, keeping, leave}
 use Rattle.free_space.specs.Splices.{patch}
 
 abbrev pub fitted : ℕ → ℕ → ℕ → ℕ → ℕ → Patch → Decision
@@ -36,10 +33,6 @@ fitted given n a lo hi p =
 
 abbrev pub ifList : Bool → Decision → Decision
 ifList isList d = cond isList d (Refused NotAList)
-
-abbrev pub ranged : RangeCall → List ℕ → FreeList → ℕ → ℕ → Outcome (With FreeList (List ℕ))
-ranged range.Free = freed
-ranged range.Take = rangeTaken
 
 abbrev pub givenBy : List ℕ → FreeList → Decision → Outcome (With Gave (List ℕ))
 givenBy xs l (Refused r) = refused r

@@ -5,7 +5,7 @@
 --   Past       the first region that ends past a place
 --   From       the first from a region on that begins at a place or above
 --   Apart      the regions between two places share a byte with a range, and no others
---   Meets      the answer of the search for the regions that share a byte with a range
+--   Meets      the answer of the search for the regions that share a byte with a range of so many bytes
 --   patch      the regions that take the place of others
 use Prim.Native.Nat.{ℕ, suc, _+_, _-_, _*_, _≤_, _<_}
 use mathlib.Core.Path.{_≡_}
@@ -56,8 +56,10 @@ pub record Apart (xs : List ℕ) (l : FreeList) (a e lo hi : ℕ) : Type 0 where
   pub high : From xs l lo e hi
 
 abbrev pub Meets : List ℕ → FreeList → ℕ → ℕ → Meet → Type 0
-Meets xs l a e meet.Bad = isList xs l ≡ false
-Meets xs l a e (meet.Between lo hi) = Apart xs l a e lo hi
+Meets xs l a len meet.Bad = isList xs l ≡ false
+Meets xs l a len meet.Over = (isList xs l ≡ true) × (top < a + len)
+Meets xs l a len meet.Empty = (isList xs l ≡ true) × (a + len ≤ top) × (len ≡ 0)
+Meets xs l a len (meet.Between lo hi) = Apart xs l a (a + len) lo hi × (a + len ≤ top) × (0 < len)
 
 abbrev pub patch : Patch → List FreeRegion
 patch Empty = []

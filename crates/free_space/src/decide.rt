@@ -4,14 +4,13 @@ ghost use mathlib.Core.Bool.{true};
 ghost use mathlib.Core.List.{_++_};
 ghost use Prim.Native.Nat.{_+_, _-_, _*_, _<_, _≤_};
 ghost use lib.ListN.{length};
-ghost use Rattle.fields.specs.Ranges.{top};
 ghost use Rattle.pairs.specs.Pairs.{capacity};
 ghost use Rattle.free_regions.specs.Regions.{end, piece, cutAll};
 ghost use Rattle.free_regions.specs.Units.{interiorStart, interiorSpan};
 ghost use Rattle.free_space.specs.Runs.{regionAt, regions, isList};
-ghost use Rattle.free_space.specs.Calls.{placed, keeping, giving, without, allocated, allocatedUnits, freed, trailingTaken, partUnit};
+ghost use Rattle.free_space.specs.Calls.{placed, keeping, giving, without, allocated, allocatedUnits, freed, rangeTaken, trailingTaken, partUnit};
 ghost use Rattle.free_space.specs.Splices.{Apart, patch};
-ghost use Rattle.free_space.specs.Decisions.{fitted, ifList, ranged, Applicable, Gives, Keeps};
+ghost use Rattle.free_space.specs.Decisions.{fitted, ifList, Applicable, Gives, Keeps};
 use crate::check::is_list;
 use crate::fit::Search;
 use crate::fit::best_fit;
@@ -26,7 +25,6 @@ use crate::units::Measure;
 use crate::units::whole_units;
 use error::Refusal;
 use free_regions::FreeRegion;
-use numbers::MAX;
 use numbers::saturating_sub;
 
 // What is known before anything changes. The calls carry it out, or several of them together.
@@ -41,12 +39,6 @@ pub(crate) enum Decision {
         hi: usize,
         patch: Patch,
     },
-}
-
-// What a call does with a range: its bytes become free, or those of them that are free go.
-pub(crate) enum RangeCall {
-    Free,
-    Take,
 }
 
 // A change, if the run has room for the regions that it leaves.
@@ -209,48 +201,42 @@ fn cut_between(run: &[u64], list: FreeList, lo: usize, hi: usize, a: u64, e: u64
     )
 }
 
-// Frees a range, which the regions from `lo` up to `hi` share bytes with: bytes that are free already are refused.
-fn free_between(run: &[u64], list: FreeList, lo: usize, hi: usize, addr: u64, len: u64) -> Decision
-    requires { ⌜ Apart (now run) list addr (addr + len) lo hi × (0 < len) × (addr + len ≤ top) ⌝ }
+// `free`: bytes that are free already are refused.
+pub(crate) fn decide_free(run: &[u64], list: FreeList, addr: u64, len: u64) -> Decision
     ensures { λ d. ⌜ Keeps (now (run .entry)) list (freed (now (run .entry)) list addr len) d ⌝ }
 {
-    if lo < hi {
-        return Decision::Refused(Refusal::SharedAddress);
-    }
-    put_between(
-        run,
-        list,
-        lo,
-        FreeRegion {
-            addr: addr,
-            len: len,
-        },
-    )
-}
-
-// `free` and `take_range`.
-pub(crate) fn decide_range(
-    run: &[u64],
-    list: FreeList,
-    addr: u64,
-    len: u64,
-    call: RangeCall,
-) -> Decision
-    ensures { λ d. ⌜ Keeps (now (run .entry)) list (ranged call (now (run .entry)) list addr len) d ⌝ }
-{
-    if MAX - len < addr {
-        return if_list(run, list, Decision::Refused(Refusal::Overflow));
-    }
-    if len == 0 {
-        return if_list(run, list, Decision::Nothing);
-    }
-    let m = meeting(run, list, addr, addr + len);
+    let m = meeting(run, list, addr, len);
     match m {
         Meet::Bad => Decision::Refused(Refusal::NotAList),
-        Meet::Between { lo, hi } => match call {
-            RangeCall::Free => free_between(run, list, lo, hi, addr, len),
-            RangeCall::Take => cut_between(run, list, lo, hi, addr, addr + len),
-        },
+        Meet::Over => Decision::Refused(Refusal::Overflow),
+        Meet::Empty => Decision::Nothing,
+        Meet::Between { lo, hi } => {
+            if lo < hi {
+                return Decision::Refused(Refusal::SharedAddress);
+            }
+            put_between(
+                run,
+                list,
+                lo,
+                FreeRegion {
+                    addr: addr,
+                    len: len,
+                },
+            )
+        }
+    }
+}
+
+// `take_range`: the free bytes of the range go.
+pub(crate) fn decide_range(run: &[u64], list: FreeList, addr: u64, len: u64) -> Decision
+    ensures { λ d. ⌜ Keeps (now (run .entry)) list (rangeTaken (now (run .entry)) list addr len) d ⌝ }
+{
+    let m = meeting(run, list, addr, len);
+    match m {
+        Meet::Bad => Decision::Refused(Refusal::NotAList),
+        Meet::Over => Decision::Refused(Refusal::Overflow),
+        Meet::Empty => Decision::Nothing,
+        Meet::Between { lo, hi } => cut_between(run, list, lo, hi, addr, addr + len),
     }
 }
 

@@ -11,8 +11,8 @@ ghost use Rattle.free_space.specs.Calls.{keptOutcome, givenOutcome, free
 ghost use Rattle.free_space.specs.Splices.{patch};
 ghost use Rattle.free_space.specs.Decisions.{givenBy, keptBy, Applicable};
 use crate::decide::Decision;
-use crate::decide::RangeCall;
 use crate::decide::decide_alloc;
+use crate::decide::decide_free;
 use crate::decide::decide_range;
 use crate::decide::decide_trailing;
 use crate::decide::decide_whole_units;
@@ -57,7 +57,7 @@ impl FreeList {
     pub fn free(self, run: &mut [u64], addr: u64, len: u64) -> Kept
         ensures { λ r. ⌜ left (keptOutcome r) (now (run .exit)) ≡ leaving (now (run .entry)) (freed (now (run .entry)) self addr len) ⌝ }
     {
-        let d = decide_range(run, self, addr, len, RangeCall::Free);
+        let d = decide_free(run, self, addr, len);
         keep(run, self, d)
     }
 
@@ -82,7 +82,7 @@ impl FreeList {
     pub fn take_range(self, run: &mut [u64], addr: u64, len: u64) -> Kept
         ensures { λ r. ⌜ left (keptOutcome r) (now (run .exit)) ≡ leaving (now (run .entry)) (rangeTaken (now (run .entry)) self addr len) ⌝ }
     {
-        let d = decide_range(run, self, addr, len, RangeCall::Take);
+        let d = decide_range(run, self, addr, len);
         keep(run, self, d)
     }
 

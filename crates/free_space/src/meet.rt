@@ -7,11 +7,14 @@ ghost use Rattle.free_space.specs.Splices.{Past, From, Meets};
 use crate::check::is_list;
 use crate::list::FreeList;
 use crate::run::region_at;
+use numbers::MAX;
 
-// The regions from `lo` up to `hi` share a byte with the range; those before end at its start or below, those after
-// begin at its end or above.
+// Which regions share a byte with a range. The run is no list, the range ends above 2^64 - 1, or it is empty; else the regions from `lo` up
+// to `hi` share a byte with it, those before end at its start or below, and those after begin at its end or above.
 pub(crate) enum Meet {
     Bad,
+    Over,
+    Empty,
     Between { lo: usize, hi: usize },
 }
 
@@ -50,14 +53,20 @@ fn first_from(run: &[u64], list: FreeList, lo: usize, e: u64) -> usize
     i
 }
 
-// The regions that share a byte with the range from `a` up to `e`.
-pub(crate) fn meeting(run: &[u64], list: FreeList, a: u64, e: u64) -> Meet
-    ensures { λ m. ⌜ Meets (now (run .entry)) list a e m ⌝ }
+// The regions that share a byte with the range of `len` bytes from `addr` on.
+pub(crate) fn meeting(run: &[u64], list: FreeList, addr: u64, len: u64) -> Meet
+    ensures { λ m. ⌜ Meets (now (run .entry)) list addr len m ⌝ }
 {
     if !is_list(run, list) {
         return Meet::Bad;
     }
-    let lo = first_past(run, list, a);
-    let hi = first_from(run, list, lo, e);
+    if MAX - len < addr {
+        return Meet::Over;
+    }
+    if len == 0 {
+        return Meet::Empty;
+    }
+    let lo = first_past(run, list, addr);
+    let hi = first_from(run, list, lo, addr + len);
     Meet::Between { lo: lo, hi: hi }
 }

@@ -5,8 +5,8 @@ use Rattle.error.specs.Lent.{leaving}
 use Rattle.free_space.proofs.list.FreeList.free.Statement.{statement}
 use Rattle.free_space.proofs.list.FreeList.free.Tie as tie
 
-decide-range-requires : tie.Need-decide-range-requires
-decide-range-requires c κs = search needs
+decide-free-requires : tie.Need-decide-free-requires
+decide-free-requires c κs = search needs
 
 keep-requires : tie.Need-keep-requires
 keep-requires c κs = search needs
@@ -15,8 +15,8 @@ same-length : tie.Need-same-length
 same-length c = search needs
 
 returns : tie.Need-returns
-returns c = c .before .before .keep .ensures ∙ ap (leaving (now (c .before .before .before .before .before .before .before .args .run))) (c .before .before .before .before .decide-range .ensures .0)
+returns c = c .before .before .keep .ensures ∙ ap (leaving (now (c .before .before .before .before .before .before .before .args .run))) (c .before .before .before .before .decide-free .ensures .0)
 
 pub free-spec : {M : Type 1} → statement M
 free-spec =
-    tie.close (tie.spec decide-range-requires keep-requires same-length returns)
+    tie.close (tie.spec decide-free-requires keep-requires same-length returns)
