@@ -22,7 +22,7 @@ use Rattle.save_step.specs.Steps.{allMade, stepped, Saving, saving, stepOn, ste
 use Rattle.save.specs.declared.Begin.{Begin}
 use Rattle.save.specs.declared.Begin.the-variants.{Begun, Refused}
 use Rattle.save.specs.Saving.{begun, beginOutcome}
-use Rattle.save.specs.EveryCut.{OneSave, oneSave, blocks, total, afterSteps, imageAfter, recordAt, EveryCut}
+use Rattle.save.specs.EveryCut.{OneSave, oneSave, blocks, storeCount, afterSteps, imageAfter, recordAt, EveryCut}
 use Rattle.save.proofs.AfterCallsLaws.{every-cut-after-calls}
 use Rattle.end_to_end.specs.Cuts.{begunWith}
 use Rattle.end_to_end.specs.Anew.{Stepped, steppedWith, stepsOf, steppedAfter, steppedBy, Anew, anewWith, anewOver, anewAfter, EndsUncut}
@@ -87,46 +87,46 @@ no-more t (suc n) scratch x e =
 module _ (s : OneSave) (free : ℕ → Bool) (beginning : List ℕ → List ℕ → Outcome (With Save (List ℕ))) (d : EveryCut s free beginning) (k : ℕ) (other : List ℕ)
     (room : length (blocks s) + messageLen ≤ length other) (low : length other < top) where
   -- the image that a cut leaves is one after at most all steps
-  at-most : imageAfter s k ≡ imageAfter s (min k (total s))
+  at-most : imageAfter s k ≡ imageAfter s (min k (storeCount s))
   at-most = ⊎-elim
-      (λ (h : k ≤ total s). let e : k ≡ min k (total s) = omega arith in ap (imageAfter s) e)
-      (λ (h : total s < k).
-      let e : total s ≡ min k (total s) = omega arith in
+      (λ (h : k ≤ storeCount s). let e : k ≡ min k (storeCount s) = omega arith in ap (imageAfter s) e)
+      (λ (h : storeCount s < k).
+      let e : storeCount s ≡ min k (storeCount s) = omega arith in
       ap (λ (x : Saving). x .image) (same-after s free beginning d k (omega arith)) ∙ ap (imageAfter s) e)
-      (le-or-lt k (total s))
+      (le-or-lt k (storeCount s))
 
   abbrev left-image : List ℕ
-  left-image = imageAfter s (min k (total s))
+  left-image = imageAfter s (min k (storeCount s))
 
   again : (lent : List ℕ)
       × (beginning left-image other ≡ answer (with (s .save) lent))
-      × (steps (total s) lent (saving (s .save) left-image) ≡ afterSteps s (total s))
-  again = d .fresh-ends (min k (total s)) (omega arith) other room
+      × (steps (storeCount s) lent (saving (s .save) left-image) ≡ afterSteps s (storeCount s))
+  again = d .fresh-ends (min k (storeCount s)) (omega arith) other room
 
-  last-record : afterSteps s (total s) ≡ saving (recordAt s (total s)) (imageAfter s (total s))
-  last-record = ap (λ (x : Saving). saving (x .save) (imageAfter s (total s))) (d .bookkeeping .made (total s) (le-refl (total s)))
+  last-record : afterSteps s (storeCount s) ≡ saving (recordAt s (storeCount s)) (imageAfter s (storeCount s))
+  last-record = ap (λ (x : Saving). saving (x .save) (imageAfter s (storeCount s))) (d .bookkeeping .made (storeCount s) (le-refl (storeCount s)))
 
-  all-steps : (lent : List ℕ) → steps (total s) lent (saving (s .save) left-image) ≡ afterSteps s (total s)
-      → steps top lent (saving (s .save) left-image) ≡ saving (recordAt s (total s)) (imageAfter s (total s))
+  all-steps : (lent : List ℕ) → steps (storeCount s) lent (saving (s .save) left-image) ≡ afterSteps s (storeCount s)
+      → steps top lent (saving (s .save) left-image) ≡ saving (recordAt s (storeCount s)) (imageAfter s (storeCount s))
   all-steps lent e =
-      let t : top ≡ total s + (top - total s) = omega (arith, room, low) in
+      let t : top ≡ storeCount s + (top - storeCount s) = omega (arith, room, low) in
       ap (λ (n : ℕ). steps n lent (saving (s .save) left-image)) t
-      ∙ no-more (total s) (top - total s) lent (saving (s .save) left-image)
-      (ap (λ (x : Saving). allMade (x .save)) (e ∙ last-record) ∙ le-leb (total s) (total s) (le-refl (total s)))
+      ∙ no-more (storeCount s) (top - storeCount s) lent (saving (s .save) left-image)
+      (ap (λ (x : Saving). allMade (x .save)) (e ∙ last-record) ∙ le-leb (storeCount s) (storeCount s) (le-refl (storeCount s)))
       ∙ e
       ∙ last-record
 
-  second-is : steppedAfter top beginning (imageAfter s k) other ≡ steppedWith (answer (recordAt s (total s))) (imageAfter s (total s)) (again .0)
+  second-is : steppedAfter top beginning (imageAfter s k) other ≡ steppedWith (answer (recordAt s (storeCount s))) (imageAfter s (storeCount s)) (again .0)
   second-is =
       ap (λ (i : List ℕ). steppedAfter top beginning i other) at-most
       ∙ ap (stepsOf top left-image other) (again .1)
       ∙ ap (λ (x : Saving). steppedWith (answer (x .save)) (x .image) (again .0)) (all-steps (again .0) (again .2))
 
   both-are : anewOver beginning other (answer (afterSteps s k .save)) (imageAfter s k) (s .lent)
-      ≡ anewWith (answer (recordAt s (min k (total s)))) (answer (recordAt s (total s))) (imageAfter s (total s)) (s .lent) (again .0)
+      ≡ anewWith (answer (recordAt s (min k (storeCount s)))) (answer (recordAt s (storeCount s))) (imageAfter s (storeCount s)) (s .lent) (again .0)
   both-are =
       ap (λ (r : Save). anewOver beginning other (answer r) (imageAfter s k) (s .lent)) (counted s free beginning d k)
-      ∙ ap (λ (x : Stepped). anewWith (answer (recordAt s (min k (total s)))) (x .outcome) (x .image) (s .lent) (x .scratch)) second-is
+      ∙ ap (λ (x : Stepped). anewWith (answer (recordAt s (min k (storeCount s)))) (x .outcome) (x .image) (s .lent) (x .scratch)) second-is
 
 module _ (runs : Which → List ℕ) (calls : List CallOn) (page start place k : ℕ) (image scratch other : List ℕ) (x : Anew) where
   abbrev beginning : List ℕ → List ℕ → Outcome (With Save (List ℕ))

@@ -21,7 +21,7 @@ use Rattle.fsm_sections.proofs.SectionsLaws.{section-form}
 use Rattle.save_step.specs.declared.Save.{Save}
 use Rattle.save_step.specs.Steps.{Saving, saving, steps, goOn}
 use Rattle.save.specs.Saving.{begun}
-use Rattle.save.specs.EveryCut.{OneSave, oneSave, total, afterSteps, recordAt, metadataSlot, rawSlot, largeSlot, planned, sections, counts, Room, EveryCut}
+use Rattle.save.specs.EveryCut.{OneSave, oneSave, storeCount, afterSteps, recordAt, metadataSlot, rawSlot, largeSlot, plannedInSlots, plannedSections, plannedCounts, Room, EveryCut}
 use Rattle.save.proofs.AfterCallsLaws.{every-cut-after-calls}
 use Rattle.image.specs.Reading.{Listed, inSlot, imageInto}
 use Rattle.end_to_end.specs.Cuts.{Cut, cutAfter}
@@ -41,7 +41,7 @@ read-is x o e = (ap (λ (q : Left (List ℕ) (List ℕ)). q .outcome) e, ap (λ 
 
 module _ (s : OneSave) (free : ℕ → Bool) (beginning : List ℕ → List ℕ → Outcome (With Save (List ℕ))) (d : EveryCut s free beginning) where
   abbrev t : ℕ
-  t = total s
+  t = storeCount s
 
   abbrev at : ℕ → Saving
   at = afterSteps s
@@ -72,9 +72,9 @@ module _ (s : OneSave) (free : ℕ → Bool) (beginning : List ℕ → List ℕ 
       ap (λ (q : Saving). q .save) (same-after k (omega arith) ∙ d .bookkeeping .made t (le-refl t)) ∙ ap (recordAt s) e)
       (le-or-lt k t)
 
-  held : (b : ℕ) → holding b (sections s) ≡ cond (free b) 1 0
+  held : (b : ℕ) → holding b (plannedSections s) ≡ cond (free b) 1 0
   held b =
-      let e : map (λ x. x .found) (planned s) ≡ sections s =
+      let e : map (λ x. x .found) (plannedInSlots s) ≡ plannedSections s =
       found-slot 0 (metadataSlot s) (inSlot 2 (rawSlot s) ++ inSlot 6 (largeSlot s))
       ∙ ap (λ (q : List FreeSection). metadataSlot s ++ q)
       (found-slot 2 (rawSlot s) (inSlot 6 (largeSlot s)) ∙ ap (λ (q : List FreeSection). rawSlot s ++ q) (found-last 6 (largeSlot s))) in
@@ -87,9 +87,9 @@ module _ (s : OneSave) (free : ℕ → Bool) (beginning : List ℕ → List ℕ 
     reading : (o : Outcome (With (List ℕ) (List ℕ))) → imageInto (s .place) (at k .image) out ≡ o → (x .read ≡ leaving out o .outcome) × (x .out ≡ leaving out o .memory)
     reading o e = read-is x (leaving out o) (ap (leaving out) e)
 
-    last-read : t ≤ k → Room s out → (x .read ≡ answer (counts s)) × (x .out ≡ over 0 (flat (sections s)) out)
+    last-read : t ≤ k → Room s out → (x .read ≡ answer (plannedCounts s)) × (x .out ≡ over 0 (flat (plannedSections s)) out)
     last-read h room =
-        reading (answer (with (counts s) (over 0 (flat (sections s)) out)))
+        reading (answer (with (plannedCounts s) (over 0 (flat (plannedSections s)) out)))
         (ap (λ (q : Saving). imageInto (s .place) (q .image) out) (same-after k h) ∙ d .into .after-last out room)
 
     shown : Shown s free beginning k out x
@@ -106,8 +106,8 @@ module _ (s : OneSave) (free : ℕ → Bool) (beginning : List ℕ → List ℕ 
       in-between = λ l h e. reading (answer (with (replicate 12 0) out)) (d .into .in-between k l h out e);
       after-last = last-read;
       each-once = λ h room b.
-          ap (λ (o : List ℕ). holding b (decode (length (sections s)) o)) (last-read h room .1)
-          ∙ ap (holding b) (decode-put section-form (sections s) out (omega (arith, room .1)))
+          ap (λ (o : List ℕ). holding b (decode (length (plannedSections s)) o)) (last-read h room .1)
+          ∙ ap (holding b) (decode-put section-form (plannedSections s) out (omega (arith, room .1)))
           ∙ held b;
     }
 

@@ -32,7 +32,7 @@ use Rattle.save_step.specs.declared.Save.{Save}
 use Rattle.save_step.specs.Steps.{saving, steps}
 use Rattle.save.specs.declared.Begin.{Begin}
 use Rattle.save.specs.Saving.{begun, beginOutcome}
-use Rattle.save.specs.EveryCut.{oneSave, blocks, total, imageAfter, recordAt}
+use Rattle.save.specs.EveryCut.{oneSave, blocks, storeCount, imageAfter, recordAt}
 use Rattle.end_to_end.specs.declared.anew.SavedAnew.{SavedAnew}
 use Rattle.end_to_end.specs.Demanded.{lists}
 
@@ -90,6 +90,6 @@ pub record EndsUncut (runs : Which → List ℕ) (calls : List CallOn) (page sta
   pub uncut : (save : Save) (lent : List ℕ) → begun (lists runs calls) page start place image scratch ≡ answer (with save lent)
       → let s = oneSave (regionsIn (lists runs calls)) page start place image save lent in
       length (blocks s) + messageLen ≤ length other
-      → (x .image ≡ imageAfter s (total s)) × (x .second ≡ answer (recordAt s (total s))) × (x .first ≡ answer (recordAt s (min k (total s))))
+      → (x .image ≡ imageAfter s (storeCount s)) × (x .second ≡ answer (recordAt s (storeCount s))) × (x .first ≡ answer (recordAt s (min k (storeCount s))))
   pub refused : (n : ℕ) (vs : List ℕ) → begun (lists runs calls) page start place image scratch ≡ refuse n vs
       → x ≡ anewWith (refuse n vs) (refuse n vs) image scratch other

@@ -26,20 +26,20 @@ use Rattle.fsm_sections.specs.Sections.{decode, flat}
 use Rattle.fsm_sections.specs.Pages.{holding}
 use Rattle.save_step.specs.declared.Save.{Save}
 use Rattle.save.specs.Saving.{begun}
-use Rattle.save.specs.EveryCut.{OneSave, oneSave, total, imageAfter, recordAt, sections, counts, Room, EveryCut}
+use Rattle.save.specs.EveryCut.{OneSave, oneSave, storeCount, imageAfter, recordAt, plannedSections, plannedCounts, Room, EveryCut}
 use Rattle.image.specs.Reading.{imageInto}
 use Rattle.end_to_end.specs.Cuts.{Cut, cutWith}
 
 pub record Shown (s : OneSave) (free : ℕ → Bool) (beginning : List ℕ → List ℕ → Outcome (With Save (List ℕ))) (k : ℕ) (out : List ℕ) (x : Cut) : Type 0 where
   pub demand : EveryCut s free beginning
-  pub record-is : x .outcome ≡ answer (recordAt s (min k (total s)))
+  pub record-is : x .outcome ≡ answer (recordAt s (min k (storeCount s)))
   pub image-is : x .image ≡ imageAfter s k
   pub scratch-is : x .scratch ≡ s .lent
   pub reading-is : left (x .read) (x .out) ≡ leaving out (imageInto (s .place) (imageAfter s k) out)
   pub nothing-stored : k ≡ 0 → (x .image ≡ s .image) × (left (x .read) (x .out) ≡ leaving out (imageInto (s .place) (s .image) out))
-  pub in-between : 0 < k → k < total s → length out % 2 ≡ 0 → (x .read ≡ answer (replicate 12 0)) × (x .out ≡ out)
-  pub after-last : total s ≤ k → Room s out → (x .read ≡ answer (counts s)) × (x .out ≡ over 0 (flat (sections s)) out)
-  pub each-once : total s ≤ k → Room s out → (b : ℕ) → holding b (decode (length (sections s)) (x .out)) ≡ cond (free b) 1 0
+  pub in-between : 0 < k → k < storeCount s → length out % 2 ≡ 0 → (x .read ≡ answer (replicate 12 0)) × (x .out ≡ out)
+  pub after-last : storeCount s ≤ k → Room s out → (x .read ≡ answer (plannedCounts s)) × (x .out ≡ over 0 (flat (plannedSections s)) out)
+  pub each-once : storeCount s ≤ k → Room s out → (b : ℕ) → holding b (decode (length (plannedSections s)) (x .out)) ≡ cond (free b) 1 0
 
 module _ (runs : Which → List ℕ) (calls : List CallOn) where
   abbrev pub lists : Lists

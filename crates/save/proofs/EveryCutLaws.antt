@@ -41,7 +41,7 @@ use Rattle.save_step.proofs.RowLaws.{step-is, steps-are, step-after, steps-end}
 use Rattle.fsm_plan.proofs.PlannedLaws.{holding-sorted}
 use Rattle.save.specs.Saving.{asSections, small, smallRaw, large, plan, blockLen, blockBytes, slotAddrs, messageOf, filled, begunOf}
 use Rattle.image.specs.Reading.{Listed, inSlot, listed as listedFrom, readImage, countsOf}
-use Rattle.save.specs.EveryCut.{OneSave, oneSave, afterSteps, imageAfter, metadataSlot, rawSlot, largeSlot, planned, sections, counts, OneStoreAStep, ReadInto, EveryCut, inList, freeIn, EveryCutOfLists}
+use Rattle.save.specs.EveryCut.{OneSave, oneSave, afterSteps, imageAfter, metadataSlot, rawSlot, largeSlot, plannedInSlots, plannedSections, plannedCounts, OneStoreAStep, ReadInto, EveryCut, inList, freeIn, EveryCutOfLists}
 use Rattle.save.proofs.PlanLaws.{length-slots, length-blocks, slots-read, sorted}
 use Rattle.save.proofs.FitLaws.{Ends, list-ends, plan-fits, slots-fit, small-plan}
 use Rattle.save.proofs.BeginLaws.{Planned, Accepted, accepted, filled-is, begun-same}
@@ -54,15 +54,15 @@ module _ (s : OneSave) where
   abbrev found : List (List FreeSection)
   found = map sorted (plan (s .page) (s .regions))
 
-  slots-listed : listedFrom 0 found ≡ planned s
+  slots-listed : listedFrom 0 found ≡ plannedInSlots s
   unfolding bySizeThenAddr
   slots-listed = ap (λ (r : List Listed). inSlot 0 (metadataSlot s) ++ (inSlot 2 (rawSlot s) ++ r)) (append-nil (inSlot 6 (largeSlot s)))
 
-  slots-joined : joined found ≡ sections s
+  slots-joined : joined found ≡ plannedSections s
   unfolding bySizeThenAddr joined
   slots-joined = ap (λ (r : List FreeSection). metadataSlot s ++ (rawSlot s ++ r)) (append-nil (largeSlot s))
 
-  slots-counted : countsOf found ≡ counts s
+  slots-counted : countsOf found ≡ plannedCounts s
   unfolding bySizeThenAddr
   slots-counted = refl
 
@@ -86,12 +86,12 @@ module _ (s : OneSave) (p : Planned (s .regions) (s .page) (s .start)) where
   not-both : (i j : Which) (b : ℕ) → shareBytes (s .regions i) (s .regions j) ≡ false → lies i b ≡ true → lies j b ≡ true → ⊥
   not-both i j b e x y = in-both (s .regions i) (s .regions j) b e (in-list (s .regions i) b .1 x) (in-list (s .regions j) b .1 y)
 
-  held-once : (b : ℕ) → holding b (foundIn (planned s)) ≡ cond (freeIn (s .regions) b) 1 0
+  held-once : (b : ℕ) → holding b (foundIn (plannedInSlots s)) ≡ cond (freeIn (s .regions) b) 1 0
   held-once b =
       let M : List FreeSection = asSections (s .regions Metadata) in
       let W : List FreeSection = asSections (s .regions Raw) in
       let U : List FreeSection = asSections (s .regions Unclassified) in
-      let all : holding b (foundIn (planned s)) ≡ holding b M + (holding b W + holding b U) =
+      let all : holding b (foundIn (plannedInSlots s)) ≡ holding b M + (holding b W + holding b U) =
       ap (λ (r : List Listed). holding b (foundIn (inSlot 0 (metadataSlot s) ++ (inSlot 2 (rawSlot s) ++ r)))) (sym (append-nil (inSlot 6 (largeSlot s))))
       ∙ omega (
         arith,
@@ -195,7 +195,7 @@ module _ (rs : Regions) (page start place : ℕ) (image scratch : List ℕ) (sav
 
   -- ---- the steps
 
-  row-is : (scratch₂ : List ℕ) → blockLen page rs + messageLen ≤ length scratch₂ → filled rs page start place scratch₂ ≡ row scratch₂
+  row-is : (scratch₂ : List ℕ) → blockLen page rs + messageLen ≤ length scratch₂ → filled page start rs scratch₂ ≡ row scratch₂
   row-is scratch₂ r = filled-is B M scratch₂ (omega (arith, len, s .message-len))
 
   steps-made : (k : ℕ) → k ≤ T → afterSteps one k ≡ saving (recorded k) (img k)

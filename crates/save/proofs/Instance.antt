@@ -46,7 +46,7 @@ abbrev save : Save
 save = record { start = 260; place = 0; len = 117; done = 0 }
 
 abbrev lent : List ℕ
-lent = filled (regionsIn lists) 100 260 0 scratch
+lent = filled 100 260 (regionsIn lists) scratch
 
 accepted : begun lists 100 260 0 image scratch ≡ answer (with save lent)
 unfolding begun begunOf listsAfter calls runs freed firstOf isList stored piecesFrom pieces split belowPage fromPage sizeOf distinct ofSize encSize leastFrom space

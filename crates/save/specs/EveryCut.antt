@@ -6,13 +6,13 @@
 -- In quotes: document 01's words, from "The save"; at the fields of EveryCut the user's words for demand 3, in their order.
 --   OneSave, oneSave   a save that was begun: the regions of its three lists, its page size, `start` and place, the image before it, and the
 --                  record and the scratch that its beginning gave; these put together
---   blocks, allStores, total   the bytes of the plan's blocks; all stores of the save, in order; how many they are, L+126
+--   blocks, allStores, storeCount   the bytes of the plan's blocks; all stores of the save, in order; how many they are, L+126
 --   afterSteps     record and image after k steps
 --   imageAfter     that image, "the one before the save with those k stores made": what a cut after k stores leaves
 --   recordAt       the record of the save when k stores are made
 --   metadataSlot, rawSlot, largeSlot   the plan's sections of slots 0, 2 and 6, by size and then address
---   planned        all of them with their slots, in reading order
---   sections, counts   the same without the slots; how many of them each of the twelve slots has
+--   plannedInSlots   all of them with their slots, in reading order
+--   plannedSections, plannedCounts   the same without the slots; how many of them each of the twelve slots has
 --   Room           a lent run is one of pairs and has room for all of them ("with capacity for all")
 --   OneStoreAStep  the bookkeeping. The record begins at no store; each step makes one store, the next of all, and says and counts so; after
 --                  the last, and no earlier, each step says finished and changes nothing; the image keeps its length (a save "that stores
@@ -72,8 +72,8 @@ module _ (s : OneSave) where
   abbrev pub allStores : List Store
   allStores = saveStores (s .place) (s .start) blocks (messageOf (s .page) (s .start) (s .regions))
 
-  abbrev pub total : ℕ
-  total = stores (length blocks)
+  abbrev pub storeCount : ℕ
+  storeCount = stores (length blocks)
 
   abbrev pub afterSteps : ℕ → Saving
   afterSteps k = steps k (s .lent) (saving (s .save) (s .image))
@@ -93,56 +93,56 @@ module _ (s : OneSave) where
   abbrev pub largeSlot : List FreeSection
   largeSlot = bySizeThenAddr (large (s .page) (s .regions))
 
-  abbrev pub planned : List Listed
-  planned = inSlot 0 metadataSlot ++ (inSlot 2 rawSlot ++ inSlot 6 largeSlot)
+  abbrev pub plannedInSlots : List Listed
+  plannedInSlots = inSlot 0 metadataSlot ++ (inSlot 2 rawSlot ++ inSlot 6 largeSlot)
 
-  abbrev pub sections : List FreeSection
-  sections = metadataSlot ++ (rawSlot ++ largeSlot)
+  abbrev pub plannedSections : List FreeSection
+  plannedSections = metadataSlot ++ (rawSlot ++ largeSlot)
 
-  abbrev pub counts : List ℕ
-  counts = length metadataSlot ∷ 0 ∷ length rawSlot ∷ 0 ∷ 0 ∷ 0 ∷ length largeSlot ∷ 0 ∷ 0 ∷ 0 ∷ 0 ∷ 0 ∷ []
+  abbrev pub plannedCounts : List ℕ
+  plannedCounts = length metadataSlot ∷ 0 ∷ length rawSlot ∷ 0 ∷ 0 ∷ 0 ∷ length largeSlot ∷ 0 ∷ 0 ∷ 0 ∷ 0 ∷ 0 ∷ []
 
   abbrev pub Room : List ℕ → Type 0
-  Room out = (length out % 2 ≡ 0) × (length sections ≤ length out / 2)
+  Room out = (length out % 2 ≡ 0) × (length plannedSections ≤ length out / 2)
 
   -- ---- what holds of it
 
   pub record OneStoreAStep : Type 0 where
     pub begins : s .save ≡ recordAt 0
-    pub count : length allStores ≡ total
-    pub made : (k : ℕ) → k ≤ total → afterSteps k ≡ saving (recordAt k) (after k (s .image) allStores)
-    pub next : (k : ℕ) → k < total → stepped (afterSteps k .save) (imageAfter k) (s .lent)
+    pub count : length allStores ≡ storeCount
+    pub made : (k : ℕ) → k ≤ storeCount → afterSteps k ≡ saving (recordAt k) (after k (s .image) allStores)
+    pub next : (k : ℕ) → k < storeCount → stepped (afterSteps k .save) (imageAfter k) (s .lent)
         ≡ answer (with (stored (recordAt (suc k))) (make (getD allStores k noStore) (imageAfter k)))
-    pub ended : (k : ℕ) → total ≤ k → stepped (afterSteps k .save) (imageAfter k) (s .lent) ≡ answer (with finished (imageAfter total))
-    pub long : (k : ℕ) → k ≤ total → length (imageAfter k) ≡ length (s .image)
+    pub ended : (k : ℕ) → storeCount ≤ k → stepped (afterSteps k .save) (imageAfter k) (s .lent) ≡ answer (with finished (imageAfter storeCount))
+    pub long : (k : ℕ) → k ≤ storeCount → length (imageAfter k) ≡ length (s .image)
 
   pub record ReadInto : Type 0 where
     pub nothing-stored : (out : List ℕ) → imageInto (s .place) (imageAfter 0) out ≡ imageInto (s .place) (s .image) out
-    pub in-between : (k : ℕ) → 0 < k → k < total → (out : List ℕ) → length out % 2 ≡ 0
+    pub in-between : (k : ℕ) → 0 < k → k < storeCount → (out : List ℕ) → length out % 2 ≡ 0
         → imageInto (s .place) (imageAfter k) out ≡ answer (with (replicate 12 0) out)
-    pub after-last : (out : List ℕ) → Room out → imageInto (s .place) (imageAfter total) out ≡ answer (with counts (over 0 (flat sections) out))
+    pub after-last : (out : List ℕ) → Room out → imageInto (s .place) (imageAfter storeCount) out ≡ answer (with plannedCounts (over 0 (flat plannedSections) out))
 
   pub record EveryCut (free : ℕ → Bool) (beginning : List ℕ → List ℕ → Outcome (With Save (List ℕ))) : Type 0 where
     -- "nothing stored, the image reads as before", refusals too
     pub nothing-stored : readListed (s .place) (imageAfter 0) ≡ readListed (s .place) (s .image)
     -- "in between, no sections"
-    pub in-between : (k : ℕ) → 0 < k → k < total → readListed (s .place) (imageAfter k) ≡ answer []
+    pub in-between : (k : ℕ) → 0 < k → k < storeCount → readListed (s .place) (imageAfter k) ≡ answer []
     -- "after the last store, exactly the plan's sections",
-    pub after-last : readListed (s .place) (imageAfter total) ≡ answer planned
+    pub after-last : readListed (s .place) (imageAfter storeCount) ≡ answer plannedInSlots
     -- "in which each byte that is free by history lies exactly once and no other byte at all."
-    pub each-once : (b : ℕ) → holding b (map (λ x. x .found) planned) ≡ cond (free b) 1 0
+    pub each-once : (b : ℕ) → holding b (map (λ x. x .found) plannedInSlots) ≡ cond (free b) 1 0
     -- "Nothing outside blocks and message changes."
-    pub outside : (k : ℕ) → k ≤ total → (j : ℕ) → (j < s .place) ⊎ (s .place + messageLen ≤ j) → (j < s .start) ⊎ (s .start + length blocks ≤ j)
+    pub outside : (k : ℕ) → k ≤ storeCount → (j : ℕ) → (j < s .place) ⊎ (s .place + messageLen ≤ j) → (j < s .start) ⊎ (s .start + length blocks ≤ j)
         → getD (imageAfter k) j 0 ≡ getD (s .image) j 0
     -- "A fresh save over any remainder": with its message there, also one of other regions, it begins as over the image before (`begun` has
     -- more tests, but none of the image);
-    pub fresh-begins : (k : ℕ) → k ≤ total → (rs : Regions) (page start : ℕ) (scratch : List ℕ)
+    pub fresh-begins : (k : ℕ) → k ≤ storeCount → (rs : Regions) (page start : ℕ) (scratch : List ℕ)
         → begunOf rs page start (s .place) (imageAfter k) scratch ≡ begunOf rs page start (s .place) (s .image) scratch
     -- of the same lists, with any scratch that has room, it "ends in the uncut image."
-    pub fresh-ends : (k : ℕ) → k ≤ total → (scratch : List ℕ) → length blocks + messageLen ≤ length scratch
+    pub fresh-ends : (k : ℕ) → k ≤ storeCount → (scratch : List ℕ) → length blocks + messageLen ≤ length scratch
         → (lent : List ℕ)
         × (beginning (imageAfter k) scratch ≡ answer (with (s .save) lent))
-        × (steps total lent (saving (s .save) (imageAfter k)) ≡ afterSteps total)
+        × (steps storeCount lent (saving (s .save) (imageAfter k)) ≡ afterSteps storeCount)
     pub into : ReadInto
     pub bookkeeping : OneStoreAStep
 
