@@ -1,8 +1,9 @@
 -- What every cut of a save leaves. Said of the lists that calls in a row leave, this is DEMAND 3: `EveryCutAfterCalls`, at the end. Assumes nothing.
 -- To read before: regions and lists (free_lists, specs/Lists.antt), the calls and what they leave free by history (free_lists,
--- specs/History.antt), the plan (Saving.antt: `small`, `smallRaw`, `large`), stores and steps (save_step, specs/Stores.antt and Steps.antt).
--- To skip: the bytes of blocks and message, and lookup3 (`blockBytes`, `messageOf` and what they cite). That they are HDF5's is demand 2; here
--- it matters in which order they are stored, and what is then read.
+-- specs/History.antt), the plan (Saving.antt: `small`, `smallRaw`, `large`; fsm_sections, specs/Pages.antt), what a beginning tests
+-- (Saving.antt: `begun`), stores and steps (save_step, specs/Stores.antt and Steps.antt).
+-- To skip: the bytes of blocks and message, how they are read, and lookup3 (what `blockBytes`, `messageOf` and `readListed` cite). That they are
+-- HDF5's is demand 2; here it matters in which order they are stored, and which sections are then read.
 -- In quotes: document 01's words, from "The save"; at the fields of EveryCut the user's words for demand 3, in their order.
 --   OneSave, oneSave   a save that was begun: the regions of its three lists, its page size, `start` and place, the image before it, and the
 --                  record and the scratch that its beginning gave; these put together
