@@ -150,8 +150,8 @@ fn fresh_agrees(k: u64, old: &[u8], uncut: &[u8]) -> bool {
         target(START as u64),
         &mut image,
         &mut scratch,
-        k,
         &mut other,
+        k,
     );
     check::same(&image, uncut)
 }

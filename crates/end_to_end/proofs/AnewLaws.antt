@@ -14,7 +14,7 @@ use Rattle.error.specs.Lent.{With, with, Left, left, leaving}
 use Rattle.error.proofs.TestLaws.{le-or-lt}
 use Rattle.fields.specs.Ranges.{top}
 use Rattle.free_lists.specs.declared.calls.Which.{Which}
-use Rattle.free_lists.specs.Lists.{regionsIn}
+use Rattle.free_lists.specs.Lists.{Lists, regionsIn}
 use Rattle.free_lists.specs.History.{CallOn, emptyLists, freeByHistory}
 use Rattle.file_space_info.specs.Message.{messageLen}
 use Rattle.save_step.specs.declared.Save.{Save}
@@ -53,23 +53,25 @@ module _ (k : ℕ) (image scratch : List ℕ) where
         ∙ sym (ap (λ (x : Begin). stepsOf k image scratch₂ (begunWith scratch₂ (beginOutcome x))) f)
         ∙ of-begun scratch₂ (beginOutcome begin) b e
 
--- ---- and a second
+-- ---- and a second, of the lists that calls left
 
-module _ (k : ℕ) (beginning : List ℕ → List ℕ → Outcome (With Save (List ℕ))) (image scratch other : List ℕ) (first : Begin) (image₂ scratch₂ : List ℕ)
-    (e : steppedBy first image₂ scratch₂ ≡ steppedAfter k beginning image scratch) where
-  over-first : anewOver beginning other (beginOutcome first) image₂ scratch₂ ≡ anewAfter k beginning image scratch other
-  over-first = ap (λ (x : Stepped). anewOver beginning other (x .outcome) (x .image) (x .scratch)) e
+module _ (k page start place : ℕ) (image scratch other : List ℕ) (ls ls₂ : Lists) (same : ls₂ ≡ ls) (first : Begin) (image₂ scratch₂ : List ℕ)
+    (e : steppedBy first image₂ scratch₂ ≡ steppedAfter k (begun ls₂ page start place) image scratch) where
+  over-first : anewOver (begun ls₂ page start place) other (beginOutcome first) image₂ scratch₂ ≡ anewAfter k (begun ls page start place) image scratch other
+  over-first =
+      ap (λ (x : Stepped). anewOver (begun ls₂ page start place) other (x .outcome) (x .image) (x .scratch)) e
+      ∙ ap (λ (l : Lists). anewAfter k (begun l page start place) image scratch other) same
 
   pub none-anew : (r : Refusal) → first ≡ Refused r
-      → anewWith (beginOutcome (Refused r)) (beginOutcome (Refused r)) image₂ scratch₂ other ≡ anewAfter k beginning image scratch other
-  none-anew r f = sym (ap (λ (x : Begin). anewOver beginning other (beginOutcome x) image₂ scratch₂) f) ∙ over-first
+      → anewWith (beginOutcome (Refused r)) (beginOutcome (Refused r)) image₂ scratch₂ other ≡ anewAfter k (begun ls page start place) image scratch other
+  none-anew r f = sym (ap (λ (x : Begin). anewOver (begun ls₂ page start place) other (beginOutcome x) image₂ scratch₂) f) ∙ over-first
 
   pub both-anew : (s : Save) → first ≡ Begun s → (second : Begin) (image₃ other₂ : List ℕ)
-      → steppedBy second image₃ other₂ ≡ steppedAfter top beginning image₂ other
-      → anewWith (beginOutcome (Begun s)) (beginOutcome second) image₃ scratch₂ other₂ ≡ anewAfter k beginning image scratch other
+      → steppedBy second image₃ other₂ ≡ steppedAfter top (begun ls₂ page start place) image₂ other
+      → anewWith (beginOutcome (Begun s)) (beginOutcome second) image₃ scratch₂ other₂ ≡ anewAfter k (begun ls page start place) image scratch other
   both-anew s f second image₃ other₂ g =
       ap (λ (x : Stepped). anewWith (answer s) (x .outcome) (x .image) scratch₂ (x .scratch)) g
-      ∙ sym (ap (λ (x : Begin). anewOver beginning other (beginOutcome x) image₂ scratch₂) f)
+      ∙ sym (ap (λ (x : Begin). anewOver (begun ls₂ page start place) other (beginOutcome x) image₂ scratch₂) f)
       ∙ over-first
 
 -- ---- the uncut image

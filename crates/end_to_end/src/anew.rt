@@ -37,54 +37,18 @@ fn begin_and_step(
     }
 }
 
-// What two saves came to: the record of the first, which was cut, after its steps, and that of the second, the fresh one,
-// after all steps; or why it did not begin. Where the first did not begin, the second has its refusal.
+// The records of the lists after the calls, and what two saves of them came to: the record of the first, which was cut, after its
+// steps, and that of the second, the fresh one, after all steps; or why it did not begin. Where the first did not begin, the second
+// has its refusal.
 pub struct SavedAnew {
+    pub lists: FileLists,
     pub first: Begin,
     pub second: Begin,
 }
 
-// Begins a save, makes `k` steps of it, and begins it anew over what is there, with another scratch. Of the fresh save all
-// steps are made: those after the last store change nothing.
-fn save_anew(
-    meta: &[u64],
-    raw: &[u64],
-    unclassified: &[u64],
-    lists: FileLists,
-    to: Target,
-    image: &mut [u8],
-    scratch: &mut [u8],
-    k: u64,
-    other: &mut [u8],
-) -> SavedAnew
-    ensures { λ r. ⌜ anewBy r (now (image .exit)) (now (scratch .exit)) (now (other .exit))
-        ≡ anewAfter k (begun (listsIn (now (meta .entry)) (now (raw .entry)) (now (unclassified .entry)) lists) (to .page) (to .start) (to .place))
-        (now (image .entry)) (now (scratch .entry)) (now (other .entry)) ⌝ }
-{
-    let first = begin_and_step(meta, raw, unclassified, lists, to, image, scratch, k);
-    match first {
-        Begin::Refused(refusal) => SavedAnew {
-            first: Begin::Refused(refusal),
-            second: Begin::Refused(refusal),
-        },
-        Begin::Begun(s) => {
-            let second = begin_and_step(meta, raw, unclassified, lists, to, image, other, MAX);
-            SavedAnew {
-                first: Begin::Begun(s),
-                second: second,
-            }
-        }
-    }
-}
-
-// The records of the lists after the calls, and what the two saves of them came to.
-pub struct AnewAfterCalls {
-    pub lists: FileLists,
-    pub saved: SavedAnew,
-}
-
 // Makes the calls that `calls` encodes on three lists that begin empty, begins a save of them, makes `k` steps of it, and
-// makes a fresh save of them over what is there, with the scratch `other`.
+// begins it anew over what is there, with the scratch `other`. Of the fresh save all steps are made: those after the last
+// store change nothing.
 pub fn call_save_anew(
     calls: &[u64],
     metadata: &mut [u64],
@@ -93,31 +57,32 @@ pub fn call_save_anew(
     to: Target,
     image: &mut [u8],
     scratch: &mut [u8],
-    k: u64,
     other: &mut [u8],
-) -> AnewAfterCalls
+    k: u64,
+) -> SavedAnew
     ensures lists { λ r. ⌜ listsIn (now (metadata .exit)) (now (raw .exit)) (now (unclassified .exit)) (r .lists)
         ≡ afterCalls (now (calls .entry)) (now (metadata .entry)) (now (raw .entry)) (now (unclassified .entry)) ⌝ }
-    ensures anew { λ r. ⌜ anewBy (r .saved) (now (image .exit)) (now (scratch .exit)) (now (other .exit))
+    ensures anew { λ r. ⌜ anewBy r (now (image .exit)) (now (scratch .exit)) (now (other .exit))
         ≡ anewAfter k (begun (afterCalls (now (calls .entry)) (now (metadata .entry)) (now (raw .entry)) (now (unclassified .entry))) (to .page) (to .start) (to .place))
         (now (image .entry)) (now (scratch .entry)) (now (other .entry)) ⌝ }
     ensures uncut { λ r. ⌜ EndsUncut (runsOf (now (metadata .entry)) (now (raw .entry)) (now (unclassified .entry))) (callsOf (now (calls .entry)))
-        (to .page) (to .start) (to .place) k (now (image .entry)) (now (scratch .entry)) (now (other .entry)) (anewBy (r .saved) (now (image .exit)) (now (scratch .exit)) (now (other .exit))) ⌝ }
+        (to .page) (to .start) (to .place) k (now (image .entry)) (now (scratch .entry)) (now (other .entry)) (anewBy r (now (image .exit)) (now (scratch .exit)) (now (other .exit))) ⌝ }
 {
     let lists = make_calls(calls, metadata, raw, unclassified);
-    let saved = save_anew(
-        metadata,
-        raw,
-        unclassified,
-        lists,
-        to,
-        image,
-        scratch,
-        k,
-        other,
-    );
-    AnewAfterCalls {
-        lists: lists,
-        saved: saved,
+    let first = begin_and_step(metadata, raw, unclassified, lists, to, image, scratch, k);
+    match first {
+        Begin::Refused(refusal) => SavedAnew {
+            lists: lists,
+            first: Begin::Refused(refusal),
+            second: Begin::Refused(refusal),
+        },
+        Begin::Begun(s) => {
+            let second = begin_and_step(metadata, raw, unclassified, lists, to, image, other, MAX);
+            SavedAnew {
+                lists: lists,
+                first: Begin::Begun(s),
+                second: second,
+            }
+        }
     }
 }

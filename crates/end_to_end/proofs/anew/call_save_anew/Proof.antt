@@ -1,11 +1,7 @@
 use denote.Ref.{now}
-use mathlib.Core.Path.{ap, _∙_}
 use native.Mathlib.Omega.{arith}
-use Rattle.free_lists.specs.Lists.{Lists}
-use Rattle.save.specs.Saving.{begun}
-use Rattle.end_to_end.specs.Encoding.{callsOf, runsOf}
-use Rattle.end_to_end.specs.Anew.{anewAfter}
-use Rattle.end_to_end.proofs.AnewLaws.{ends-uncut}
+use Rattle.end_to_end.specs.Encoding.{callsOf, runsOf, afterCalls}
+use Rattle.end_to_end.proofs.AnewLaws.{none-anew, both-anew, ends-uncut}
 use borrow.Author.Needs.{needs}
 use Rattle.end_to_end.proofs.anew.call_save_anew.Statement.{statement}
 use Rattle.end_to_end.proofs.anew.call_save_anew.Tie as tie
@@ -13,8 +9,17 @@ use Rattle.end_to_end.proofs.anew.call_save_anew.Tie as tie
 make-calls-requires : tie.Need-make-calls-requires
 make-calls-requires c κs = search needs
 
-save-anew-requires : tie.Need-save-anew-requires
-save-anew-requires c κs = search needs
+begin-and-step-requires : tie.Need-begin-and-step-requires
+begin-and-step-requires c κs = search needs
+
+enum-known-first : tie.Need-enum-known-first
+enum-known-first c = search needs
+
+enum-known-first-2 : tie.Need-enum-known-first-2
+enum-known-first-2 c = search needs
+
+begin-and-step-requires-2 : tie.Need-begin-and-step-requires-2
+begin-and-step-requires-2 c κs = search needs
 
 same-length : tie.Need-same-length
 same-length c = search needs
@@ -31,24 +36,60 @@ same-length-4 c = search needs
 same-length-5 : tie.Need-same-length-5
 same-length-5 c = search needs
 
-same-length-6 : tie.Need-same-length-6
-same-length-6 c = search needs
-
 returns : tie.Need-returns
 returns c =
-    let saved = c .before .before .before .before .before .before in
-    let made = saved .before .before .before .before .before .before .before .before .before .before .before .before .before in
+    let cut = c .before .before .before .before .before .before .before in
+    let made = cut .before .before .before .before .before .before .before .before .before .before .before .before in
     let given = made .before .before .before .before .before .before .before .before .before .before .before in
     let a = given .args in
     let image = now (a .image) in
     let scratch = now (a .scratch) in
     let other = now (a .other) in
-    let to = a .to in
+    let ls = afterCalls (now (a .calls)) (now (a .metadata)) (now (a .raw)) (now (a .unclassified)) in
     let anew =
-    saved .save-anew .ensures
-    ∙ ap (λ (ls : Lists). anewAfter (a .k) (begun ls (to .page) (to .start) (to .place)) image scratch other) (made .make-calls .ensures) in
+    none-anew (a .k) (a .to .page) (a .to .start) (a .to .place) image scratch other ls _ (made .make-calls .ensures)
+    (cut .begin-and-step .result) _ _ (cut .begin-and-step .ensures) _ (c .before .first .given .1) in
     let uncut =
-    ends-uncut (runsOf (now (a .metadata)) (now (a .raw)) (now (a .unclassified))) (callsOf (now (a .calls))) (to .page) (to .start) (to .place) (a .k) image scratch other _
+    ends-uncut (runsOf (now (a .metadata)) (now (a .raw)) (now (a .unclassified))) (callsOf (now (a .calls))) (a .to .page) (a .to .start) (a .to .place) (a .k) image scratch other _
+    (omega (arith, given .good)) (omega (arith, given .good)) (omega (arith, given .good)) anew in
+    (made .make-calls .ensures, (anew, uncut))
+
+same-length-6 : tie.Need-same-length-6
+same-length-6 c = search needs
+
+same-length-7 : tie.Need-same-length-7
+same-length-7 c = search needs
+
+same-length-8 : tie.Need-same-length-8
+same-length-8 c = search needs
+
+same-length-9 : tie.Need-same-length-9
+same-length-9 c = search needs
+
+same-length-10 : tie.Need-same-length-10
+same-length-10 c = search needs
+
+same-length-11 : tie.Need-same-length-11
+same-length-11 c = search needs
+
+returns-2 : tie.Need-returns-2
+returns-2 c =
+    let second = c .before .before .before .before in
+    let told = second .before .before .before .before .before .before .before in
+    let cut = told .before .before .before .before .before .before in
+    let made = cut .before .before .before .before .before .before .before .before .before .before .before .before in
+    let given = made .before .before .before .before .before .before .before .before .before .before .before in
+    let a = given .args in
+    let image = now (a .image) in
+    let scratch = now (a .scratch) in
+    let other = now (a .other) in
+    let ls = afterCalls (now (a .calls)) (now (a .metadata)) (now (a .raw)) (now (a .unclassified)) in
+    let anew =
+    both-anew (a .k) (a .to .page) (a .to .start) (a .to .place) image scratch other ls _ (made .make-calls .ensures)
+    (cut .begin-and-step .result) _ _ (cut .begin-and-step .ensures) _ (told .first2 .given .1)
+    (second .begin-and-step2 .result) _ _ (second .begin-and-step2 .ensures) in
+    let uncut =
+    ends-uncut (runsOf (now (a .metadata)) (now (a .raw)) (now (a .unclassified))) (callsOf (now (a .calls))) (a .to .page) (a .to .start) (a .to .place) (a .k) image scratch other _
     (omega (arith, given .good)) (omega (arith, given .good)) (omega (arith, given .good)) anew in
     (made .make-calls .ensures, (anew, uncut))
 
@@ -57,11 +98,20 @@ call-save-anew-spec =
     tie.close
     (tie.spec
     make-calls-requires
-    save-anew-requires
+    begin-and-step-requires
+    enum-known-first
+    enum-known-first-2
+    begin-and-step-requires-2
     same-length
     same-length-2
     same-length-3
     same-length-4
     same-length-5
+    returns
     same-length-6
-    returns)
+    same-length-7
+    same-length-8
+    same-length-9
+    same-length-10
+    same-length-11
+    returns-2)
