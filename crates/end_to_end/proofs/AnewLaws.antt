@@ -53,27 +53,6 @@ module _ (k : ℕ) (image scratch : List ℕ) where
         ∙ sym (ap (λ (x : Begin). stepsOf k image scratch₂ (begunWith scratch₂ (beginOutcome x))) f)
         ∙ of-begun scratch₂ (beginOutcome begin) b e
 
--- ---- and a second, of the lists that calls left
-
-module _ (k page start place : ℕ) (image scratch other : List ℕ) (ls ls₂ : Lists) (same : ls₂ ≡ ls) (first : Begin) (image₂ scratch₂ : List ℕ)
-    (e : steppedBy first image₂ scratch₂ ≡ steppedAfter k (begun ls₂ page start place) image scratch) where
-  over-first : anewOver (begun ls₂ page start place) other (beginOutcome first) image₂ scratch₂ ≡ anewAfter k (begun ls page start place) image scratch other
-  over-first =
-      ap (λ (x : Stepped). anewOver (begun ls₂ page start place) other (x .outcome) (x .image) (x .scratch)) e
-      ∙ ap (λ (l : Lists). anewAfter k (begun l page start place) image scratch other) same
-
-  pub none-anew : (r : Refusal) → first ≡ Refused r
-      → anewWith (beginOutcome (Refused r)) (beginOutcome (Refused r)) image₂ scratch₂ other ≡ anewAfter k (begun ls page start place) image scratch other
-  none-anew r f = sym (ap (λ (x : Begin). anewOver (begun ls₂ page start place) other (beginOutcome x) image₂ scratch₂) f) ∙ over-first
-
-  pub both-anew : (s : Save) → first ≡ Begun s → (second : Begin) (image₃ other₂ : List ℕ)
-      → steppedBy second image₃ other₂ ≡ steppedAfter top (begun ls₂ page start place) image₂ other
-      → anewWith (beginOutcome (Begun s)) (beginOutcome second) image₃ scratch₂ other₂ ≡ anewAfter k (begun ls page start place) image scratch other
-  both-anew s f second image₃ other₂ g =
-      ap (λ (x : Stepped). anewWith (answer s) (x .outcome) (x .image) scratch₂ (x .scratch)) g
-      ∙ sym (ap (λ (x : Begin). anewOver (begun ls₂ page start place) other (beginOutcome x) image₂ scratch₂) f)
-      ∙ over-first
-
 -- ---- the uncut image
 
 -- steps after the last store change nothing, whatever the scratch
@@ -134,7 +113,7 @@ module _ (runs : Which → List ℕ) (calls : List CallOn) (page start place k :
   abbrev beginning : List ℕ → List ℕ → Outcome (With Save (List ℕ))
   beginning = begun (lists runs calls) page start place
 
-  pub ends-uncut : page < 2 ^ 64 → start < 2 ^ 64 → length other < top → x ≡ anewAfter k beginning image scratch other
+  ends-uncut : page < 2 ^ 64 → start < 2 ^ 64 → length other < top → x ≡ anewAfter k beginning image scratch other
       → EndsUncut runs calls page start place k image scratch other x
   ends-uncut p q low e = record {
     uncut = λ save lent h room.
@@ -150,3 +129,32 @@ module _ (runs : Which → List ℕ) (calls : List CallOn) (page start place k :
 
       is : (b : Outcome (With Save (List ℕ))) → beginning image scratch ≡ b → x ≡ over-begun b
       is b h = e ∙ ap over-begun h
+
+-- ---- two saves of the lists that calls left
+
+module _ (runs : Which → List ℕ) (calls : List CallOn) (page start place k : ℕ) (image scratch other : List ℕ) (p : page < 2 ^ 64) (q : start < 2 ^ 64)
+    (low : length other < top) (ls : Lists) (same : ls ≡ lists runs calls) (first : Begin) (image₂ scratch₂ : List ℕ)
+    (e : steppedBy first image₂ scratch₂ ≡ steppedAfter k (begun ls page start place) image scratch) where
+  abbrev Says : Anew → Type 0
+  Says x = (x ≡ anewAfter k (begun (lists runs calls) page start place) image scratch other) × EndsUncut runs calls page start place k image scratch other x
+
+  says : (x : Anew) → x ≡ anewOver (begun ls page start place) other (beginOutcome first) image₂ scratch₂ → Says x
+  says x f =
+      let anew : x ≡ anewAfter k (begun (lists runs calls) page start place) image scratch other =
+      f
+      ∙ ap (λ (y : Stepped). anewOver (begun ls page start place) other (y .outcome) (y .image) (y .scratch)) e
+      ∙ ap (λ (l : Lists). anewAfter k (begun l page start place) image scratch other) same in
+      (anew, ends-uncut runs calls page start place k image scratch other x p q low anew)
+
+  -- the first save is refused
+  pub none-anew : (r : Refusal) → first ≡ Refused r → Says (anewWith (beginOutcome (Refused r)) (beginOutcome (Refused r)) image₂ scratch₂ other)
+  none-anew r f = says _ (sym (ap (λ (b : Begin). anewOver (begun ls page start place) other (beginOutcome b) image₂ scratch₂) f))
+
+  -- it began, and so there is a second
+  pub both-anew : (s : Save) → first ≡ Begun s → (second : Begin) (image₃ other₂ : List ℕ)
+      → steppedBy second image₃ other₂ ≡ steppedAfter top (begun ls page start place) image₂ other
+      → Says (anewWith (beginOutcome (Begun s)) (beginOutcome second) image₃ scratch₂ other₂)
+  both-anew s f second image₃ other₂ g =
+      says _
+      (ap (λ (y : Stepped). anewWith (answer s) (y .outcome) (y .image) scratch₂ (y .scratch)) g
+      ∙ sym (ap (λ (b : Begin). anewOver (begun ls page start place) other (beginOutcome b) image₂ scratch₂) f))

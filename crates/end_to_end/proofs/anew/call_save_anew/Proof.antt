@@ -1,7 +1,7 @@
 use denote.Ref.{now}
 use native.Mathlib.Omega.{arith}
-use Rattle.end_to_end.specs.Encoding.{callsOf, runsOf, afterCalls}
-use Rattle.end_to_end.proofs.AnewLaws.{none-anew, both-anew, ends-uncut}
+use Rattle.end_to_end.specs.Encoding.{callsOf, runsOf}
+use Rattle.end_to_end.proofs.AnewLaws.{none-anew, both-anew}
 use borrow.Author.Needs.{needs}
 use Rattle.end_to_end.proofs.anew.call_save_anew.Statement.{statement}
 use Rattle.end_to_end.proofs.anew.call_save_anew.Tie as tie
@@ -42,17 +42,12 @@ returns c =
     let made = cut .before .before .before .before .before .before .before .before .before .before .before .before in
     let given = made .before .before .before .before .before .before .before .before .before .before .before in
     let a = given .args in
-    let image = now (a .image) in
-    let scratch = now (a .scratch) in
-    let other = now (a .other) in
-    let ls = afterCalls (now (a .calls)) (now (a .metadata)) (now (a .raw)) (now (a .unclassified)) in
-    let anew =
-    none-anew (a .k) (a .to .page) (a .to .start) (a .to .place) image scratch other ls _ (made .make-calls .ensures)
-    (cut .begin-and-step .result) _ _ (cut .begin-and-step .ensures) _ (c .before .first .given .1) in
-    let uncut =
-    ends-uncut (runsOf (now (a .metadata)) (now (a .raw)) (now (a .unclassified))) (callsOf (now (a .calls))) (a .to .page) (a .to .start) (a .to .place) (a .k) image scratch other _
-    (omega (arith, given .good)) (omega (arith, given .good)) (omega (arith, given .good)) anew in
-    (made .make-calls .ensures, (anew, uncut))
+    let runs = runsOf (now (a .metadata)) (now (a .raw)) (now (a .unclassified)) in (
+      made .make-calls .ensures,
+      none-anew runs (callsOf (now (a .calls))) (a .to .page) (a .to .start) (a .to .place) (a .k) (now (a .image)) (now (a .scratch)) (now (a .other))
+          (omega (arith, given .good)) (omega (arith, given .good)) (omega (arith, given .good)) _ (made .make-calls .ensures)
+          (cut .begin-and-step .result) _ _ (cut .begin-and-step .ensures) _ (c .before .first .given .1),
+    )
 
 same-length-6 : tie.Need-same-length-6
 same-length-6 c = search needs
@@ -80,18 +75,13 @@ returns-2 c =
     let made = cut .before .before .before .before .before .before .before .before .before .before .before .before in
     let given = made .before .before .before .before .before .before .before .before .before .before .before in
     let a = given .args in
-    let image = now (a .image) in
-    let scratch = now (a .scratch) in
-    let other = now (a .other) in
-    let ls = afterCalls (now (a .calls)) (now (a .metadata)) (now (a .raw)) (now (a .unclassified)) in
-    let anew =
-    both-anew (a .k) (a .to .page) (a .to .start) (a .to .place) image scratch other ls _ (made .make-calls .ensures)
-    (cut .begin-and-step .result) _ _ (cut .begin-and-step .ensures) _ (told .first2 .given .1)
-    (second .begin-and-step2 .result) _ _ (second .begin-and-step2 .ensures) in
-    let uncut =
-    ends-uncut (runsOf (now (a .metadata)) (now (a .raw)) (now (a .unclassified))) (callsOf (now (a .calls))) (a .to .page) (a .to .start) (a .to .place) (a .k) image scratch other _
-    (omega (arith, given .good)) (omega (arith, given .good)) (omega (arith, given .good)) anew in
-    (made .make-calls .ensures, (anew, uncut))
+    let runs = runsOf (now (a .metadata)) (now (a .raw)) (now (a .unclassified)) in (
+      made .make-calls .ensures,
+      both-anew runs (callsOf (now (a .calls))) (a .to .page) (a .to .start) (a .to .place) (a .k) (now (a .image)) (now (a .scratch)) (now (a .other))
+          (omega (arith, given .good)) (omega (arith, given .good)) (omega (arith, given .good)) _ (made .make-calls .ensures)
+          (cut .begin-and-step .result) _ _ (cut .begin-and-step .ensures) _ (told .first2 .given .1)
+          (second .begin-and-step2 .result) _ _ (second .begin-and-step2 .ensures),
+    )
 
 pub call-save-anew-spec : {M : Type 1} → statement M
 call-save-anew-spec =
