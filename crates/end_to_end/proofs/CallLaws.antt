@@ -11,14 +11,14 @@ use Rattle.free_lists.specs.declared.calls.Which.{Which}
 use Rattle.free_lists.specs.declared.calls.Which.the-variants.{Metadata, Raw, Unclassified}
 use Rattle.free_lists.specs.declared.calls.ListCall.{ListCall}
 use Rattle.free_lists.specs.Lists.{Lists, listsIn}
-use Rattle.free_lists.specs.History.{CallOn, on, next, run, begun}
+use Rattle.free_lists.specs.History.{CallOn, on, next, listsAfter, emptyLists}
 use Rattle.end_to_end.specs.Encoding.{whichOf, callOf, callOnOf, callsOf, runsOf}
 
-pub begun-three : (m r u : List ℕ) (x y z : FreeList) → x ≡ recordOf [] → y ≡ recordOf [] → z ≡ recordOf []
-    → begun (runsOf m r u) ≡ listsIn m r u (record { metadata = x; raw = y; unclassified = z })
-begun-three m r u x y z e f g = λ j i. all i j
+pub empty-three : (m r u : List ℕ) (x y z : FreeList) → x ≡ recordOf [] → y ≡ recordOf [] → z ≡ recordOf []
+    → emptyLists (runsOf m r u) ≡ listsIn m r u (record { metadata = x; raw = y; unclassified = z })
+empty-three m r u x y z e f g = λ j i. all i j
   where
-    all : (i : Which) → begun (runsOf m r u) i ≡ listsIn m r u (record { metadata = x; raw = y; unclassified = z }) i
+    all : (i : Which) → emptyLists (runsOf m r u) i ≡ listsIn m r u (record { metadata = x; raw = y; unclassified = z }) i
     all Metadata = rw e
     all Raw = rw f
     all Unclassified = rw g
@@ -47,12 +47,12 @@ module _ (calls : List ℕ) (at : ℕ) where
       let d0 : drop at calls ≡ getD calls at 0 ∷ number 1 ∷ number 2 ∷ number 3 ∷ rest = drop-cons calls at 0 (omega arith) ∙ rw (e1, d1) in
       ap callsOf d0
 
-  pub run-step : (ls ls₂ : Lists) (i : Which) (c : ListCall) → i ≡ whichOf (getD calls at 0) → c ≡ callOf (number 1) (number 2) (number 3)
-      → at + 4 ≤ length calls → ls₂ ≡ next (on i c) ls → run (callsOf (drop at calls)) ls ≡ run (callsOf rest) ls₂
-  unfolding run
-  run-step ls ls₂ i c ie ce h e =
-      ap (λ (cs : List CallOn). run cs ls) (first-on h)
-      ∙ sym (ap (run (callsOf rest)) (e ∙ ap₂ (λ (j : Which) (d : ListCall). next (on j d) ls) ie ce))
+  pub after-step : (ls ls₂ : Lists) (i : Which) (c : ListCall) → i ≡ whichOf (getD calls at 0) → c ≡ callOf (number 1) (number 2) (number 3)
+      → at + 4 ≤ length calls → ls₂ ≡ next (on i c) ls → listsAfter (callsOf (drop at calls)) ls ≡ listsAfter (callsOf rest) ls₂
+  unfolding listsAfter
+  after-step ls ls₂ i c ie ce h e =
+      ap (λ (cs : List CallOn). listsAfter cs ls) (first-on h)
+      ∙ sym (ap (listsAfter (callsOf rest)) (e ∙ ap₂ (λ (j : Which) (d : ListCall). next (on j d) ls) ie ce))
 
 none-on : (l : List ℕ) → length l < 4 → callsOf l ≡ []
 unfolding callsOf
@@ -62,6 +62,6 @@ none-on (w ∷ n ∷ []) h = refl
 none-on (w ∷ n ∷ a ∷ []) h = refl
 none-on (w ∷ n ∷ a ∷ b ∷ l) h = absurd (omega arith)
 
-pub run-end : (calls : List ℕ) (at : ℕ) (ls : Lists) → length calls < at + 4 → run (callsOf (drop at calls)) ls ≡ ls
-unfolding run
-run-end calls at ls h = ap (λ (cs : List CallOn). run cs ls) (none-on (drop at calls) (omega (arith, length-drop at calls)))
+pub after-end : (calls : List ℕ) (at : ℕ) (ls : Lists) → length calls < at + 4 → listsAfter (callsOf (drop at calls)) ls ≡ ls
+unfolding listsAfter
+after-end calls at ls h = ap (λ (cs : List CallOn). listsAfter cs ls) (none-on (drop at calls) (omega (arith, length-drop at calls)))

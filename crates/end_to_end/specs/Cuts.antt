@@ -33,9 +33,9 @@ cutWith o r image scratch out = record { outcome = o; read = r; image = image; s
 
 abbrev pub cutAfter : ℕ → ℕ → List ℕ → List ℕ → List ℕ → Outcome (With Save (List ℕ)) → Cut
 cutAfter k place image scratch out (answer b) =
-    let cut = steps k (b .memory) (saving (b .value) image) in
-    let read = leaving out (imageInto place (cut .image) out) in
-    cutWith (answer (cut .save)) (read .outcome) (cut .image) (b .memory) (read .memory)
+    let stepped = steps k (b .memory) (saving (b .value) image) in
+    let read = leaving out (imageInto place (stepped .image) out) in
+    cutWith (answer (stepped .save)) (read .outcome) (stepped .image) (b .memory) (read .memory)
 cutAfter k place image scratch out nothing = cutWith nothing nothing image scratch out
 cutAfter k place image scratch out (refuse n vs) = cutWith (refuse n vs) (refuse n vs) image scratch out
 

@@ -22,7 +22,7 @@ use Rattle.free_lists.specs.declared.calls.Which.{Which}
 use Rattle.free_lists.specs.declared.calls.Which.the-variants.{Metadata, Raw, Unclassified}
 use Rattle.free_lists.specs.declared.calls.ListCall.{ListCall}
 use Rattle.free_lists.specs.declared.calls.ListCall.the-variants.{Free, Alloc, AllocWholeUnits, TakeRange, TakeTrailing}
-use Rattle.free_lists.specs.History.{CallOn, run, begun}
+use Rattle.free_lists.specs.History.{CallOn, listsAfter, emptyLists}
 use Rattle.free_lists.specs.Lists.{index, Lists}
 
 -- ---- numbers to calls
@@ -50,7 +50,7 @@ runsOf m r u Raw = r
 runsOf m r u Unclassified = u
 
 abbrev pub afterCalls : List ℕ → List ℕ → List ℕ → List ℕ → Lists
-afterCalls calls m r u = run (callsOf calls) (begun (runsOf m r u))
+afterCalls calls m r u = listsAfter (callsOf calls) (emptyLists (runsOf m r u))
 
 -- ---- calls to numbers
 

@@ -1,3 +1,4 @@
 pub mod Encoding
 pub mod Cuts
 pub mod Demanded
+pub mod Anew

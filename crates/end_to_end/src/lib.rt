@@ -1,4 +1,5 @@
 // List calls, the save of what they leave cut after some steps, and the reading of what the cut leaves.
+pub mod anew;
 pub mod calls;
 
 ghost use mathlib.Core.Path.{_≡_};

@@ -24,7 +24,7 @@ use Rattle.free_lists.specs.declared.calls.Which.the-variants.{Metadata,
 use Rattle.free_lists.specs.declared.calls.ListCall.{ListCall}
 use Rattle.free_lists.specs.declared.calls.ListCall.the-variants as call
 use Rattle.free_lists.specs.Lists.{LentList, listIn, regionsOf, same, Lists}
-use Rattle.free_lists.specs.History.{Effect, effect, bytes, perform, CallOn, next, run, begun, Last, never, was, holds, goesOver, later, lastOver, wasFree, ByHistory}
+use Rattle.free_lists.specs.History.{Effect, effect, bytes, perform, CallOn, next, listsAfter, emptyLists, Last, never, was, holds, goesOver, later, lastOver, wasFree, ByHistory}
 use Rattle.free_lists.specs.CallsSay.{Leaves}
 use Rattle.free_lists.proofs.CallLaws.{free-law, take-law, alloc-law, units-law, trailing-law}
 
@@ -115,16 +115,16 @@ module _ (i : Which) where
       pick false = (refl, λ b. (λ f. f, λ f. f))
 
   -- from any lists on
-  run-list : (cs : List CallOn) (ls : Lists) → isList (run cs ls i .run) (run cs ls i .list) ≡ isList (ls i .run) (ls i .list)
-  unfolding run
-  run-list [] ls = refl
-  run-list (c ∷ cs) ls = run-list cs (next c ls) ∙ iteration c ls .list
+  after-list : (cs : List CallOn) (ls : Lists) → isList (listsAfter cs ls i .run) (listsAfter cs ls i .list) ≡ isList (ls i .run) (ls i .list)
+  unfolding listsAfter
+  after-list [] ls = refl
+  after-list (c ∷ cs) ls = after-list cs (next c ls) ∙ iteration c ls .list
 
-  run-free : (cs : List CallOn) (ls : Lists) (b : ℕ) → Free (regionsOf (run cs ls i)) b ↔ Now (lastOver i b cs ls) (Free (regionsOf (ls i)) b)
-  unfolding run lastOver
-  run-free [] ls b = (λ f. f, λ f. f)
-  run-free (c ∷ cs) ls b =
-      let r = run-free cs (next c ls) b in
+  after-free : (cs : List CallOn) (ls : Lists) (b : ℕ) → Free (regionsOf (listsAfter cs ls i)) b ↔ Now (lastOver i b cs ls) (Free (regionsOf (ls i)) b)
+  unfolding listsAfter lastOver
+  after-free [] ls b = (λ f. f, λ f. f)
+  after-free (c ∷ cs) ls b =
+      let r = after-free cs (next c ls) b in
       let x = lastOver i b cs (next c ls) in
       let e = now-later x (Word c ls b) (Free (regionsOf (ls i)) b) in
       let g = now-cong x (Free (regionsOf (next c ls i)) b) (Now (Word c ls b) (Free (regionsOf (ls i)) b)) (iteration c ls .free b) in
@@ -137,9 +137,9 @@ now-empty : (x : Last) → Now x ⊥ ↔ (wasFree x ≡ true)
 now-empty never = (λ f. absurd f, λ e. true-not-false false e refl)
 now-empty (was c) = (λ f. f, λ f. f)
 
-begun-list : (runs : Which → List ℕ) (i : Which) → isList (begun runs i .run) (begun runs i .list) ≡ eqb (length (runs i) % 2) 0
+empty-list : (runs : Which → List ℕ) (i : Which) → isList (emptyLists runs i .run) (emptyLists runs i .list) ≡ eqb (length (runs i) % 2) 0
 unfolding isList
-begun-list runs i = rw (le-leb 0 (capacity (runs i)) (omega arith)) (go (eqb (length (runs i) % 2) 0))
+empty-list runs i = rw (le-leb 0 (capacity (runs i)) (omega arith)) (go (eqb (length (runs i) % 2) 0))
   where
     go : (t : Bool) → (t && (true && true)) ≡ t
     go true = refl
@@ -173,17 +173,17 @@ module _ (t : Which → Bool) where
       go false p false q e = (Unclassified, e)
 
 module _ (runs : Which → List ℕ) (cs : List CallOn) where
-  in-one : (i : Which) (b : ℕ) → Free (regionsOf (run cs (begun runs) i)) b ↔ (wasFree (lastOver i b cs (begun runs)) ≡ true)
+  in-one : (i : Which) (b : ℕ) → Free (regionsOf (listsAfter cs (emptyLists runs) i)) b ↔ (wasFree (lastOver i b cs (emptyLists runs)) ≡ true)
   in-one i b =
-      let r = run-free i cs (begun runs) b in
-      let q = now-empty (lastOver i b cs (begun runs)) in
+      let r = after-free i cs (emptyLists runs) b in
+      let q = now-empty (lastOver i b cs (emptyLists runs)) in
       (λ f. q .0 (r .0 f), λ f. r .1 (q .1 f))
 
   pub history : ByHistory runs cs
   history = record {
-    lists = λ i. run-list i cs (begun runs) ∙ begun-list runs i;
+    lists = λ i. after-list i cs (emptyLists runs) ∙ empty-list runs i;
     inOne = in-one;
     inAny = λ b.
-        let t : Which → Bool = λ i. wasFree (lastOver i b cs (begun runs)) in
+        let t : Which → Bool = λ i. wasFree (lastOver i b cs (emptyLists runs)) in
         (λ p. any-of t (p .0) (in-one (p .0) b .0 (p .1)), λ e. let p = one-of t e in (p .0, in-one (p .0) b .1 (p .1)));
   }

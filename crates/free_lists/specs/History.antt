@@ -12,8 +12,8 @@
 --   answeredOutcome   the outcome that an answer of the code stands for
 --   CallOn, on      a call, and the list that it is made on; these two together
 --   next            the lists after a call: its own as the call leaves it, the others as they were
---   run             the lists after calls in a row: each call "gets its list as the last call on it left it"
---   begun           "three lists, each begun empty": any lent runs, with the record of no regions
+--   listsAfter      the lists after calls in a row: each call "gets its list as the last call on it left it"
+--   emptyLists      "three lists, each begun empty": any lent runs, with the record of no regions
 --   Last, later     the last accepted call over a byte, if there was one; the later of two
 --   holds, goesOver   a range holds a byte; an accepted call goes over it
 --   lastOver        "the last accepted call over that byte made on that list"
@@ -107,12 +107,12 @@ on i c = record { list = i; what = c }
 abbrev pub next : CallOn → Lists → Lists
 next c ls i = cond (same i (c .list)) (perform (c .what) (ls i) .left) (ls i)
 
-unfoldable pub run : List CallOn → Lists → Lists
-run [] ls = ls
-run (c ∷ cs) ls = run cs (next c ls)
+unfoldable pub listsAfter : List CallOn → Lists → Lists
+listsAfter [] ls = ls
+listsAfter (c ∷ cs) ls = listsAfter cs (next c ls)
 
-abbrev pub begun : (Which → List ℕ) → Lists
-begun runs i = listIn (runs i) (recordOf [])
+abbrev pub emptyLists : (Which → List ℕ) → Lists
+emptyLists runs i = listIn (runs i) (recordOf [])
 
 -- ---- the last accepted call over a byte
 
@@ -153,6 +153,6 @@ freeByHistory cs ls b = wasFree (lastOver Metadata b cs ls) || (wasFree (lastOve
 -- any runs, also odd ones, which refuse every call; any calls, also such as are refused or answer Nothing
 pub record ByHistory (runs : Which → List ℕ) (cs : List CallOn) : Type 0 where
   -- refusal 3's test then fails for an odd run alone
-  pub lists : (i : Which) → isList (run cs (begun runs) i .run) (run cs (begun runs) i .list) ≡ eqb (length (runs i) % 2) 0
-  pub inOne : (i : Which) (b : ℕ) → Free (regionsOf (run cs (begun runs) i)) b ↔ (wasFree (lastOver i b cs (begun runs)) ≡ true)
-  pub inAny : (b : ℕ) → ((i : Which) × Free (regionsOf (run cs (begun runs) i)) b) ↔ (freeByHistory cs (begun runs) b ≡ true)
+  pub lists : (i : Which) → isList (listsAfter cs (emptyLists runs) i .run) (listsAfter cs (emptyLists runs) i .list) ≡ eqb (length (runs i) % 2) 0
+  pub inOne : (i : Which) (b : ℕ) → Free (regionsOf (listsAfter cs (emptyLists runs) i)) b ↔ (wasFree (lastOver i b cs (emptyLists runs)) ≡ true)
+  pub inAny : (b : ℕ) → ((i : Which) × Free (regionsOf (listsAfter cs (emptyLists runs) i)) b) ↔ (freeByHistory cs (emptyLists runs) b ≡ true)

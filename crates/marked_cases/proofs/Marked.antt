@@ -8,7 +8,7 @@ use Rattle.fields.specs.Width.{leastFrom, encSize, fshdLen}
 use Rattle.free_regions.specs.Units.{lastMultiple}
 use Rattle.free_space.specs.Runs.{isList, stored}
 use Rattle.free_space.specs.Calls.{freed, allocated, allocatedUnits, rangeTaken}
-use Rattle.free_lists.specs.History.{run}
+use Rattle.free_lists.specs.History.{listsAfter}
 use Rattle.fsm_sections.specs.Sections.{space, ofSize, distinct}
 use Rattle.fsm_sections.specs.Pages.{piecesFrom, pieces, split, belowPage, fromPage}
 use Rattle.fsm_lengths.specs.Lengths.{fsseLen}
@@ -18,7 +18,7 @@ use Rattle.file_space_info.specs.Message.{present, numbersAt, parsed}
 use Rattle.marked_cases.specs.Marked.{Marked}
 
 pub marked : Marked
-unfolding encSize leastFrom fshdLen firstOf fsseLen space ofSize distinct run freed allocated allocatedUnits lastMultiple firstMultiple rangeTaken isList stored splitInto split pieces piecesFrom belowPage fromPage sizeOf slotsFrom parsed present numbersAt layout leBytes leValue
+unfolding encSize leastFrom fshdLen firstOf fsseLen space ofSize distinct listsAfter freed allocated allocatedUnits lastMultiple firstMultiple rangeTaken isList stored splitInto split pieces piecesFrom belowPage fromPage sizeOf slotsFrom parsed present numbersAt layout leBytes leValue
 marked = record {
   m1 = refl;
   m2 = refl;

@@ -23,7 +23,7 @@ use Rattle.free_lists.specs.declared.calls.Which.{Which}
 use Rattle.free_lists.specs.declared.calls.Which.the-variants.{Metadata, Raw, Unclassified}
 use Rattle.free_lists.specs.declared.calls.ListCall.the-variants.{Free}
 use Rattle.free_lists.specs.Lists.{Lists, regionsOf, Regions, regionsIn}
-use Rattle.free_lists.specs.History.{CallOn, on, run, begun}
+use Rattle.free_lists.specs.History.{CallOn, on, listsAfter, emptyLists}
 use Rattle.fsm_sections.specs.Sections.{section}
 use Rattle.fsm_lengths.specs.Lengths.{fsseLen}
 use Rattle.fsm_pages.specs.Split.{splitInto}
@@ -50,10 +50,10 @@ abbrev pub freeing : ℕ → ℕ → CallOn
 freeing a n = on Metadata (Free a n)
 
 abbrev pub m4Lists : Lists
-m4Lists = run (freeing 100 50 ∷ freeing 200 50 ∷ freeing 150 50 ∷ []) (begun lent)
+m4Lists = listsAfter (freeing 100 50 ∷ freeing 200 50 ∷ freeing 150 50 ∷ []) (emptyLists lent)
 
 abbrev pub m9Regions : Regions
-m9Regions = regionsIn (run (freeing 4000 5000 ∷ []) (begun lent))
+m9Regions = regionsIn (listsAfter (freeing 4000 5000 ∷ []) (emptyLists lent))
 
 abbrev pub m10Message : WithSlots
 m10Message = persistentSingleManager Page 1 4096 20000 30000

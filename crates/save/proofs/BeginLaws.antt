@@ -8,7 +8,7 @@ use mathlib.Core.Logic.{_⊎_, inl, inr, ⊎-elim}
 use Prim.Native.Nat.{ℕ, _+_, _≤_, _<_, min, max}
 use native.Mathlib.Omega.{arith}
 use mathlib.Core.Bool.{true, false, _&&_, _||_, not}
-use mathlib.Core.List.{List, [], _∷_, _++_, append-assoc}
+use mathlib.Core.List.{List, _++_, append-assoc}
 use borrow.Author.Tests.{le-leb, lt-ltb, le-ltb, leb-true, ltb-false, eqb-true, eqb-false, not-false}
 use lib.Dec.{ltb}
 use lib.ListN.{length, getD, drop, length-append}
@@ -27,7 +27,7 @@ use Rattle.free_lists.specs.Lists.{Lists, regionsOf, Regions, regionsIn}
 use Rattle.fsm_sections.specs.Sections.{space}
 use Rattle.save_step.specs.declared.Save.{Save}
 use Rattle.file_space_info.specs.Message.{messageLen}
-use Rattle.save.specs.Saving.{small, smallRaw, large, blockLen, messageIn, regionTests, listTests, fresh, filled, begunOf, begun}
+use Rattle.save.specs.Saving.{small, smallRaw, large, blockLen, messageIn, regionTests, listTests, firstRecord, filled, begunOf, begun}
 use Rattle.save.specs.Beginning.{conditions}
 
 -- ---- the facts
@@ -102,7 +102,7 @@ module _ (rs : Regions) (page start place : ℕ) (image : List ℕ) (given : ℕ
 
   -- with any scratch that has room
   begun-again : (scratch : List ℕ) → L + messageLen ≤ length scratch
-      → begunOf rs page start place image scratch ≡ answer (with (fresh rs page start place) (filled rs page start place scratch))
+      → begunOf rs page start place image scratch ≡ answer (with (firstRecord rs page start place) (filled page start rs scratch))
   unfolding begunOf
   begun-again scratch r =
       first-pass (regionTests rs page start place image (length scratch)) _
@@ -114,10 +114,10 @@ pub record Accepted (rs : Regions) (page start place : ℕ) (image scratch : Lis
   pub planned : Planned rs page start
   pub placed : Placed start place (blockLen page rs) image
   pub room : blockLen page rs + messageLen ≤ length scratch
-  pub save-is : fresh rs page start place ≡ save
-  pub lent-is : filled rs page start place scratch ≡ lent
+  pub save-is : firstRecord rs page start place ≡ save
+  pub lent-is : filled page start rs scratch ≡ lent
   pub begins : (scratch₂ : List ℕ) → blockLen page rs + messageLen ≤ length scratch₂
-      → begunOf rs page start place image scratch₂ ≡ answer (with (fresh rs page start place) (filled rs page start place scratch₂))
+      → begunOf rs page start place image scratch₂ ≡ answer (with (firstRecord rs page start place) (filled page start rs scratch₂))
 
 pub accepted : (rs : Regions) (page start place : ℕ) (image scratch : List ℕ) (save : Save) (lent : List ℕ)
     → 0 < page → ((i : Which) → okFrom 0 (rs i) ≡ true) → begunOf rs page start place image scratch ≡ answer (with save lent) → Accepted rs page start place image scratch save lent
@@ -150,7 +150,7 @@ begun-same rs page start place image image₂ scratch i e v v₂ s s₂ =
 
 pub begun-is : (ls : Lists) (page start place : ℕ) (image scratch : List ℕ) → begun ls page start place image scratch
     ≡ firstOf (conditions ls page start place image (length scratch))
-    (answer (with (fresh (regionsIn ls) page start place) (filled (regionsIn ls) page start place scratch)))
+    (answer (with (firstRecord (regionsIn ls) page start place) (filled page start (regionsIn ls) scratch)))
 unfolding begun begunOf
 begun-is ls page start place image scratch = sym (first-append (listTests ls page) (regionTests (regionsIn ls) page start place image (length scratch)) _)
 

@@ -14,14 +14,14 @@ use Rattle.free_lists.specs.declared.calls.Which.{Which}
 use Rattle.free_lists.specs.declared.calls.Which.the-variants.{Metadata, Raw, Unclassified}
 use Rattle.free_lists.specs.declared.calls.ListCall.the-variants.{Free}
 use Rattle.free_lists.specs.Lists.{Lists, regionsIn}
-use Rattle.free_lists.specs.History.{CallOn, on, run, begun as begunEmpty}
+use Rattle.free_lists.specs.History.{CallOn, on, listsAfter, emptyLists, freeByHistory}
 use Rattle.fsm_sections.specs.Sections.{space, ofSize, distinct}
 use Rattle.fsm_sections.specs.Pages.{piecesFrom, pieces, split, belowPage, fromPage}
 use Rattle.fsm_plan.specs.Managers.{sizeOf}
 use Rattle.save_step.specs.declared.Save.{Save}
 use Rattle.save.specs.Saving.{filled, begunOf, begun}
-use Rattle.save.specs.Demand3.{Demand3}
-use Rattle.save.proofs.Demand3.{demand3}
+use Rattle.save.specs.EveryCut.{oneSave, EveryCut}
+use Rattle.save.proofs.AfterCallsLaws.{every-cut-after-calls}
 
 runs : Which → List ℕ
 runs Metadata = 7 ∷ 7 ∷ []
@@ -32,7 +32,7 @@ calls : List CallOn
 calls = on Metadata (Free 200 50) ∷ []
 
 abbrev lists : Lists
-lists = run calls (begunEmpty runs)
+lists = listsAfter calls (emptyLists runs)
 
 -- version 1 and strategy 1 of the old message
 abbrev image : List ℕ
@@ -46,11 +46,11 @@ abbrev save : Save
 save = record { start = 260; place = 0; len = 117; done = 0 }
 
 abbrev lent : List ℕ
-lent = filled (regionsIn lists) 100 260 0 scratch
+lent = filled 100 260 (regionsIn lists) scratch
 
 accepted : begun lists 100 260 0 image scratch ≡ answer (with save lent)
-unfolding begun begunOf run calls runs freed firstOf isList stored piecesFrom pieces split belowPage fromPage sizeOf distinct ofSize encSize leastFrom space
+unfolding begun begunOf listsAfter calls runs freed firstOf isList stored piecesFrom pieces split belowPage fromPage sizeOf distinct ofSize encSize leastFrom space
 accepted = refl
 
-met : Demand3 runs calls 100 260 0 image save lent
-met = demand3 runs calls 100 260 0 image scratch save lent (lit< tt) (lit< tt) accepted
+met : EveryCut (oneSave (regionsIn lists) 100 260 0 image save lent) (freeByHistory calls (emptyLists runs)) (begun lists 100 260 0)
+met = every-cut-after-calls runs calls 100 260 0 image scratch save lent (lit< tt) (lit< tt) accepted

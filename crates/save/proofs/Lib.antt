@@ -3,8 +3,8 @@ pub mod FitLaws
 pub mod BeginLaws
 pub mod ReadLaws
 pub mod HoldingLaws
-pub mod AnySaveLaws
-pub mod Demand3
+pub mod EveryCutLaws
+pub mod AfterCallsLaws
 pub mod Instance
 pub mod TieLaws
 pub mod SumLaws

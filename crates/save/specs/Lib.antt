@@ -1,4 +1,3 @@
 pub mod Saving
 pub mod Beginning
-pub mod AnySave
-pub mod Demand3
+pub mod EveryCut

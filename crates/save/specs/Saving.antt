@@ -16,7 +16,7 @@
 --   misplaced      refusal 13: "message or blocks leave the image, they overlap each other", or a free region is in the way
 --   placeTests     refusals 8, 9, 13 and 14, by the length of the blocks; lateTests 5 before them
 --   regionTests    refusal 4 and then those: what is tested of regions
---   fresh          the record of a save of which no store is made
+--   firstRecord    the record of a save of which no store is made
 --   filled         "Scratch receives all blocks of their plan and then the message"; the rest is as it was
 --   begunOf        a beginning of three lists of regions: the record and the scratch, where no condition holds
 --   listTests      refusals 2 and 3, which come first ("Fourteen ways to say no": "the lowest number is given")
@@ -79,6 +79,9 @@ module _ (page start : ℕ) (rs : Regions) where
   abbrev pub messageOf : List ℕ
   messageOf = let m = persistentManagers strategy.Page 1 page slotAddrs start in messageBytes 8 8 (m .info) (m .slots)
 
+  abbrev pub filled : List ℕ → List ℕ
+  filled scratch = over 0 (blockBytes ++ messageOf) scratch
+
   abbrev pub tooLarge : Bool
   tooLarge =
       ltb top (space (small page rs))
@@ -103,13 +106,14 @@ blocksOut L start place image = ltb 0 L && (ltb (length image) (start + L) || me
 abbrev pub anyInTheWay : ℕ → ℕ → Regions → Bool
 anyInTheWay start place rs = inTheWay start place (rs Metadata) || (inTheWay start place (rs Raw) || inTheWay start place (rs Unclassified))
 
--- of L block bytes; `given` is the length of the scratch
-module _ (rs : Regions) (L start place : ℕ) (image : List ℕ) (given : ℕ) where
+-- of L block bytes
+module _ (rs : Regions) (L start place : ℕ) (image : List ℕ) where
   abbrev pub misplaced : Bool
   misplaced = not (messageIn place image) || (blocksOut L start place image || anyInTheWay start place rs)
 
-  abbrev pub placeTests : List Condition
-  placeTests =
+  -- `given` is the length of the scratch
+  abbrev pub placeTests : ℕ → List Condition
+  placeTests given =
       let version = getD image place 0 in
       let code = getD image (place + 1) 0 in
       when (messageIn place image && not (eqb version 1)) (refusal.MessageVersion version)
@@ -118,8 +122,8 @@ module _ (rs : Regions) (L start place : ℕ) (image : List ℕ) (given : ℕ) w
       ∷ when (ltb given (L + messageLen)) (refusal.OverCapacity (L + messageLen) given)
       ∷ []
 
-  abbrev pub lateTests : List Condition
-  lateTests = when (sharedByte rs) refusal.SharedAddress ∷ placeTests
+  abbrev pub lateTests : ℕ → List Condition
+  lateTests given = when (sharedByte rs) refusal.SharedAddress ∷ placeTests given
 
 -- ---- the beginning
 
@@ -129,14 +133,11 @@ module _ (rs : Regions) (page start place : ℕ) where
   abbrev pub regionTests : List ℕ → ℕ → List Condition
   regionTests image given = when (tooLarge page start rs) refusal.Overflow ∷ lateTests rs (blockLen page rs) start place image given
 
-  abbrev pub fresh : Save
-  fresh = record { start = start; place = place; len = blockLen page rs; done = 0 }
-
-  abbrev pub filled : List ℕ → List ℕ
-  filled scratch = over 0 (blockBytes page start rs ++ messageOf page start rs) scratch
+  abbrev pub firstRecord : Save
+  firstRecord = record { start = start; place = place; len = blockLen page rs; done = 0 }
 
   unfoldable pub begunOf : List ℕ → List ℕ → Outcome (With Save (List ℕ))
-  begunOf image scratch = firstOf (regionTests image (length scratch)) (answer (with fresh (filled scratch)))
+  begunOf image scratch = firstOf (regionTests image (length scratch)) (answer (with firstRecord (filled page start rs scratch)))
 
 abbrev pub listTests : Lists → ℕ → List Condition
 listTests ls page = when (eqb page 0) refusal.Page ∷ when (not (areLists ls)) refusal.NotAList ∷ []

@@ -13,9 +13,9 @@ use Rattle.error.proofs.TestLaws.{le-or-lt}
 use Rattle.fields.specs.Layout.{window}
 use Rattle.save_step.specs.declared.Store.{Store}
 use Rattle.file_space_info.specs.Message.{messageLen}
-use Rattle.save_step.specs.Stores.{noStore, run, after, persist, saveStores}
+use Rattle.save_step.specs.Stores.{noStore, makeAll, after, persist, saveStores}
 use Rattle.save_step.specs.Steps.{stores}
-use Rattle.save_step.proofs.StoreLaws.{length-run, after-all, cut-other, cut-last, Sole, sole-old, sole-new, run-twice}
+use Rattle.save_step.proofs.StoreLaws.{length-all, after-all, cut-other, cut-last, Sole, sole-old, sole-new, all-twice}
 use Rattle.save_step.proofs.NumberLaws.{byteNumber, number-in, count, store-first, store-block, store-message, store-last, each}
 
 -- what a begun save has: a message whose persist byte is 1, and message and blocks in the image and apart; where there is no block, `start` may be anything
@@ -50,14 +50,14 @@ module _ (place start : ℕ) (blocks message image : List ℕ) (s : Savable plac
   number-of-stores = count place start blocks message (s .message-len)
 
   pub cut-none : cut 0 ≡ image
-  unfolding run
+  unfolding makeAll
   cut-none = refl
 
-  pub cut-all : cut (stores L) ≡ run image ss
+  pub cut-all : cut (stores L) ≡ makeAll image ss
   cut-all = after-all (stores L) image ss (le-of-eq number-of-stores)
 
   pub cut-length : (k : ℕ) → length (cut k) ≡ length image
-  cut-length k = length-run image (take k ss)
+  cut-length k = length-all image (take k ss)
 
   -- a property of every store, by what the store is
   every : (Q : ℕ → ℕ → Type 0) → Q 0 (place + persist) → ((i : ℕ) → i < L → Q (suc i) (start + i))
@@ -176,4 +176,4 @@ module _ (place start : ℕ) (blocks message image : List ℕ) (s : Savable plac
   }
 
   pub saved-again : (k : ℕ) → after (stores L) (cut k) ss ≡ cut (stores L)
-  saved-again k = after-all (stores L) (cut k) ss (le-of-eq number-of-stores) ∙ run-twice k image ss ∙ sym cut-all
+  saved-again k = after-all (stores L) (cut k) ss (le-of-eq number-of-stores) ∙ all-twice k image ss ∙ sym cut-all

@@ -17,7 +17,7 @@ use Rattle.error.proofs.TestLaws.{le-or-lt}
 use Rattle.fields.specs.Layout.{window}
 use Rattle.save_step.specs.declared.Save.{Save}
 use Rattle.file_space_info.specs.Message.{messageLen}
-use Rattle.save_step.specs.Stores.{noStore, run, after, saveStores}
+use Rattle.save_step.specs.Stores.{noStore, makeAll, after, saveStores}
 use Rattle.save_step.specs.Steps.{Progress, stored, finished, stores, leaves, nextStore, oneMore, stepped, Saving, saving, recordAfter, goOn, stepOn, steps}
 use Rattle.save_step.proofs.StoreLaws.{after-suc}
 use Rattle.save_step.proofs.CutLaws.{Savable, number-of-stores, cut-length}
@@ -129,7 +129,7 @@ module _ (place start : ℕ) (blocks message image : List ℕ) (s : Savable plac
       ∙ rw (add-one, next-is k, after-suc k image (saveStores place start blocks message) (omega (arith, number-of-stores place start blocks message image s)))
 
   pub steps-are : (k : ℕ) → k ≤ stores L → steps k lent (saving (done 0) image) ≡ saving (done k) (cut k)
-  unfolding steps run
+  unfolding steps makeAll
   steps-are zero h = refl
   steps-are (suc k) h = rw (steps-are k (omega arith), step-is k h)
 

@@ -10,26 +10,26 @@ use lib.ListN.{length, take, getD, set, length-set}
 use lib.Seq.{getD-set-same, getD-set-other, set-set, set-comm, take-suc, take-all}
 use Rattle.error.proofs.TestLaws.{le-or-lt}
 use Rattle.save_step.specs.declared.Store.{Store}
-use Rattle.save_step.specs.Stores.{noStore, store, make, run, after}
+use Rattle.save_step.specs.Stores.{noStore, store, make, makeAll, after}
 
-pub length-run : (image : List ℕ) (ss : List Store) → length (run image ss) ≡ length image
-unfolding run
-length-run image [] = refl
-length-run image (s ∷ ss) = length-run (make s image) ss ∙ length-set image (s .place) (s .byte)
+pub length-all : (image : List ℕ) (ss : List Store) → length (makeAll image ss) ≡ length image
+unfolding makeAll
+length-all image [] = refl
+length-all image (s ∷ ss) = length-all (make s image) ss ∙ length-set image (s .place) (s .byte)
 
 -- ---- one store more
 
-run-append : (image : List ℕ) (a b : List Store) → run image (a ++ b) ≡ run (run image a) b
-unfolding run
-run-append image [] b = refl
-run-append image (s ∷ a) b = run-append (make s image) a b
+all-append : (image : List ℕ) (a b : List Store) → makeAll image (a ++ b) ≡ makeAll (makeAll image a) b
+unfolding makeAll
+all-append image [] b = refl
+all-append image (s ∷ a) b = all-append (make s image) a b
 
 pub after-suc : (k : ℕ) (image : List ℕ) (ss : List Store) → k < length ss → after (suc k) image ss ≡ make (getD ss k noStore) (after k image ss)
-unfolding run
-after-suc k image ss h = ap (run image) (take-suc ss k noStore h) ∙ run-append image (take k ss) (getD ss k noStore ∷ [])
+unfolding makeAll
+after-suc k image ss h = ap (makeAll image) (take-suc ss k noStore h) ∙ all-append image (take k ss) (getD ss k noStore ∷ [])
 
-pub after-all : (k : ℕ) (image : List ℕ) (ss : List Store) → length ss ≤ k → after k image ss ≡ run image ss
-after-all k image ss h = ap (run image) (take-all k ss h)
+pub after-all : (k : ℕ) (image : List ℕ) (ss : List Store) → length ss ≤ k → after k image ss ≡ makeAll image ss
+after-all k image ss h = ap (makeAll image) (take-all k ss h)
 
 -- from k stores to k + 1, at every k: past the last store nothing more is made
 after-step : (P : List ℕ → Type 0) (k : ℕ) (image : List ℕ) (ss : List Store) → P (after k image ss) → (k < length ss → P (make (getD ss k noStore) (after k image ss)))
@@ -51,7 +51,7 @@ make-other s image q n = getD-set-other image (s .place) q (s .byte) 0 (λ e. n 
 module _ (image : List ℕ) (ss : List Store) (q : ℕ) where
   -- no store before the cut names q
   pub cut-other : (k : ℕ) → ((j : ℕ) → j < k → j < length ss → getD ss j noStore .place ≢ q) → getD (after k image ss) q 0 ≡ getD image q 0
-  unfolding run
+  unfolding makeAll
   cut-other zero f = refl
   cut-other (suc k) f =
       let ih : getD (after k image ss) q 0 ≡ getD image q 0 = cut-other k (λ j h. f j (omega arith)) in
@@ -67,7 +67,7 @@ module _ (image : List ℕ) (ss : List Store) (q : ℕ) where
       pick (yes z) ih =
           let m : k < length ss = omega arith in
           let e′ : getD ss k noStore .place ≡ q = rw z at e in
-          rw (after-suc k image ss m, z) (make-same (getD ss k noStore) (after k image ss) q e′ (rw length-run i))
+          rw (after-suc k image ss m, z) (make-same (getD ss k noStore) (after k image ss) q e′ (rw length-all i))
       pick (no z) ih =
           let m : n < k = omega arith in
           after-step (λ x. getD x q 0 ≡ getD ss n noStore .byte) k image ss (ih m) (λ h. make-other (getD ss k noStore) (after k image ss) q (f k m (omega arith) h) ∙ ih m)
@@ -87,23 +87,23 @@ module _ (image : List ℕ) (ss : List Store) (q : ℕ) where
 -- ---- stores made again
 
 -- a byte stored before stores does not show where one of them names its place
-run-over : (image : List ℕ) (p b : ℕ) (ss : List Store) (j : ℕ) → j < length ss → getD ss j noStore .place ≡ p → run (set image p b) ss ≡ run image ss
-unfolding run
-run-over image p b [] j h e = absurd (not-suc-le-zero h)
-run-over image p b (s ∷ ss) j h e = pick (ℕ-discrete (s .place) p) j h e (λ i. run-over i p b ss)
+all-over : (image : List ℕ) (p b : ℕ) (ss : List Store) (j : ℕ) → j < length ss → getD ss j noStore .place ≡ p → makeAll (set image p b) ss ≡ makeAll image ss
+unfolding makeAll
+all-over image p b [] j h e = absurd (not-suc-le-zero h)
+all-over image p b (s ∷ ss) j h e = pick (ℕ-discrete (s .place) p) j h e (λ i. all-over i p b ss)
   where
     pick : Dec (s .place ≡ p) → (j : ℕ) → j < length (s ∷ ss) → getD (s ∷ ss) j noStore .place ≡ p
-        → ((i : List ℕ) (j : ℕ) → j < length ss → getD ss j noStore .place ≡ p → run (set i p b) ss ≡ run i ss) → run (make s (set image p b)) ss ≡ run (make s image) ss
-    pick (yes z) j h e ih = ap (λ (i : List ℕ). run i ss) (rw z (set-set image p b (s .byte)))
+        → ((i : List ℕ) (j : ℕ) → j < length ss → getD ss j noStore .place ≡ p → makeAll (set i p b) ss ≡ makeAll i ss) → makeAll (make s (set image p b)) ss ≡ makeAll (make s image) ss
+    pick (yes z) j h e ih = ap (λ (i : List ℕ). makeAll i ss) (rw z (set-set image p b (s .byte)))
     pick (no z) zero h e ih = absurd (z e)
     pick (no z) (suc j) h e ih =
-        ap (λ (i : List ℕ). run i ss) (set-comm image p (s .place) b (s .byte) (λ e. z (sym e)))
+        ap (λ (i : List ℕ). makeAll i ss) (set-comm image p (s .place) b (s .byte) (λ e. z (sym e)))
         ∙ ih (make s image) j (le-of-suc-le-suc h) e
 
 -- all stores made over what any cut of them left
-pub run-twice : (k : ℕ) (image : List ℕ) (ss : List Store) → run (after k image ss) ss ≡ run image ss
-unfolding run
-run-twice zero image ss = refl
-run-twice (suc k) image ss =
-    let ih : run (after k image ss) ss ≡ run image ss = run-twice k image ss in
-    after-step (λ i. run i ss ≡ run image ss) k image ss ih (λ h. run-over (after k image ss) (getD ss k noStore .place) (getD ss k noStore .byte) ss k h refl ∙ ih)
+pub all-twice : (k : ℕ) (image : List ℕ) (ss : List Store) → makeAll (after k image ss) ss ≡ makeAll image ss
+unfolding makeAll
+all-twice zero image ss = refl
+all-twice (suc k) image ss =
+    let ih : makeAll (after k image ss) ss ≡ makeAll image ss = all-twice k image ss in
+    after-step (λ i. makeAll i ss ≡ makeAll image ss) k image ss ih (λ h. all-over (after k image ss) (getD ss k noStore .place) (getD ss k noStore .byte) ss k h refl ∙ ih)

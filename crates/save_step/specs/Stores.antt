@@ -3,7 +3,7 @@
 --   Store, store   a byte and the place in the image that it goes to; the store of a place and a byte
 --   noStore      what stands for a store where a list has none
 --   make         the image with a store made ("a byte being stored is old or new, never junk")
---   run          the image with stores made, one after another
+--   makeAll      the image with stores made, one after another
 --   after        what a cut leaves: the image with "the first k stores" made "and nothing of the others"
 --   ascending    the stores of bytes one after another, from a place up
 --   but          stores without number i of them
@@ -23,12 +23,12 @@ noStore = store 0 0
 abbrev pub make : Store → List ℕ → List ℕ
 make s image = set image (s .place) (s .byte)
 
-unfoldable pub run : List ℕ → List Store → List ℕ
-run image [] = image
-run image (s ∷ ss) = run (make s image) ss
+unfoldable pub makeAll : List ℕ → List Store → List ℕ
+makeAll image [] = image
+makeAll image (s ∷ ss) = makeAll (make s image) ss
 
 abbrev pub after : ℕ → List ℕ → List Store → List ℕ
-after k image ss = run image (take k ss)
+after k image ss = makeAll image (take k ss)
 
 unfoldable pub ascending : ℕ → List ℕ → List Store
 ascending p [] = []

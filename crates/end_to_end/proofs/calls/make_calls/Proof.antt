@@ -5,16 +5,16 @@ use lib.ListN.{length, drop}
 use denote.Ref.{now}
 use borrow.Author.Needs.{needs}
 use Rattle.free_lists.specs.Lists.{listsIn}
-use Rattle.free_lists.specs.History.{run, begun}
+use Rattle.free_lists.specs.History.{listsAfter, emptyLists}
 use Rattle.end_to_end.specs.Encoding.{callsOf, runsOf}
-use Rattle.end_to_end.proofs.CallLaws.{begun-three, run-step, run-end}
+use Rattle.end_to_end.proofs.CallLaws.{empty-three, after-step, after-end}
 use Rattle.end_to_end.proofs.calls.make_calls.Statement.{statement}
 use Rattle.end_to_end.proofs.calls.make_calls.Tie as tie
 
 abbrev Inv-loop : tie.InvT-loop
 Inv-loop calls metadata₀ raw₀ unclassified₀ lists₀ at₀ metadata raw unclassified lists at =
     (at ≤ length calls) × ((length metadata ≡ length metadata₀) × (length raw ≡ length raw₀) × (length unclassified ≡ length unclassified₀))
-    × (run (callsOf calls) (begun (runsOf metadata₀ raw₀ unclassified₀)) ≡ run (callsOf (drop at calls)) (listsIn metadata raw unclassified lists))
+    × (listsAfter (callsOf calls) (emptyLists (runsOf metadata₀ raw₀ unclassified₀)) ≡ listsAfter (callsOf (drop at calls)) (listsIn metadata raw unclassified lists))
 
 abbrev μ-loop : tie.MeasureT-loop
 μ-loop calls metadata₀ raw₀ unclassified₀ lists₀ at₀ metadata raw unclassified lists at = length calls - at
@@ -33,8 +33,8 @@ loop-holds c =
     let a = c .before .before .before .before .before .before .before .args in (
       search needs,
       (refl, refl, refl),
-      ap (run (callsOf (now (a .calls))))
-          (begun-three (now (a .metadata)) (now (a .raw)) (now (a .unclassified)) _ _ _ (c .before .before .new .ensures) (c .before .new2 .ensures) (c .new3 .ensures)),
+      ap (listsAfter (callsOf (now (a .calls))))
+          (empty-three (now (a .metadata)) (now (a .raw)) (now (a .unclassified)) _ _ _ (c .before .before .new .ensures) (c .before .new2 .ensures) (c .new3 .ensures)),
     )
 
 add-loop : tie.Need-add-loop Inv-loop μ-loop
@@ -98,7 +98,7 @@ loop-again c =
     let l = which .before .before .before .loop in (
       search needs,
       (search needs, search needs, search needs),
-      l .inv .2 ∙ run-step _ (l .at) _ _ _ _ (which .which-of .ensures) (called .call-of .ensures) (omega arith) (applied .apply .ensures .0),
+      l .inv .2 ∙ after-step _ (l .at) _ _ _ _ (which .which-of .ensures) (called .call-of .ensures) (omega arith) (applied .apply .ensures .0),
     )
 
 same-length : tie.Need-same-length Inv-loop μ-loop
@@ -111,7 +111,7 @@ same-length-3 : tie.Need-same-length-3 Inv-loop μ-loop
 same-length-3 c = search needs
 
 returns : tie.Need-returns Inv-loop μ-loop
-returns c = let l = c .before .loop in sym (l .inv .2 ∙ run-end _ (l .at) _ (omega arith))
+returns c = let l = c .before .loop in sym (l .inv .2 ∙ after-end _ (l .at) _ (omega arith))
 
 pub make-calls-spec : {M : Type 1} → statement M
 make-calls-spec =

@@ -1,21 +1,21 @@
--- The save of any three lists of regions, proved. Assumes nothing.
+-- Every cut of a save of any three lists of regions, proved. Assumes nothing.
 use mathlib.Core.Path.{_≡_, refl, sym, ap, ap₂, _∙_, subst}
 use mathlib.Core.Logic.{⊎-elim, _↔_}
 use Prim.Native.Nat.{ℕ, suc, _+_, _^_, _≤_, _<_}
 use native.Mathlib.Nat.{add-zero, le-refl}
 use native.Mathlib.Omega.{arith}
-use mathlib.Core.Bool.{true, cond}
-use mathlib.Core.List.{List, [], _∷_, _++_, map, append-nil}
+use mathlib.Core.Bool.{Bool, true, false, cond}
+use mathlib.Core.List.{List, [], _++_, map, append-nil}
 use lib.Dec.{lit<, lit≤}
 use lib.ListN.{length, drop, getD}
-use Rattle.error.specs.Outcome.{Outcome, answer}
+use Rattle.error.specs.Outcome.{answer}
 use Rattle.error.specs.Lent.{with, over}
 use Rattle.fields.specs.Le.{leBytes}
 use Rattle.fields.specs.Layout.{layout, window}
 use Rattle.fields.specs.Ranges.{top}
 use Rattle.checksum.specs.Lookup3.{lookup3}
 use Rattle.free_regions.specs.declared.FreeRegion.{FreeRegion}
-use Rattle.free_regions.specs.Regions.{region, Free}
+use Rattle.free_regions.specs.Regions.{region, Free, shareBytes}
 use Rattle.free_regions.proofs.OkLaws.{ok-prop}
 use Rattle.free_regions.proofs.ShareLaws.{shares-byte}
 use Rattle.free_lists.specs.declared.calls.Which.{Which}
@@ -40,8 +40,8 @@ use Rattle.save_step.proofs.StoreLaws.{after-suc}
 use Rattle.save_step.proofs.RowLaws.{step-is, steps-are, step-after, steps-end}
 use Rattle.fsm_plan.proofs.PlannedLaws.{holding-sorted}
 use Rattle.save.specs.Saving.{asSections, small, smallRaw, large, plan, blockLen, blockBytes, slotAddrs, messageOf, filled, begunOf}
-use Rattle.image.specs.Reading.{Listed, inSlot, listed as listedFrom, readImage, readListed, countsOf}
-use Rattle.save.specs.AnySave.{inList, freeIn, AnySave, EverySave}
+use Rattle.image.specs.Reading.{Listed, inSlot, listed as listedFrom, readImage, countsOf}
+use Rattle.save.specs.EveryCut.{OneSave, oneSave, afterSteps, imageAfter, metadataSlot, rawSlot, largeSlot, plannedInSlots, plannedSections, plannedCounts, OneStoreAStep, ReadInto, EveryCut, inList, freeIn, EveryCutOfLists}
 use Rattle.save.proofs.PlanLaws.{length-slots, length-blocks, slots-read, sorted}
 use Rattle.save.proofs.FitLaws.{Ends, list-ends, plan-fits, slots-fit, small-plan}
 use Rattle.save.proofs.BeginLaws.{Planned, Accepted, accepted, filled-is, begun-same}
@@ -50,28 +50,19 @@ use Rattle.save.proofs.HoldingLaws.{foundIn, holding-nothing, holding-s
 
 -- ---- what the twelve slots of a plan read as
 
-module _ (page : ℕ) (rs : Regions) where
-  abbrev S : List FreeSection
-  S = bySizeThenAddr (small page rs)
-
-  abbrev R : List FreeSection
-  R = bySizeThenAddr (smallRaw page rs)
-
-  abbrev G : List FreeSection
-  G = bySizeThenAddr (large page rs)
-
+module _ (s : OneSave) where
   abbrev found : List (List FreeSection)
-  found = map sorted (plan page rs)
+  found = map sorted (plan (s .page) (s .regions))
 
-  slots-listed : listedFrom 0 found ≡ inSlot 0 S ++ (inSlot 2 R ++ inSlot 6 G)
+  slots-listed : listedFrom 0 found ≡ plannedInSlots s
   unfolding bySizeThenAddr
-  slots-listed = ap (λ (r : List Listed). inSlot 0 S ++ (inSlot 2 R ++ r)) (append-nil (inSlot 6 G))
+  slots-listed = ap (λ (r : List Listed). inSlot 0 (metadataSlot s) ++ (inSlot 2 (rawSlot s) ++ r)) (append-nil (inSlot 6 (largeSlot s)))
 
-  slots-joined : joined found ≡ S ++ (R ++ G)
+  slots-joined : joined found ≡ plannedSections s
   unfolding bySizeThenAddr joined
-  slots-joined = ap (λ (r : List FreeSection). S ++ (R ++ r)) (append-nil G)
+  slots-joined = ap (λ (r : List FreeSection). metadataSlot s ++ (rawSlot s ++ r)) (append-nil (largeSlot s))
 
-  slots-counted : countsOf found ≡ length S ∷ 0 ∷ length R ∷ 0 ∷ 0 ∷ 0 ∷ length G ∷ 0 ∷ 0 ∷ 0 ∷ 0 ∷ 0 ∷ []
+  slots-counted : countsOf found ≡ plannedCounts s
   unfolding bySizeThenAddr
   slots-counted = refl
 
@@ -85,34 +76,40 @@ in-list rs b =
       λ e. let x = q .0 e in let same : x .0 ≡ b = omega (arith, x .1) in subst (Free rs) same (x .2),
     )
 
-module _ (rs : Regions) (page start : ℕ) (planned : Planned rs page start) where
-  held-in : (i : Which) (b : ℕ) → holding b (asSections (rs i)) ≡ cond (inList (rs i) b) 1 0
-  held-in i b = holding-list 0 top b (rs i) (inList (rs i) b) (ok-prop 0 (rs i) .0 (planned .valid i)) (in-list (rs i) b)
+module _ (s : OneSave) (p : Planned (s .regions) (s .page) (s .start)) where
+  abbrev lies : Which → ℕ → Bool
+  lies i b = inList (s .regions i) b
 
-  held-once : (b : ℕ) → holding b (foundIn (inSlot 0 (S page rs) ++ (inSlot 2 (R page rs) ++ inSlot 6 (G page rs)))) ≡ cond (freeIn rs b) 1 0
+  held-in : (i : Which) (b : ℕ) → holding b (asSections (s .regions i)) ≡ cond (lies i b) 1 0
+  held-in i b = holding-list 0 top b (s .regions i) (lies i b) (ok-prop 0 (s .regions i) .0 (p .valid i)) (in-list (s .regions i) b)
+
+  not-both : (i j : Which) (b : ℕ) → shareBytes (s .regions i) (s .regions j) ≡ false → lies i b ≡ true → lies j b ≡ true → ⊥
+  not-both i j b e x y = in-both (s .regions i) (s .regions j) b e (in-list (s .regions i) b .1 x) (in-list (s .regions j) b .1 y)
+
+  held-once : (b : ℕ) → holding b (foundIn (plannedInSlots s)) ≡ cond (freeIn (s .regions) b) 1 0
   held-once b =
-      let M : List FreeSection = asSections (rs Metadata) in
-      let W : List FreeSection = asSections (rs Raw) in
-      let U : List FreeSection = asSections (rs Unclassified) in
-      let all : holding b (foundIn (inSlot 0 (S page rs) ++ (inSlot 2 (R page rs) ++ inSlot 6 (G page rs)))) ≡ holding b M + (holding b W + holding b U) =
-      ap (λ (r : List Listed). holding b (foundIn (inSlot 0 (S page rs) ++ (inSlot 2 (R page rs) ++ r)))) (sym (append-nil (inSlot 6 (G page rs))))
+      let M : List FreeSection = asSections (s .regions Metadata) in
+      let W : List FreeSection = asSections (s .regions Raw) in
+      let U : List FreeSection = asSections (s .regions Unclassified) in
+      let all : holding b (foundIn (plannedInSlots s)) ≡ holding b M + (holding b W + holding b U) =
+      ap (λ (r : List Listed). holding b (foundIn (inSlot 0 (metadataSlot s) ++ (inSlot 2 (rawSlot s) ++ r)))) (sym (append-nil (inSlot 6 (largeSlot s))))
       ∙ omega (
         arith,
-        holding-slot b 0 (S page rs) (inSlot 2 (R page rs) ++ (inSlot 6 (G page rs) ++ [])),
-        holding-slot b 2 (R page rs) (inSlot 6 (G page rs) ++ []),
-        holding-slot b 6 (G page rs) [],
+        holding-slot b 0 (metadataSlot s) (inSlot 2 (rawSlot s) ++ (inSlot 6 (largeSlot s) ++ [])),
+        holding-slot b 2 (rawSlot s) (inSlot 6 (largeSlot s) ++ []),
+        holding-slot b 6 (largeSlot s) [],
         holding-nothing b,
-        holding-sorted b (small page rs),
-        holding-sorted b (smallRaw page rs),
-        holding-sorted b (large page rs),
-        slots-hold page M W U b (planned .some),
+        holding-sorted b (small (s .page) (s .regions)),
+        holding-sorted b (smallRaw (s .page) (s .regions)),
+        holding-sorted b (large (s .page) (s .regions)),
+        slots-hold (s .page) M W U b (p .some),
       ) in
       all
       ∙ ap₂ (λ (m n : ℕ). m + n) (held-in Metadata b) (ap₂ (λ (m n : ℕ). m + n) (held-in Raw b) (held-in Unclassified b))
-      ∙ one-of (inList (rs Metadata) b) (inList (rs Raw) b) (inList (rs Unclassified) b)
-      (λ p q. in-both (rs Metadata) (rs Raw) b (planned .apart01) (in-list (rs Metadata) b .1 p) (in-list (rs Raw) b .1 q))
-      (λ p q. in-both (rs Metadata) (rs Unclassified) b (planned .apart02) (in-list (rs Metadata) b .1 p) (in-list (rs Unclassified) b .1 q))
-      (λ p q. in-both (rs Raw) (rs Unclassified) b (planned .apart12) (in-list (rs Raw) b .1 p) (in-list (rs Unclassified) b .1 q))
+      ∙ one-of (lies Metadata b) (lies Raw b) (lies Unclassified b)
+      (not-both Metadata Raw b (p .apart01))
+      (not-both Metadata Unclassified b (p .apart02))
+      (not-both Raw Unclassified b (p .apart12))
 
 -- ---- the save
 
@@ -130,12 +127,22 @@ module _ (rs : Regions) (page start place : ℕ) (image scratch : List ℕ) (sav
   abbrev T : ℕ
   T = stores L
 
-  abbrev recordAt : ℕ → Save
-  recordAt k = record { start = start; place = place; len = L; done = k }
+  abbrev recorded : ℕ → Save
+  recorded k = record { start = start; place = place; len = L; done = k }
 
   -- the image after k stores
   abbrev img : ℕ → List ℕ
   img k = after k image (saveStores place start B M)
+
+  -- a scratch as the beginning leaves it: blocks, message, and what it had after them
+  abbrev more : List ℕ → List ℕ
+  more scratch₂ = drop (length (B ++ M)) scratch₂
+
+  abbrev row : List ℕ → List ℕ
+  row scratch₂ = B ++ (M ++ more scratch₂)
+
+  abbrev one : OneSave
+  one = oneSave rs page start place image (recorded 0) (row scratch)
 
   len : L ≡ blockLen page rs
   len = length-blocks 8 (startingSet 8) lookup3 (plan page rs) start
@@ -175,7 +182,7 @@ module _ (rs : Regions) (page start place : ℕ) (image scratch : List ℕ) (sav
   ends : (i : Which) → All (Ends top) (asSections (rs i))
   ends i = list-ends 0 top (rs i) (ok-prop 0 (rs i) .0 (a .planned .valid i))
 
-  all-saved : readImage place (img T) ≡ answer (found page rs)
+  all-saved : readImage place (img T) ≡ answer (found one)
   all-saved =
       reads-slots place (img T) (made true strategy.Page 1 page start) (slotAddrs page start rs) refl
       (lit< tt, (lit< tt, (lit< tt, (lit< tt, (p64, (lit< tt, (s64, slots-fit (plan page rs) start (a .planned .last))))))))
@@ -188,78 +195,79 @@ module _ (rs : Regions) (page start place : ℕ) (image scratch : List ℕ) (sav
 
   -- ---- the steps
 
-  -- a scratch as the beginning leaves it: blocks, message, and what it had after them
-  abbrev more : List ℕ → List ℕ
-  more scratch₂ = drop (length (B ++ M)) scratch₂
-
-  abbrev row : List ℕ → List ℕ
-  row scratch₂ = B ++ (M ++ more scratch₂)
-
-  row-is : (scratch₂ : List ℕ) → blockLen page rs + messageLen ≤ length scratch₂ → filled rs page start place scratch₂ ≡ row scratch₂
+  row-is : (scratch₂ : List ℕ) → blockLen page rs + messageLen ≤ length scratch₂ → filled page start rs scratch₂ ≡ row scratch₂
   row-is scratch₂ r = filled-is B M scratch₂ (omega (arith, len, s .message-len))
 
-  abbrev cut : ℕ → Saving
-  cut k = steps k (row scratch) (saving (recordAt 0) image)
+  steps-made : (k : ℕ) → k ≤ T → afterSteps one k ≡ saving (recorded k) (img k)
+  steps-made k h = steps-are place start B M image s (more scratch) k h
 
-  cut-is : (k : ℕ) → k ≤ T → cut k ≡ saving (recordAt k) (img k)
-  cut-is k h = steps-are place start B M image s (more scratch) k h
+  image-made : (k : ℕ) → k ≤ T → imageAfter one k ≡ img k
+  image-made k h = ap (λ (x : Saving). x .image) (steps-made k h)
 
-  reads : readListed place (cut T .image) ≡ answer (inSlot 0 (S page rs) ++ (inSlot 2 (R page rs) ++ inSlot 6 (G page rs)))
-  reads = rw (cut-is T (le-refl T)) (listed-is place (img T) (found page rs) all-saved ∙ ap answer (slots-listed page rs))
+  -- after the last store
+  ended-at : (k : ℕ) → T ≤ k → afterSteps one k ≡ saving (recorded T) (img T)
+  ended-at k h = steps-end place start B M image s (more scratch) k h
 
   -- the same save over what a cut left
   over-again : (k : ℕ) (scratch₂ : List ℕ) → L + messageLen ≤ length scratch₂
       → (lent₂ : List ℕ)
-      × (begunOf rs page start place (img k) scratch₂ ≡ answer (with (recordAt 0) lent₂))
-      × (steps T lent₂ (saving (recordAt 0) (img k)) ≡ saving (recordAt T) (img T))
+      × (begunOf rs page start place (img k) scratch₂ ≡ answer (with (recorded 0) lent₂))
+      × (steps T lent₂ (saving (recorded 0) (img k)) ≡ saving (recorded T) (img T))
   over-again k scratch₂ r = (
     row scratch₂,
     begins-same k rs page start scratch₂
         ∙ a .begins scratch₂ (rw len at r)
         ∙ ap₂ (λ (n : ℕ) (l : List ℕ). answer (with (record { start = start; place = place; len = n; done = 0 }) l)) (sym len) (row-is scratch₂ (rw len at r)),
     steps-are place start B M (img k) (c.savable-again place start B M image s k) (more scratch₂) T (le-refl T)
-        ∙ ap (saving (recordAt T)) (c.saved-again place start B M image s k),
+        ∙ ap (saving (recorded T)) (c.saved-again place start B M image s k),
   )
 
-  holds : AnySave rs page start place image (recordAt 0) (row scratch)
+  readings : ReadInto one
   unfolding steps
-  holds = record {
+  readings = record {
+    nothing-stored = λ out. refl;
+    in-between = λ k h l out e. rw (image-made k (omega arith)) (nothing-into place (img k) out (none-between k h l) e);
+    after-last = λ out room.
+        rw (image-made T (le-refl T))
+        (into-is place (img T) out (found one) all-saved (room .0) (rw (slots-joined one) (room .1))
+        ∙ ap₂ (λ (n : List ℕ) (l : List FreeSection). answer (with n (over 0 (flat l) out))) (slots-counted one) (slots-joined one));
+  }
+
+  one-store-a-step : OneStoreAStep one
+  one-store-a-step = record {
     begins = refl;
     count = c.number-of-stores place start B M image s;
-    made = cut-is;
-    step-made = λ k h.
-        rw (cut-is k (omega arith))
+    made = steps-made;
+    next = λ k h.
+        rw (steps-made k (omega arith), image-made k (omega arith))
         (step-is place start B M image s (more scratch) k h
-        ∙ ap (λ (i : List ℕ). answer (with (stored (recordAt (suc k))) i)) (after-suc k image (saveStores place start B M) (omega (arith, c.number-of-stores place start B M image s))));
+        ∙ ap (λ (i : List ℕ). answer (with (stored (recorded (suc k))) i)) (after-suc k image (saveStores place start B M) (omega (arith, c.number-of-stores place start B M image s))));
     ended = λ k h.
-        rw (steps-end place start B M image s (more scratch) k h, cut-is T (le-refl T)) (step-after place start B M image s (more scratch));
-    unchanged = refl;
-    between = λ k h l. rw (cut-is k (omega arith)) (listed-is place (img k) [] (none-between k h l));
-    finished = reads;
-    addresses = λ found e b. let z : _ ≡ found = answers (sym reads ∙ e) in
-        subst (λ (x : List Listed). holding b (foundIn x) ≡ cond (freeIn rs b) 1 0) z (held-once rs page start (a .planned) b);
-    unchanged-into = λ out. refl;
-    between-into = λ k h l out e. rw (cut-is k (omega arith)) (nothing-into place (img k) out (none-between k h l) e);
-    finished-into = λ out e r.
-        rw (cut-is T (le-refl T))
-        (into-is place (img T) out (found page rs) all-saved e (rw (slots-joined page rs) r)
-        ∙ ap₂ (λ (n : List ℕ) (l : List FreeSection). answer (with n (over 0 (flat l) out))) (slots-counted page rs) (slots-joined page rs));
-    long = λ k h. rw (cut-is k h) (c.cut-length place start B M image s k);
-    frame = λ k h j p b. rw (cut-is k h) (c.frame place start B M image s k j b p);
-    anew = λ k h rs₂ page₂ start₂ scratch₂. rw (cut-is k h) (begins-same k rs₂ page₂ start₂ scratch₂);
-    again = λ k h scratch₂ r. rw (cut-is k h, cut-is T (le-refl T)) (over-again k scratch₂ r);
+        rw (ended-at k h, ap (λ (x : Saving). x .image) (ended-at k h), image-made T (le-refl T)) (step-after place start B M image s (more scratch));
+    long = λ k h. rw (image-made k h) (c.cut-length place start B M image s k);
   }
-    where
-      answers : {A : Type 0} {x y : A} → _≡_ {A = Outcome A} (answer x) (answer y) → x ≡ y
-      answers e = cc
+
+  holds : EveryCut one (freeIn rs) (begunOf rs page start place)
+  unfolding steps
+  holds = record {
+    nothing-stored = refl;
+    in-between = λ k h l. rw (image-made k (omega arith)) (listed-is place (img k) [] (none-between k h l));
+    after-last = rw (image-made T (le-refl T)) (listed-is place (img T) (found one) all-saved ∙ ap answer (slots-listed one));
+    each-once = held-once one (a .planned);
+    outside = λ k h j p b. rw (image-made k h) (c.frame place start B M image s k j b p);
+    fresh-begins = λ k h rs₂ page₂ start₂ scratch₂. rw (image-made k h) (begins-same k rs₂ page₂ start₂ scratch₂);
+    fresh-ends = λ k h scratch₂ r. rw (image-made k h, steps-made T (le-refl T)) (over-again k scratch₂ r);
+    into = readings;
+    bookkeeping = one-store-a-step;
+  }
 
   -- record and scratch are those that the beginning gave
-  held : AnySave rs page start place image save lent
+  held : EveryCut (oneSave rs page start place image save lent) (freeIn rs) (begunOf rs page start place)
   held =
-      subst (λ (x : Save). AnySave rs page start place image x lent)
+      subst (λ (x : Save). EveryCut (oneSave rs page start place image x lent) (freeIn rs) (begunOf rs page start place))
       (ap (λ (n : ℕ). record { start = start; place = place; len = n; done = 0 }) len ∙ a .save-is)
-      (subst (λ (l : List ℕ). AnySave rs page start place image (recordAt 0) l) (sym (row-is scratch (a .room)) ∙ a .lent-is) holds)
+      (subst (λ (l : List ℕ). EveryCut (oneSave rs page start place image (recorded 0) l) (freeIn rs) (begunOf rs page start place)) (sym (row-is scratch (a .room)) ∙ a .lent-is) holds)
 
-pub any-save : EverySave
-any-save rs page start place image scratch save lent p64 s64 some valid e =
+pub every-cut-of-lists : EveryCutOfLists
+every-cut-of-lists rs page start place image scratch save lent p64 s64 some valid e =
     held rs page start place image scratch save lent p64 s64 (accepted rs page start place image scratch save lent some valid e)
