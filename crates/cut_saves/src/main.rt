@@ -3,12 +3,12 @@
 // serializers write them.
 use end_to_end::anew::call_save_anew;
 use end_to_end::call_save_read;
-use numbers::MAX;
-use numbers::saturating_add;
 use image::ImageAnswer;
 use image::ImageRead;
 use libc::STDIN_FILENO;
 use libc::STDOUT_FILENO;
+use numbers::MAX;
+use numbers::saturating_add;
 use save::Target;
 use save_step::Save;
 use save_step::Step;
