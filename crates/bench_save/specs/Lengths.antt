@@ -1,5 +1,5 @@
 -- What the benchmarks see of a plan and of a save's beginning: one number, and the lent memory. Assumes nothing.
---   wholeLists  the records of three runs that are full
+--   wholeLists  the records of three runs that are full; wholeCounts their counts
 --   endOrTop    the end of the managers, all ones for a refusal; lenOrTop the length of the blocks
 --   planLeft    that number and the run of sections; saveLeft and the scratch
 use Prim.Native.Nat.{ℕ, _/_}
@@ -9,12 +9,16 @@ use Rattle.error.specs.Outcome.{Outcome, answer, nothing, refuse}
 use Rattle.error.specs.Lent.{With, with, Left}
 use Rattle.fields.specs.Ranges.{top}
 use Rattle.free_lists.specs.declared.FileLists.{FileLists}
-use Rattle.fsm_plan.specs.declared.plan.PagedManagerPlan.{PagedManagerPlan}
+use Rattle.fsm_plan.specs.declared.Counts.{Counts}
+use Rattle.fsm_plan.specs.declared.blocks.PagedManagerPlan.{PagedManagerPlan}
 use Rattle.save_step.specs.declared.Save.{Save}
 
 abbrev pub wholeLists : List ℕ → List ℕ → List ℕ → FileLists
 wholeLists xs ys zs =
     record { metadata = record { count = length xs / 2 }; raw = record { count = length ys / 2 }; unclassified = record { count = length zs / 2 } }
+
+abbrev pub wholeCounts : List ℕ → List ℕ → List ℕ → Counts
+wholeCounts xs ys zs = record { meta = length xs / 2; raw = length ys / 2; unclassified = length zs / 2 }
 
 abbrev pub endOrTop : Outcome PagedManagerPlan → ℕ
 endOrTop (answer p) = p .«end_of_managers»

@@ -1,15 +1,14 @@
 // The plan and the beginning of a save through the C interface, for the benchmarks alone: whole runs, offset size 8, message at 0; the end
 // of the managers and the length of the blocks, all ones where it is refused.
 ghost use mathlib.Core.Path.{_≡_};
-ghost use Prim.Native.Nat.{_/_};
-ghost use lib.ListN.{length};
 ghost use Rattle.error.specs.Lent.{with, leaving};
 ghost use Rattle.fsm_plan.specs.Plan.{plannedOutcome, planned};
 ghost use Rattle.free_lists.specs.Lists.{listsIn};
 ghost use Rattle.save.specs.Saving.{begun, beginOutcome};
-ghost use Rattle.bench_save.specs.Lengths.{wholeLists, endOrTop, lenOrTop, planLeft, saveLeft};
+ghost use Rattle.bench_save.specs.Lengths.{wholeLists, wholeCounts, endOrTop, lenOrTop, planLeft, saveLeft};
 use free_lists::FileLists;
 use free_space::list::FreeList;
+use fsm_plan::Counts;
 use fsm_plan::plan::Planned;
 use fsm_plan::plan::plan_paged_managers;
 use numbers::MAX;
@@ -60,12 +59,17 @@ pub extern "C" fn bench_plan_paged_managers(
     start: u64,
     out: &mut [u64],
 ) -> u64
-    ensures { λ r. ⌜ with r (now (out .exit)) ≡ planLeft (leaving (now (out .entry)) (planned (now (meta .entry)) (length (now (meta .entry)) / 2) (now (raw .entry)) (length (now (raw .entry)) / 2) (now (unclassified .entry)) (length (now (unclassified .entry)) / 2) page start 8 (now (out .entry)))) ⌝ }
+    ensures { λ r. ⌜ with r (now (out .exit))
+        ≡ planLeft (leaving (now (out .entry))
+        (planned (now (meta .entry)) (now (raw .entry)) (now (unclassified .entry))
+        (wholeCounts (now (meta .entry)) (now (raw .entry)) (now (unclassified .entry))) page start 8 (now (out .entry)))) ⌝ }
 {
-    let m = meta.len() / 2;
-    let r = raw.len() / 2;
-    let u = unclassified.len() / 2;
-    end_of(plan_paged_managers(meta, m, raw, r, unclassified, u, page, start, 8, out))
+    let n = Counts {
+        meta: meta.len() / 2,
+        raw: raw.len() / 2,
+        unclassified: unclassified.len() / 2,
+    };
+    end_of(plan_paged_managers(meta, raw, unclassified, n, page, start, 8, out))
 }
 
 #[no_mangle]
@@ -78,7 +82,10 @@ pub extern "C" fn bench_save_begin(
     image: &[u8],
     scratch: &mut [u8],
 ) -> u64
-    ensures { λ r. ⌜ with r (now (scratch .exit)) ≡ saveLeft (leaving (now (scratch .entry)) (begun (listsIn (now (meta .entry)) (now (raw .entry)) (now (unclassified .entry)) (wholeLists (now (meta .entry)) (now (raw .entry)) (now (unclassified .entry)))) page start 0 (now (image .entry)) (now (scratch .entry)))) ⌝ }
+    ensures { λ r. ⌜ with r (now (scratch .exit))
+        ≡ saveLeft (leaving (now (scratch .entry))
+        (begun (listsIn (now (meta .entry)) (now (raw .entry)) (now (unclassified .entry))
+        (wholeLists (now (meta .entry)) (now (raw .entry)) (now (unclassified .entry)))) page start 0 (now (image .entry)) (now (scratch .entry)))) ⌝ }
 {
     let lists = lists_of(meta, raw, unclassified);
     let to = Target {

@@ -1,3 +1,4 @@
+pub mod LengthLaws
 pub mod BytesLaws
 pub mod FshdLaws
 pub mod ThenLaws

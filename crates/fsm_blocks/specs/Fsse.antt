@@ -6,7 +6,8 @@
 --                count"), and bitsWidth
 --   fsseHead     "signature, version 0, FSHD address (O)"
 --   fsseBytes    a section list's bytes: head, groups by size then address, checksum
---   fsseSize     their number: "9+O + distinct sizes × (count width+8) + sections × (O+1)"
+--   sizeBy       how many bytes n sections of d sizes take: "9+O + distinct sizes × (count width+8) + sections × (O+1)"
+--   fsseSize     the number of these bytes
 --   parseFsse    n sections by address bits and greatest size: "Parsing FSSE tests length 9+O, signature, then address bits 0 or above 64 (10),
 --                then groups"
 use Prim.Native.Nat.{ℕ, _+_, _-_, _*_, _/_}
@@ -35,8 +36,11 @@ fsseHead O back = signature 70 83 83 69 ++ (field 1 0 ∷ field O back ∷ [])
 unfoldable pub fsseBytes : (List ℕ → ℕ) → Widths → ℕ → ℕ → ℕ → List FreeSection → List ℕ
 fsseBytes sum w O back class l = sealed sum (layout (fsseHead O back) ++ groupBytes w class (groupsOf (bySizeThenAddr l)))
 
+abbrev pub sizeBy : Widths → ℕ → ℕ → ℕ → ℕ
+sizeBy w O n d = 9 + O + d * (w .counts + w .sizes) + n * (w .addresses + 1)
+
 abbrev pub fsseSize : Widths → ℕ → List FreeSection → ℕ
-fsseSize w O l = 9 + O + distinct l * (w .counts + w .sizes) + length l * (w .addresses + 1)
+fsseSize w O l = sizeBy w O (length l) (distinct l)
 
 unfoldable pub parseFsse : ℕ → ℕ → ℕ → ℕ → List ℕ → Outcome (List FreeSection)
 parseFsse O bits greatest n bs =

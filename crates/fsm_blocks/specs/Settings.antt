@@ -6,15 +6,18 @@
 --   widthsFor     the widths that the settings give to a number of sections
 --   headerOf, headerFor   the header of sections whose list stands at an address: "three classes"; "Serialized equals total, ghost is 0"
 --   fsseFor       the section list whose header stands at an address
---   fsseUsed      its length
+--   fsseUsed      its length; usedBy the same by how many sections and sizes there are
+--   blocksSize    both blocks' lengths with the starting settings, 0 without sections
 use Prim.Native.Nat.{ℕ, _+_, _-_, _*_, _^_}
+use mathlib.Core.Bool.{cond}
 use mathlib.Core.List.{List}
+use lib.Dec.{eqb}
 use lib.ListN.{length}
 use Rattle.fsm_sections.specs.declared.FreeSection.{FreeSection}
 use Rattle.fsm_sections.specs.Sections.{space}
-use Rattle.fsm_blocks.specs.Fshd.{Header}
+use Rattle.fsm_blocks.specs.Fshd.{Header, fshdSize}
 use Rattle.fsm_blocks.specs.Groups.{Widths}
-use Rattle.fsm_blocks.specs.Fsse.{widthsOf, fsseBytes, fsseSize}
+use Rattle.fsm_blocks.specs.Fsse.{widthsOf, fsseBytes, sizeBy, fsseSize}
 
 pub record Settings : Type 0 where
   pub bits : ℕ
@@ -49,6 +52,9 @@ module _ (O : ℕ) (set : Settings) where
   abbrev pub widthsFor : ℕ → Widths
   widthsFor n = widthsOf n (set .greatest) (set .bits)
 
+  abbrev pub usedBy : ℕ → ℕ → ℕ
+  usedBy n d = sizeBy (widthsFor n) O n d
+
   abbrev pub fsseUsed : List FreeSection → ℕ
   fsseUsed l = fsseSize (widthsFor (length l)) O l
 
@@ -57,3 +63,6 @@ module _ (O : ℕ) (set : Settings) where
 
   abbrev pub fsseFor : (List ℕ → ℕ) → ℕ → ℕ → List FreeSection → List ℕ
   fsseFor sum fshd class l = fsseBytes sum (widthsFor (length l)) O fshd class l
+
+abbrev pub blocksSize : ℕ → List FreeSection → ℕ
+blocksSize O l = cond (eqb (length l) 0) 0 (fshdSize O + fsseUsed O (startingSet O) l)

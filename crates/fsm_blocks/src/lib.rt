@@ -2,5 +2,6 @@
 pub mod fsse;
 mod groups;
 pub mod header;
+pub mod length;
 pub mod manager;
 pub mod persisted;

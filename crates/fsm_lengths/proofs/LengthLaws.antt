@@ -1,7 +1,7 @@
 -- Laws of the length of a section list: it does not depend on addresses, and where the sum of the sizes fits 64 bits it does too, since
 -- there are then few sizes. Assumes nothing.
 use mathlib.Core.Path.{_≡_, refl, sym, ap, _∙_}
-use Prim.Native.Nat.{ℕ, zero, suc, _+_, _-_, _*_, _/_, _^_, _≤_, _<_}
+use Prim.Native.Nat.{ℕ, zero, suc, _+_, _*_, _^_, _≤_, _<_}
 use native.Mathlib.Nat.{mul-le-mul}
 use native.Mathlib.Omega.{arith}
 use native.Mathlib.Numerals.{add-one}
@@ -12,15 +12,17 @@ use lib.ListN.{length, drop, getD, drop-of-length-le}
 use lib.Seq.{drop-cons}
 use borrow.Author.Tests.{eqb-true, eqb-false, ltb-true, ltb-false, leb-true, eq-eqb, ne-eqb, lt-ltb, le-ltb}
 use Rattle.error.specs.declared.Refusal.the-variants.{Width, Overflow}
-use Rattle.error.specs.Outcome.{answer, refused}
+use Rattle.error.specs.Outcome.{refused}
 use Rattle.error.proofs.TestLaws.{and-true, true-not-false}
 use Rattle.error.proofs.OutcomeLaws.{first-none, first-holds, first-passes}
 use Rattle.fields.specs.Ranges.{top}
-use Rattle.fields.specs.Width.{validWidth, leastFrom, encSize}
-use Rattle.fields.proofs.WidthLaws.{encSize-least}
+use Rattle.fields.specs.Width.{validWidth, encSize}
 use Rattle.fsm_sections.specs.declared.FreeSection.{FreeSection}
 use Rattle.fsm_sections.specs.Sections.{section, space, ofSize, distinct}
-use Rattle.fsm_blocks.specs.Settings.{Settings, startingSet, fsseUsed}
+use Rattle.fsm_sections.specs.Passes.{storable}
+use Rattle.fsm_sections.proofs.StoredLaws.{great-enough}
+use Rattle.fsm_blocks.specs.Settings.{Settings, startingSet, usedBy, fsseUsed}
+use Rattle.fsm_blocks.proofs.LengthLaws.{width-small, used-by}
 use Rattle.fsm_lengths.specs.Lengths.{unplaced, fsseLen}
 
 -- ---- few sizes: those below a bound are no more than the bound, each other one adds the bound to the sum
@@ -179,29 +181,25 @@ pub length-unplaced : (zs : List ℕ) → length (unplaced zs) ≡ length zs
 length-unplaced [] = refl
 length-unplaced (z ∷ zs) = ap suc (length-unplaced zs)
 
-module _ (o : ℕ) (zs : List ℕ) (d cw : ℕ) (de : d ≡ distinct (unplaced zs)) (ce : cw ≡ encSize (length zs)) where
-  pub formula : 1 ≤ o → 9 + o + d * (cw + 8) + length zs * (o + 1) ≡ fsseUsed o (startingSet o) (unplaced zs)
-  unfolding encSize leastFrom
-  formula h =
-      let e : (8 * o - 1 + 7) / 8 ≡ o = omega arith in
-      sym (rw (length-unplaced zs, e, ← de, ← ce))
+-- where the sum of the sizes fits, so does the length
+module _ (o : ℕ) (zs : List ℕ) (high : o ≤ 8) (sum : space (unplaced zs) ≤ top) (few : length zs < 2 ^ 60) where
+  abbrev d : ℕ
+  d = distinct (unplaced zs)
 
-  -- the two products
-  module _ (high : o ≤ 8) (sum : space (unplaced zs) ≤ top) (few : length zs < 2 ^ 64) where
-    pub width-fits : cw ≤ 8
-    width-fits = omega (arith, encSize-least (length zs) few .least 8 (omega arith) (omega arith))
+  groups-fit : d * (encSize (length zs) + 8) ≤ 2 ^ 38
+  groups-fit =
+      let f : d ≤ 2 ^ 34 = omega (arith, few-sizes (unplaced zs) (omega arith)) in
+      let w : encSize (length zs) + 8 ≤ 16 = omega (arith, width-small (length zs) (omega arith)) in
+      omega (arith, mul-le-mul f w)
 
-    pub groups-fit : d * (cw + 8) ≤ 2 ^ 38
-    groups-fit =
-        let f : d ≤ 2 ^ 34 = omega (arith, few-sizes (unplaced zs) (omega arith)) in
-        let w : cw + 8 ≤ 16 = omega (arith, width-fits) in
-        omega (arith, mul-le-mul f w)
+  entries-fit : length zs * (o + 1) ≤ 9 * length zs
+  entries-fit =
+      let n : length zs ≤ length zs = omega arith in
+      let k : o + 1 ≤ 9 = omega arith in
+      omega (arith, mul-le-mul n k)
 
-    pub entries-fit : length zs * (o + 1) ≤ 9 * length zs
-    entries-fit =
-        let n : length zs ≤ length zs = omega arith in
-        let k : o + 1 ≤ 9 = omega arith in
-        omega (arith, mul-le-mul n k)
+  pub used-fits : usedBy o (startingSet o) (length zs) d ≤ top
+  used-fits = omega (arith, used-by o (length zs) d, groups-fit, entries-fit)
 
 -- what a parse reads back has the length that its sizes give: only sizes count
 pub by-sizes : (o : ℕ) (set : Settings) (l : List FreeSection) → fsseUsed o set (unplaced (map (λ s. s .size) l)) ≡ fsseUsed o set l
@@ -236,12 +234,11 @@ module _ (O : ℕ) (zs : List ℕ) where
     unfolding fsseLen
     len-over h = sym (first-passes _ Width _ _ v ∙ first-holds _ Overflow _ _ (sym h))
 
-    pub may-measure : false ≡ ltb top (space (unplaced zs)) → (1 ≤ O) × (O ≤ 8) × (space (unplaced zs) ≤ top)
-    may-measure h =
-        let w = and-true (leb 1 O) (leb O 8) (not-false (validWidth O) v) in
-        (leb-true 1 O (w .0), leb-true O 8 (w .1), ltb-false top (space (unplaced zs)) (sym h))
-
-    pub len-is : false ≡ ltb top (space (unplaced zs)) → (n : ℕ) → n ≡ fsseUsed O (startingSet O) (unplaced zs) → answer n ≡ fsseLen O zs
+    pub len-is : false ≡ ltb top (space (unplaced zs)) → length zs < 2 ^ 60 → (sizes : ℕ) → sizes ≡ distinct (unplaced zs)
+        → storable (usedBy O (startingSet O) (length zs) sizes) ≡ fsseLen O zs
     unfolding fsseLen
-    len-is h n e =
-        sym (first-passes _ Width _ _ v ∙ first-passes _ Overflow [] _ (sym h) ∙ first-none _ ∙ ap (λ (m : ℕ). answer m) (sym e))
+    len-is h few sizes e =
+        let w = and-true (leb 1 O) (leb O 8) (not-false (validWidth O) v) in
+        let k : usedBy O (startingSet O) (length zs) (distinct (unplaced zs)) ≡ fsseUsed O (startingSet O) (unplaced zs) = rw (length-unplaced zs) in
+        let g = used-fits O zs (leb-true O 8 (w .1)) (ltb-false top (space (unplaced zs)) (sym h)) few in
+        sym (first-passes _ Width _ _ v ∙ first-passes _ Overflow [] _ (sym h) ∙ first-none _ ∙ great-enough _ _ (sym (ap (usedBy O (startingSet O) (length zs)) e ∙ k)) (omega (arith, g, k)))

@@ -7,12 +7,11 @@ ghost use lib.ListN.{length, drop};
 ghost use Rattle.error.specs.Answers.{numberOutcome};
 ghost use Rattle.fields.specs.Ranges.{top};
 ghost use Rattle.fsm_sections.specs.Sections.{space, ofSize, distinct};
-ghost use Rattle.fsm_blocks.specs.Settings.{startingSet, fsseUsed};
 ghost use Rattle.fsm_lengths.specs.Lengths.{unplaced, fsseLen};
 use error::Number;
 use error::Refusal;
-use fields::width::enc_size;
 use fields::width::is_width;
+use fsm_blocks::length::fsse_used;
 use numbers::MAX;
 
 // Whether the sizes add up above 2^64 - 1.
@@ -66,17 +65,6 @@ fn size_count(sizes: &[u64]) -> u64
     n
 }
 
-// Document 01's formula: 9 + O + distinct sizes * (count width + 8) + sections * (O + 1).
-fn length_of(sizes: &[u64], o: u64) -> u64
-    requires { ⌜ (1 ≤ o) × (o ≤ 8) × (space (unplaced (now sizes)) ≤ top) ⌝ }
-    ensures { λ r. ⌜ r ≡ fsseUsed o (startingSet o) (unplaced (now (sizes .entry))) ⌝ }
-{
-    let n = sizes.len() as u64;
-    let d = size_count(sizes);
-    let cw = enc_size(n) as u64;
-    9 + o + d * (cw + 8) + n * (o + 1)
-}
-
 // The length of the section list of sections of these sizes, which does not depend on where they stand.
 pub fn fsse_len(sizes: &[u64], offset_size: u8) -> Number
     ensures { λ r. ⌜ numberOutcome r ≡ fsseLen «offset_size» (now (sizes .entry)) ⌝ }
@@ -87,5 +75,5 @@ pub fn fsse_len(sizes: &[u64], offset_size: u8) -> Number
     if sum_overflows(sizes) {
         return Number::Refused(Refusal::Overflow);
     }
-    Number::Is(length_of(sizes, offset_size as u64))
+    fsse_used(sizes.len() as u64, size_count(sizes), offset_size)
 }

@@ -10,11 +10,11 @@ use lib.Dec.{ltb, eqb}
 use borrow.Author.Tests.{ltb-true, ltb-false, eqb-true, lt-ltb, le-ltb, eq-eqb, ne-eqb}
 use Rattle.error.proofs.TestLaws.{le-or-lt, or-false}
 use Rattle.fsm_sections.specs.declared.FreeSection.{FreeSection}
-use Rattle.fsm_sections.specs.declared.Taken.{Taken}
+use Rattle.fsm_sections.specs.declared.Chain.{Chain}
 use Rattle.fsm_sections.specs.Sections.{bySizeThenAddr}
-use Rattle.fsm_sections.specs.Chains.{chain}
+use Rattle.fsm_sections.specs.Chains.{sectionsIn, chain}
 use Rattle.fsm_sections.proofs.PassLaws.{by-order}
-use Rattle.fsm_plan.specs.Order.{atAddr, repeats, Meet, chainOf, Alike}
+use Rattle.fsm_plan.specs.Order.{atAddr, repeats, Meet, Alike}
 
 -- ---- how many sections have an address
 
@@ -147,41 +147,41 @@ module _ (first step count addr : ℕ) where
 
 -- ---- whether two chains share an address
 
-module _ (t u : Taken) where
-  pub apart-left : t .count ≡ 0 → Meet false (chainOf t) (chainOf u)
+module _ (t u : Chain) where
+  pub apart-left : t .count ≡ 0 → Meet false (sectionsIn t) (sectionsIn u)
   apart-left e = λ a h. absurd (omega (arith, at-none a (t .addr) (t .size) (t .count) (λ i l q. absurd (omega arith))))
 
-  pub apart-right : u .count ≡ 0 → Meet false (chainOf t) (chainOf u)
+  pub apart-right : u .count ≡ 0 → Meet false (sectionsIn t) (sectionsIn u)
   apart-right e = λ a h. at-none a (u .addr) (u .size) (u .count) (λ i l q. absurd (omega arith))
 
-  own : (v : Taken) → (v .count ≡ 0 → ⊥) → 0 < atAddr (v .addr) (chainOf v)
-  own v n = let e : v .addr + 0 * v .size ≡ v .addr = omega arith in subst (λ (x : ℕ). 0 < atAddr x (chainOf v)) e (at-some (v .addr) (v .size) (v .count) 0 (omega arith))
+  own : (v : Chain) → (v .count ≡ 0 → ⊥) → 0 < atAddr (v .addr) (sectionsIn v)
+  own v n = let e : v .addr + 0 * v .size ≡ v .addr = omega arith in subst (λ (x : ℕ). 0 < atAddr x (sectionsIn v)) e (at-some (v .addr) (v .size) (v .count) 0 (omega arith))
 
-  module _ (nt : t .count ≡ 0 → ⊥) (nu : u .count ≡ 0 → ⊥) (r : Bool) (re : r ≡ ltb 0 (atAddr (u .addr) (chainOf t))) where
-    pub meet-first : r ≡ true → Meet true (chainOf t) (chainOf u)
+  module _ (nt : t .count ≡ 0 → ⊥) (nu : u .count ≡ 0 → ⊥) (r : Bool) (re : r ≡ ltb 0 (atAddr (u .addr) (sectionsIn t))) where
+    pub meet-first : r ≡ true → Meet true (sectionsIn t) (sectionsIn u)
     meet-first h = record { addr = u .addr; first = ltb-true 0 _ (sym re ∙ h); second = own u nu }
 
-    pub meet-second : r ≡ false → Alike t u → (q : Bool) → q ≡ ltb 0 (atAddr (t .addr) (chainOf u)) → Meet q (chainOf t) (chainOf u)
+    pub meet-second : r ≡ false → Alike t u → (q : Bool) → q ≡ ltb 0 (atAddr (t .addr) (sectionsIn u)) → Meet q (sectionsIn t) (sectionsIn u)
     meet-second h k true e = record { addr = t .addr; first = own t nt; second = ltb-true 0 _ (sym e) }
     meet-second h k false e = λ a l.
-        ⊎-elim (λ (x : atAddr a (chainOf u) ≤ 0). omega arith)
-        (λ (x : 0 < atAddr a (chainOf u)). absurd (both a (at-index a (t .addr) (t .size) (t .count) l) (at-index a (u .addr) (u .size) (u .count) x) k))
-        (le-or-lt (atAddr a (chainOf u)) 0)
+        ⊎-elim (λ (x : atAddr a (sectionsIn u) ≤ 0). omega arith)
+        (λ (x : 0 < atAddr a (sectionsIn u)). absurd (both a (at-index a (t .addr) (t .size) (t .count) l) (at-index a (u .addr) (u .size) (u .count) x) k))
+        (le-or-lt (atAddr a (sectionsIn u)) 0)
       where
-        not-t : atAddr (u .addr) (chainOf t) ≤ 0
+        not-t : atAddr (u .addr) (sectionsIn t) ≤ 0
         not-t = ltb-false 0 _ (sym re ∙ h)
 
-        not-u : atAddr (t .addr) (chainOf u) ≤ 0
+        not-u : atAddr (t .addr) (sectionsIn u) ≤ 0
         not-u = ltb-false 0 _ (sym e)
 
         in-t : (i : ℕ) → i < t .count → u .addr ≡ t .addr + i * t .size → ⊥
         in-t i b q =
-            let z : atAddr (u .addr) (chainOf t) ≡ atAddr (t .addr + i * t .size) (chainOf t) = ap (λ (x : ℕ). atAddr x (chainOf t)) q in
+            let z : atAddr (u .addr) (sectionsIn t) ≡ atAddr (t .addr + i * t .size) (sectionsIn t) = ap (λ (x : ℕ). atAddr x (sectionsIn t)) q in
             omega (arith, not-t, at-some (t .addr) (t .size) (t .count) i b)
 
         in-u : (i : ℕ) → i < u .count → t .addr ≡ u .addr + i * u .size → ⊥
         in-u i b q =
-            let z : atAddr (t .addr) (chainOf u) ≡ atAddr (u .addr + i * u .size) (chainOf u) = ap (λ (x : ℕ). atAddr x (chainOf u)) q in
+            let z : atAddr (t .addr) (sectionsIn u) ≡ atAddr (u .addr + i * u .size) (sectionsIn u) = ap (λ (x : ℕ). atAddr x (sectionsIn u)) q in
             omega (arith, not-u, at-some (u .addr) (u .size) (u .count) i b)
 
         split : (i j z : ℕ) → j ≤ i → i * z ≡ (i - j) * z + j * z

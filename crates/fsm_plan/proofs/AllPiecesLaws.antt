@@ -1,54 +1,21 @@
--- All pieces of sections: how many there are, how many are whole pages, and whether an address of one does not fit the offset size. Assumes nothing.
+-- Whether an address of one of all pieces of sections does not fit the offset size. Assumes nothing.
 use mathlib.Core.Path.{_≡_, refl, sym, ap, ap₂, _∙_}
 use mathlib.Core.Logic.{_⊎_, inl, inr, ⊎-elim}
 use Prim.Native.Nat.{ℕ, zero, suc, _+_, _-_, _*_, _/_, _^_, _≤_, _<_}
 use native.Mathlib.Nat.{le-div-iff-mul-le, div-lt-iff-lt-mul, div-mul-le-self, mul-le-mul-right}
 use native.Mathlib.Omega.{arith}
-use mathlib.Core.Bool.{Bool, true, false, cond, _||_, not}
+use mathlib.Core.Bool.{Bool, true, false, cond, _||_}
 use mathlib.Core.List.{List, [], _∷_, _++_}
 use lib.Dec.{ltb, leb}
-use lib.ListN.{length, length-append, drop}
-use borrow.Author.Tests.{leb-true, le-leb, ne-eqb}
-use Rattle.error.specs.declared.Number.{Number}
-use Rattle.error.specs.declared.Number.the-variants as number
-use Rattle.error.specs.declared.Refusal.{Refusal}
-use Rattle.error.specs.Outcome.{answer, refused, sat}
-use Rattle.error.specs.Answers.{numberOutcome}
-use Rattle.error.proofs.OutcomeLaws.{first-pass}
+use lib.ListN.{length, drop}
+use borrow.Author.Tests.{leb-true, le-leb}
 use Rattle.error.proofs.TestLaws.{or-decides, or-leaves}
-use Rattle.pairs.specs.Pairs.{isRun}
 use Rattle.pairs.proofs.PairLaws.{decode-drop, decode-end}
 use Rattle.fsm_sections.specs.declared.FreeSection.{FreeSection}
-use Rattle.fsm_sections.specs.declared.Chain.{Chain}
-use Rattle.fsm_sections.specs.declared.Part.the-variants.{Pages}
 use Rattle.fsm_sections.specs.Sections.{section, decode, sectionAt}
 use Rattle.fsm_sections.specs.Pages.{pageEnd, cutAt, piecesFrom, pieces, split, belowPage, fromPage, slot0, slot2, slot6}
-use Rattle.fsm_sections.specs.Sources.{partOf}
 use Rattle.fsm_sections.proofs.PagesLaws.{page-end-above, pieces-none, pieces-more, below-or-not}
-use Rattle.fsm_sections.proofs.SizesLaws.{length-chain}
-use Rattle.fsm_sections.proofs.SlotLaws.{from-append, from-pieces}
-use Rattle.fsm_writer.specs.Serializing.{wide, anyOf, anyWide}
-use Rattle.fsm_sections.specs.Runs.{endsAbove}
-use Rattle.fsm_pages.specs.Split.{splitCount}
-use Rattle.fsm_pages.proofs.RunLaws.{fits-at}
-
--- ---- the number of pieces
-
-module _ (page n : ℕ) (xs : List ℕ) (p : 0 < page) (run : isRun xs n ≡ true) (fits : endsAbove (decode n xs) ≡ false) where
-  counted : splitCount xs n page ≡ answer (sat (length (split page (decode n xs))))
-  unfolding splitCount
-  counted = first-pass _ (answer (sat (length (split page (decode n xs))))) (ne-eqb page 0 (λ e. omega arith), (ap not run, (fits, tt)))
-
-  module _ (v : Number) (e : numberOutcome v ≡ splitCount xs n page) where
-    pub piece-number : (m : ℕ) → v ≡ number.Is m → m ≡ sat (length (split page (decode n xs)))
-    piece-number m h = let z : answer m ≡ answer (sat (length (split page (decode n xs)))) = sym (ap numberOutcome h) ∙ e ∙ counted in cc
-
-    -- it is not refused
-    pub piece-refused : (r : Refusal) → v ≡ number.Refused r → 0 ≡ sat (length (split page (decode n xs)))
-    piece-refused r h =
-        let w : refused r ≡ answer (sat (length (split page (decode n xs)))) = sym (ap numberOutcome h) ∙ e ∙ counted in
-        let z : _≡_ {A = ℕ} 0 1 = cc in
-        absurd (omega arith)
+use Rattle.fsm_sections.specs.Runs.{wide, anyOf, anyWide}
 
 -- ---- a test of some section
 
@@ -197,51 +164,3 @@ module _ (page n : ℕ) (xs : List ℕ) (room : 2 * n ≤ length xs) where
     pub any-wide-end : n ≤ i → false ≡ anyWide o (split page (decode n xs))
     unfolding anyOf
     any-wide-end h = sym (ap (anyWide o) (after-none i h)) ∙ e
-
--- ---- how many whole pages
-
-pub length-parts : (page : ℕ) (l : List FreeSection) → length (belowPage page l) + length (fromPage page l) ≡ length l
-unfolding belowPage fromPage
-length-parts page [] = refl
-length-parts page (s ∷ l) = pick (ltb (s .size) page) (length-parts page l)
-  where
-    pick : (t : Bool) → length (belowPage page l) + length (fromPage page l) ≡ length l
-        → length (cond t (s ∷ belowPage page l) (belowPage page l)) + length (cond t (fromPage page l) (s ∷ fromPage page l)) ≡ suc (length l)
-    pick true e = omega arith
-    pick false e = omega arith
-
-module _ (page n : ℕ) (xs : List ℕ) where
-  abbrev pages : ℕ → ℕ
-  pages i = length (fromPage page (split page (drop i (decode n xs))))
-
-  pub record Paging (m i : ℕ) : Type 0 where
-    pub within : i ≤ n
-    pub fits : endsAbove (drop i (decode n xs)) ≡ false
-    pub few : m ≤ 2 ^ 64 - 1
-    pub number : sat (m + pages i) ≡ sat (pages 0)
-
-  module _ (p : 0 < page) (room : 2 * n ≤ length xs) where
-    pages-more : (i : ℕ) → i < n → pages i ≡ partOf Pages page (sectionAt xs i) .count + pages (i + 1)
-    pages-more i h =
-        let r = partOf Pages page (sectionAt xs i) in
-        ap (λ (m : List FreeSection). length (fromPage page m)) (after-more page n xs room i h)
-        ∙ ap length (from-append page (pieces page (sectionAt xs i)) (after page n xs room (i + 1)))
-        ∙ length-append (fromPage page (pieces page (sectionAt xs i))) (fromPage page (after page n xs room (i + 1)))
-        ∙ ap (λ (k : ℕ). k + pages (i + 1)) (ap length (from-pieces page (sectionAt xs i) p) ∙ length-chain (r .addr) (r .size) (r .count))
-
-    pages-none : (i : ℕ) → n ≤ i → pages i ≡ 0
-    unfolding fromPage
-    pages-none i h = ap (λ (m : List FreeSection). length (fromPage page m)) (after-none page n xs room i h)
-
-    pub paging-start : endsAbove (decode n xs) ≡ false → Paging 0 0
-    paging-start h = record { within = omega arith; fits = h; few = omega arith; number = let e : 0 + pages 0 ≡ pages 0 = omega arith in ap sat e }
-
-    pub paging-step : (m i : ℕ) → Paging m i → i < n → (c : Chain) (r : ℕ) → c ≡ partOf Pages page (sectionAt xs i) → r ≡ sat (m + c .count) → Paging r (i + 1)
-    unfolding sat
-    paging-step m i q h c r e f =
-        let g : c .count ≡ partOf Pages page (sectionAt xs i) .count = ap (λ (x : Chain). x .count) e in
-        record { within = omega arith; fits = fits-at n xs room i h (q .fits) .1; few = omega arith; number = omega (arith, q .number, pages-more i h) }
-
-    pub paging-end : (m i : ℕ) → Paging m i → n ≤ i → m ≡ sat (pages 0)
-    unfolding sat
-    paging-end m i q h = omega (arith, q .number, q .few, pages-none i h)

@@ -1,10 +1,11 @@
 pub mod AddrLaws
-pub mod NextLaws
 pub mod SharingLaws
 pub mod OrderLaws
 pub mod SmallLaws
 pub mod LargeLaws
 pub mod AllPiecesLaws
-pub mod LengthLaws
+pub mod RunsLaws
+pub mod MeasureLaws
+pub mod BlocksLaws
 pub mod PlanLaws
 pub mod PlannedLaws

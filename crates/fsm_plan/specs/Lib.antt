@@ -1,3 +1,4 @@
 pub mod Managers
 pub mod Order
+pub mod Blocks
 pub mod Plan

@@ -1,50 +1,17 @@
-// What a plan asks of all pieces without going through them: how many are whole pages, and whether an address does not fit the offset size.
+// Whether an address of the pieces of regions does not fit the offset size. Pieces are not gone through one by one.
 ghost use mathlib.Core.Path.{_≡_};
 ghost use Prim.Native.Nat.{_+_, _*_, _^_, _≤_, _<_};
-ghost use mathlib.Core.Bool.{true, false};
+ghost use mathlib.Core.Bool.{false};
 ghost use lib.ListN.{length};
-ghost use Rattle.error.specs.Outcome.{sat};
 ghost use Rattle.fsm_sections.specs.Sections.{section, decode};
-ghost use Rattle.fsm_sections.specs.Pages.{pieces, split, fromPage};
-ghost use Rattle.fsm_writer.specs.Serializing.{wide, anyWide};
-ghost use Rattle.pairs.specs.Pairs.{isRun};
-ghost use Rattle.fsm_sections.specs.Runs.{endsAbove};
-use crate::chains::pages_of;
-use error::Number;
+ghost use Rattle.fsm_sections.specs.Pages.{pieces, split};
+ghost use Rattle.fsm_sections.specs.Sources.{Given};
+ghost use Rattle.fsm_sections.specs.Runs.{endsAbove, wide, anyWide};
+ghost use Rattle.fsm_plan.specs.Order.{sourceOf};
+ghost use Rattle.fsm_plan.specs.Blocks.{wideSections};
+use crate::chains::Paged;
 use fields::width::enc_size;
-use fsm_pages::pages::split_count;
 use numbers::quotient;
-use numbers::saturating_add;
-
-// How many pieces all sections have, at most 2^64 - 1.
-pub(crate) fn piece_count(sections: &[u64], count: usize, page: u64) -> u64
-    requires page { ⌜ 0 < page ⌝ }
-    requires run { ⌜ isRun (now sections) count ≡ true ⌝ }
-    requires fits { ⌜ endsAbove (decode count (now sections)) ≡ false ⌝ }
-    ensures { λ r. ⌜ r ≡ sat (length (split page (decode count (now (sections .entry))))) ⌝ }
-{
-    match split_count(sections, count, page) {
-        Number::Is(n) => n,
-        Number::Refused(_) => 0,
-    }
-}
-
-// How many whole pages all sections have, at most 2^64 - 1.
-pub(crate) fn page_count(sections: &[u64], count: usize, page: u64) -> u64
-    requires page { ⌜ 0 < page ⌝ }
-    requires room { ⌜ 2 * count ≤ length (now sections) ⌝ }
-    requires fits { ⌜ endsAbove (decode count (now sections)) ≡ false ⌝ }
-    ensures { λ r. ⌜ r ≡ sat (length (fromPage page (split page (decode count (now (sections .entry)))))) ⌝ }
-{
-    let mut n: u64 = 0;
-    let mut i = 0;
-    while i < count {
-        let pages = pages_of(page, sections[2 * i], sections[2 * i + 1]);
-        n = saturating_add(n, pages.count);
-        i += 1;
-    }
-    n
-}
 
 // Whether an address does not fit o bytes.
 pub(crate) fn is_wide(addr: u64, o: usize) -> bool
@@ -70,7 +37,7 @@ fn wide_piece(page: u64, addr: u64, size: u64, o: usize) -> bool
 }
 
 // Whether the address of a piece of one of the sections does not.
-pub(crate) fn wide_pieces(sections: &[u64], count: usize, page: u64, o: usize) -> bool
+fn wide_pieces(sections: &[u64], count: usize, page: u64, o: usize) -> bool
     requires page { ⌜ (0 < page) × (1 ≤ o) ⌝ }
     requires room { ⌜ 2 * count ≤ length (now sections) ⌝ }
     requires fits { ⌜ endsAbove (decode count (now sections)) ≡ false ⌝ }
@@ -87,7 +54,7 @@ pub(crate) fn wide_pieces(sections: &[u64], count: usize, page: u64, o: usize) -
 }
 
 // Whether the address of one of the sections does not.
-pub(crate) fn wide_sections(sections: &[u64], count: usize, o: usize) -> bool
+fn wide_sections(sections: &[u64], count: usize, o: usize) -> bool
     requires { ⌜ (1 ≤ o) × (2 * count ≤ length (now sections)) ⌝ }
     ensures { λ r. ⌜ r ≡ anyWide o (decode count (now (sections .entry))) ⌝ }
 {
@@ -99,4 +66,26 @@ pub(crate) fn wide_sections(sections: &[u64], count: usize, o: usize) -> bool
         i += 1;
     }
     false
+}
+
+// Whether the address of a section of a slot does not fit o bytes.
+pub(crate) fn wide_slots(
+    meta: &[u64],
+    raw: &[u64],
+    unclassified: &[u64],
+    s: Paged,
+    o: usize,
+) -> bool
+    requires given { ⌜ Given (sourceOf s) (now meta) (now raw) (now unclassified) ⌝ }
+    requires fits { ⌜ (endsAbove (decode (s .na) (now meta)) ≡ false) × (endsAbove (decode (s .nb) (now raw)) ≡ false) ⌝ }
+    requires width { ⌜ 1 ≤ o ⌝ }
+    ensures { λ r. ⌜ r ≡ wideSections s (now (meta .entry)) (now (raw .entry)) (now (unclassified .entry)) o ⌝ }
+{
+    if wide_pieces(meta, s.na, s.page, o) {
+        return true;
+    }
+    if wide_pieces(raw, s.nb, s.page, o) {
+        return true;
+    }
+    wide_sections(unclassified, s.nc, o)
 }

@@ -3,12 +3,16 @@ ghost use mathlib.Core.Path.{_≡_};
 ghost use Prim.Native.Nat.{_<_};
 ghost use mathlib.Core.Bool.{true, false};
 ghost use lib.Dec.{ltb};
-ghost use Rattle.fsm_sections.specs.Chains.{link, chain, ChainFits};
-ghost use Rattle.fsm_sections.specs.Sources.{rest, Given, Within};
-ghost use Rattle.fsm_plan.specs.Order.{atAddr, repeats, Meet, chainOf, Stepped, Alike, Raised, sourceOf, inSlot6};
-use crate::chains::Counts;
-use crate::chains::next_chain;
-use fsm_sections::Taken;
+ghost use Rattle.fsm_sections.specs.Chains.{chain, sectionsIn, sectionsOf, ChainFits};
+ghost use Rattle.fsm_sections.specs.Sources.{chainsOf, Given};
+ghost use Rattle.fsm_sections.specs.Steps.{rest};
+ghost use Rattle.fsm_plan.specs.Order.{atAddr, repeats, Meet, Paging, Alike, Raised};
+use fsm_sections::Chain;
+use fsm_sections::Source;
+use fsm_sections::next::Cursor;
+use fsm_sections::next::Step;
+use fsm_sections::next::Taken;
+use fsm_sections::next::next_chain;
 use numbers::MAX;
 
 // One above the addresses that were seen, if that is known.
@@ -41,9 +45,9 @@ fn holds(first: u64, step: u64, count: u64, addr: u64) -> bool
 }
 
 // Whether two chains share an address. If they do, one of them has the first address of the other.
-fn shares(t: Taken, u: Taken) -> bool
+fn shares(t: Chain, u: Chain) -> bool
     requires { ⌜ Alike t u ⌝ }
-    ensures { λ r. ⌜ Meet r (chainOf t) (chainOf u) ⌝ }
+    ensures { λ r. ⌜ Meet r (sectionsIn t) (sectionsIn u) ⌝ }
 {
     if t.count == 0 {
         return false;
@@ -58,52 +62,43 @@ fn shares(t: Taken, u: Taken) -> bool
 }
 
 // Whether a chain shares an address with one of those that are left after it.
-fn meets(a: &[u64], b: &[u64], c: &[u64], s: Counts, t: Taken) -> bool
-    requires given { ⌜ Given (sourceOf s) (now a) (now b) (now c) ⌝ }
-    requires within { ⌜ Within (sourceOf s) (t .i) (t .j) (t .k) ⌝ }
-    requires stepped { ⌜ Stepped (s .page) t ⌝ }
-    ensures { λ r. ⌜ Meet r (chainOf t) (rest (sourceOf s) (now (a .entry)) (now (b .entry)) (now (c .entry)) (t .i) (t .j) (t .k)) ⌝ }
+fn meets(a: &[u64], b: &[u64], c: &[u64], s: Source, t: Taken) -> bool
+    requires given { ⌜ Given s (now a) (now b) (now c) ⌝ }
+    requires pages { ⌜ Paging (s .page) (t .chain) ⌝ }
+    ensures { λ r. ⌜ Meet r (sectionsIn (t .chain)) (rest s (now (a .entry)) (now (b .entry)) (now (c .entry)) (t .at)) ⌝ }
 {
-    let total = s.na + s.nb + s.nc;
-    let mut i = t.i;
-    let mut j = t.j;
-    let mut k = t.k;
-    while i + j + k < total {
-        let u = next_chain(a, b, c, s, i, j, k);
-        if shares(t, u) {
+    let mut at = t.at;
+    loop {
+        let Step::Next(u) = next_chain(a, b, c, s, at) else {
+            return false;
+        };
+        if shares(t.chain, u.chain) {
             return true;
         }
-        i = u.i;
-        j = u.j;
-        k = u.k;
+        at = u.at;
     }
-    false
 }
 
 // Whether two sections have one address: each chain against all that are left.
-fn clashes(a: &[u64], b: &[u64], c: &[u64], s: Counts) -> bool
-    requires { ⌜ Given (sourceOf s) (now a) (now b) (now c) ⌝ }
-    ensures { λ r. ⌜ r ≡ repeats (inSlot6 s (now (a .entry)) (now (b .entry)) (now (c .entry))) ⌝ }
+fn clashes(a: &[u64], b: &[u64], c: &[u64], s: Source) -> bool
+    requires { ⌜ Given s (now a) (now b) (now c) ⌝ }
+    ensures { λ r. ⌜ r ≡ repeats (sectionsOf (chainsOf s (now (a .entry)) (now (b .entry)) (now (c .entry)))) ⌝ }
 {
-    let total = s.na + s.nb + s.nc;
-    let mut i = 0;
-    let mut j = 0;
-    let mut k = 0;
-    while i + j + k < total {
-        let t = next_chain(a, b, c, s, i, j, k);
+    let mut at = Cursor::start();
+    loop {
+        let Step::Next(t) = next_chain(a, b, c, s, at) else {
+            return false;
+        };
         if meets(a, b, c, s, t) {
             return true;
         }
-        i = t.i;
-        j = t.j;
-        k = t.k;
+        at = t.at;
     }
-    false
 }
 
 // The floor after a chain that does not begin below it.
-fn raised(floor: u64, t: Taken) -> Floor
-    requires { ⌜ ChainFits (link (t .addr) (t .size) (t .count)) ⌝ }
+fn raised(floor: u64, t: Chain) -> Floor
+    requires { ⌜ ChainFits t ⌝ }
     ensures { λ r. ⌜ Raised floor t r ⌝ }
 {
     if t.count == 0 {
@@ -120,32 +115,28 @@ fn raised(floor: u64, t: Taken) -> Floor
 }
 
 // Whether the chains, as they come, begin each above the one before. Then no two sections have one address.
-fn ascends(a: &[u64], b: &[u64], c: &[u64], s: Counts) -> bool
-    requires { ⌜ Given (sourceOf s) (now a) (now b) (now c) ⌝ }
-    ensures { λ r. ⌜ (r ≡ true → repeats (inSlot6 s (now (a .entry)) (now (b .entry)) (now (c .entry))) ≡ false) ⌝ }
+fn ascends(a: &[u64], b: &[u64], c: &[u64], s: Source) -> bool
+    requires { ⌜ Given s (now a) (now b) (now c) ⌝ }
+    ensures { λ r. ⌜ (r ≡ true → repeats (sectionsOf (chainsOf s (now (a .entry)) (now (b .entry)) (now (c .entry)))) ≡ false) ⌝ }
 {
-    let total = s.na + s.nb + s.nc;
     let mut floor: u64 = 0;
-    let mut i = 0;
-    let mut j = 0;
-    let mut k = 0;
-    while i + j + k < total {
-        let t = next_chain(a, b, c, s, i, j, k);
-        let Floor::To(f) = raised(floor, t) else {
+    let mut at = Cursor::start();
+    loop {
+        let Step::Next(t) = next_chain(a, b, c, s, at) else {
+            return true;
+        };
+        let Floor::To(f) = raised(floor, t.chain) else {
             return false;
         };
         floor = f;
-        i = t.i;
-        j = t.j;
-        k = t.k;
+        at = t.at;
     }
-    true
 }
 
-// Whether two sections of slot 6 have one address.
-pub(crate) fn is_shared(a: &[u64], b: &[u64], c: &[u64], s: Counts) -> bool
-    requires { ⌜ Given (sourceOf s) (now a) (now b) (now c) ⌝ }
-    ensures { λ r. ⌜ r ≡ repeats (inSlot6 s (now (a .entry)) (now (b .entry)) (now (c .entry))) ⌝ }
+// Whether two sections of a source have one address.
+pub(crate) fn is_shared(a: &[u64], b: &[u64], c: &[u64], s: Source) -> bool
+    requires { ⌜ Given s (now a) (now b) (now c) ⌝ }
+    ensures { λ r. ⌜ r ≡ repeats (sectionsOf (chainsOf s (now (a .entry)) (now (b .entry)) (now (c .entry)))) ⌝ }
 {
     if ascends(a, b, c, s) {
         return false;

@@ -1,7 +1,7 @@
 -- One chain in closed form: how often a section stands in it, and its least address from a number on. Assumes nothing.
 use mathlib.Core.Path.{_≡_, refl, sym, ap, ap₂, _∙_}
 use mathlib.Core.Logic.{_≢_}
-use Prim.Native.Nat.{ℕ, zero, suc, _+_, _-_, _*_, _/_, _%_, min, _≤_, _<_}
+use Prim.Native.Nat.{ℕ, zero, suc, _+_, _-_, _*_, _/_, _%_, _^_, min, _≤_, _<_}
 use native.Mathlib.Nat.{div-add-mod', mul-mod-left, mul-div-cancel, mul-le-mul-right, div-mul-le-self, lt-div-mul-add}
 use native.Mathlib.Omega.{arith}
 use mathlib.Core.Bool.{Bool, true, false, cond, _&&_}
@@ -10,7 +10,7 @@ use borrow.Author.Tests.{lt-leb, le-leb, eq-eqb, ne-eqb}
 use Rattle.fields.specs.Ranges.{top}
 use Rattle.fsm_sections.specs.declared.FreeSection.{FreeSection}
 use Rattle.fsm_sections.specs.Sections.{section, same, times}
-use Rattle.fsm_sections.specs.Chains.{chain}
+use Rattle.fsm_sections.specs.Chains.{link, chain, ChainFits}
 use Rattle.fsm_sections.specs.Passes.{leastAddr}
 use Rattle.fsm_sections.proofs.SortLaws.{same-is}
 
@@ -150,3 +150,15 @@ module _ (z f a y c : ℕ) where
           let p : 0 < y = omega arith in
           let q : f ≤ a + ((f - a - 1) / y + 1) * y = omega (arith, lt-div-mul-add {a = f - a - 1} {b = y} p) in
           rw e (sym (addr-at y f a c ((f - a - 1) / y + 1) (omega arith) q (λ j l. passed j (omega arith)) t))
+
+-- ---- the addresses of a chain fit 64 bits
+
+pub start-fits : (a z c i : ℕ) → ChainFits (link a z c) → a < 2 ^ 64 → i < c → a + i * z < 2 ^ 64
+start-fits a z zero i f h k = absurd (omega arith)
+start-fits a z (suc zero) i f h k = let e : i ≡ 0 = omega arith in rw e (omega arith)
+start-fits a z (suc (suc c)) i f h k =
+    let p : i ≤ suc (suc c) = omega arith in
+    omega (arith, f (omega arith), mul-le-mul-right z p)
+
+pub last-fits : (a z c : ℕ) → ChainFits (link a z c) → a < 2 ^ 64 → (c ≡ 0 → ⊥) → a + (c - 1) * z < 2 ^ 64
+last-fits a z c f h n = start-fits a z c (c - 1) f h (omega arith)

@@ -11,3 +11,6 @@ pub mod AddrLaws
 pub mod ChainLaws
 pub mod NextLaws
 pub mod LowestLaws
+pub mod StoredLaws
+pub mod AnyLaws
+pub mod StepLaws

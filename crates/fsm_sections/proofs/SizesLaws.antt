@@ -20,6 +20,15 @@ unfolding ofSize
 ofSize-append z [] m = omega arith
 ofSize-append z (y ∷ l) m = omega (arith, ofSize-append z l m)
 
+pub distinct-few : (l : List FreeSection) → distinct l ≤ length l
+unfolding distinct
+distinct-few [] = omega arith
+distinct-few (x ∷ l) = pick (eqb (ofSize (x .size) l) 0) (distinct-few l)
+  where
+    pick : (t : Bool) → distinct l ≤ length l → cond t 1 0 + distinct l ≤ suc (length l)
+    pick true h = omega arith
+    pick false h = omega arith
+
 pub length-chain : (a z c : ℕ) → length (chain a z c) ≡ c
 unfolding chain
 length-chain a z zero = refl

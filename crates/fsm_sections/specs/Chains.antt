@@ -2,6 +2,7 @@
 --   link         the chain of an address, a size and a count
 --   chain        its sections: c of size z from address a on, each where the one before ends
 --   starts       their addresses
+--   sectionsIn   the sections of a chain
 --   sectionsOf   the sections of chains, in order
 --   ChainFits    a chain of more than one section ends within 64 bits
 use Prim.Native.Nat.{ℕ, zero, suc, _+_, _*_, _^_, _<_}
@@ -21,9 +22,12 @@ unfoldable pub starts : ℕ → ℕ → ℕ → List ℕ
 starts a z zero = []
 starts a z (suc c) = a ∷ starts (a + z) z c
 
+abbrev pub sectionsIn : Chain → List FreeSection
+sectionsIn r = chain (r .addr) (r .size) (r .count)
+
 unfoldable pub sectionsOf : List Chain → List FreeSection
 sectionsOf [] = []
-sectionsOf (r ∷ rs) = chain (r .addr) (r .size) (r .count) ++ sectionsOf rs
+sectionsOf (r ∷ rs) = sectionsIn r ++ sectionsOf rs
 
 abbrev pub ChainFits : Chain → Type 0
 ChainFits r = 1 < r .count → r .addr + r .count * r .size < 2 ^ 64

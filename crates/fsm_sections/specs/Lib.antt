@@ -2,6 +2,7 @@ pub mod Sections
 pub mod Chains
 pub mod Pages
 pub mod Sources
+pub mod Steps
 pub mod Passes
 pub mod Runs
 pub mod Nexts

@@ -12,6 +12,7 @@
 --   partIn        the part that is meant of the regions of a run, 0, 1 or 2
 --   Taking        a chain is taken of those that are left, whichever: for contracts of private functions
 --   PartFits      what is cut ends within 64 bits
+--   PartIs        `part_chain`: the size and the number of a part's sections, and where they begin if what is cut ends within 64 bits
 --   Given         a source that can be gone through, as refusals 2, 3 and 4 leave it: the page is not 0, each count is within its run, what is
 --                 cut ends within 64 bits
 --   smallSource   the sections of slot 0 or 2, a run's "pieces below a page": the run stands at a and at b
@@ -72,6 +73,11 @@ PartFits Head r = r .addr + r .size < 2 ^ 64
 PartFits Pages r = r .addr + r .size < 2 ^ 64
 PartFits Tail r = r .addr + r .size < 2 ^ 64
 PartFits Whole r = Unit {0}
+
+pub record PartIs (q : Part) (page : ℕ) (s : FreeSection) (r : Chain) : Type 0 where
+  pub of-size : r .size ≡ partOf q page s .size
+  pub as-many : r .count ≡ partOf q page s .count
+  pub from : PartFits q s → r .addr ≡ partOf q page s .addr
 
 pub record Given (s : Source) (a b c : List ℕ) : Type 0 where
   pub some : 0 < s .page

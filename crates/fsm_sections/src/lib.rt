@@ -10,6 +10,7 @@ use numbers::min;
 use numbers::remainder;
 
 pub mod next;
+pub mod parts;
 
 // The address first, then the size: a host lends records of it.
 #[repr(C)]

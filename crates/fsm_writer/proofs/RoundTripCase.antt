@@ -21,7 +21,8 @@ use Rattle.fsm_blocks.specs.Fshd.{fshdBytes}
 use Rattle.fsm_blocks.specs.Fsse.{fsseBytes}
 use Rattle.fsm_blocks.specs.Settings.{startingSet, headerFor, fsseFor}
 use Rattle.fsm_blocks.specs.Reading.{readManager}
-use Rattle.fsm_writer.specs.Serializing.{ofRun, anyOf, writtenFshd, writtenFsse}
+use Rattle.fsm_writer.specs.Serializing.{ofRun, writtenFshd, writtenFsse}
+use Rattle.fsm_sections.specs.Runs.{anyOf}
 use Rattle.fsm_writer.specs.RoundTrip.{Standing}
 use Rattle.fsm_writer.proofs.RoundTripLaws.{round-trip}
 

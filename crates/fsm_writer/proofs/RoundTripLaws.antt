@@ -29,10 +29,12 @@ use Rattle.fsm_blocks.specs.Reading.{readManager, joined, intoRun, parsedFsse, 
 use Rattle.fsm_blocks.specs.Named.{managerCount}
 use Rattle.fsm_blocks.proofs.WrittenLaws.{length-fshd, length-fsse, fshd-read, fsse-read}
 use Rattle.fsm_blocks.proofs.ImageLaws.{manager-read, slots-none, slots-more}
-use Rattle.fsm_writer.specs.Serializing.{ofRun, wide, anyOf, anyWide, writtenFshd, writtenFsse}
+use Rattle.fsm_writer.specs.Serializing.{ofRun, writtenFshd, writtenFsse}
+use Rattle.fsm_sections.specs.Runs.{wide, anyOf, anyWide}
 use Rattle.fsm_writer.specs.Writing.{written}
 use Rattle.fsm_writer.specs.RoundTrip.{fieldsOf, Standing, ReadBack, RoundTrip}
-use Rattle.fsm_writer.proofs.RowLaws.{take-over, widths-are}
+use Rattle.fsm_blocks.proofs.LengthLaws.{widths-are}
+use Rattle.fsm_writer.proofs.RowLaws.{take-over}
 
 -- ---- what acceptance says
 
@@ -168,7 +170,7 @@ module _ (O : ℕ) (l : List FreeSection) (fshd fsse class : ℕ) (low : 1 ≤ O
   fields-fit = row-fits O fsse l high address small short
 
   fit : All (SectionFits (widthsFor O (startingSet O) (length l))) l
-  fit = rw (widths-are O (length l) low) (sections-fit (encSize (length l)) O l narrow small)
+  fit = rw (widths-are O (length l)) (sections-fit (encSize (length l)) O l narrow small)
 
   length-list : length list ≡ fsseUsed O (startingSet O) l
   length-list = length-fsse lookup3 (widthsFor O (startingSet O) (length l)) O fshd class l

@@ -1,6 +1,6 @@
 -- Rows of fields put one by one, blocks sealed, and the two blocks put together. Assumes nothing.
 use mathlib.Core.Path.{_≡_, refl, sym, ap, _∙_}
-use Prim.Native.Nat.{ℕ, zero, suc, _+_, _-_, _*_, _/_, _^_, _≤_, _<_}
+use Prim.Native.Nat.{ℕ, zero, suc, _+_, _-_, _*_, _≤_, _<_}
 use native.Mathlib.Omega.{arith}
 use native.Mathlib.Numerals.{add-one}
 use mathlib.Core.List.{List, [], _∷_, _++_, append-assoc, append-nil}
@@ -10,16 +10,16 @@ use Rattle.error.specs.Lent.{over}
 use Rattle.error.proofs.OverLaws.{length-over, over-right, over-nil}
 use Rattle.fields.specs.Le.{leBytes}
 use Rattle.fields.specs.Layout.{row, widths, layout, span}
-use Rattle.fields.specs.Width.{encSize, leastFrom}
+use Rattle.fields.specs.Width.{encSize}
 use Rattle.fields.proofs.LeLaws.{length-le}
 use Rattle.fields.proofs.LayoutLaws.{length-layout}
-use Rattle.fields.proofs.WidthLaws.{encSize-least}
 use Rattle.fsm_sections.specs.declared.FreeSection.{FreeSection}
 use Rattle.fsm_sections.specs.Sections.{bySizeThenAddr, groupsOf}
 use Rattle.fsm_blocks.specs.Fshd.{fshdRow, fshdBytes, sealed}
 use Rattle.fsm_blocks.specs.Groups.{Widths, groupBytes}
 use Rattle.fsm_blocks.specs.Fsse.{fsseHead, fsseBytes, fsseSize}
 use Rattle.fsm_blocks.specs.Settings.{startingSet, headerOf, widthsFor, fsseUsed, fsseFor}
+use Rattle.fsm_blocks.proofs.LengthLaws.{widths-are}
 use Rattle.fsm_writer.specs.Writing.{written}
 use Rattle.fsm_writer.proofs.WriterLaws.{groups-length}
 
@@ -120,13 +120,6 @@ module _ (o space n fsse used : ℕ) where
 
 -- ---- the section list
 
-pub width-small : (v : ℕ) → v < 2 ^ 64 → encSize v ≤ 8
-width-small v h = encSize-least v h .least 8 (omega arith) (omega arith)
-
-pub widths-are : (o n : ℕ) → 1 ≤ o → widthsFor o (startingSet o) n ≡ written (encSize n) o
-unfolding encSize leastFrom
-widths-are o n h = let e : (8 * o - 1 + 7) / 8 ≡ o = omega arith in ap (λ (m : ℕ). written (encSize n) m) e
-
 head-is : (o back : ℕ) → leBytes 5 1163088710 ++ leBytes o back ≡ layout (fsseHead o back)
 unfolding layout leBytes
 head-is o back = rw (append-nil (leBytes o back))
@@ -136,7 +129,7 @@ module _ (o back class : ℕ) (l : List FreeSection) (d : List ℕ) (some : 1 �
   w = written cw o
 
   widths-written : widthsFor o (startingSet o) (length l) ≡ w
-  widths-written = widths-are o (length l) some ∙ ap (λ (m : ℕ). written m o) (sym (ce ∙ ap encSize ne))
+  widths-written = widths-are o (length l) ∙ ap (λ (m : ℕ). written m o) (sym (ce ∙ ap encSize ne))
 
   abbrev groups : List ℕ
   groups = groupBytes w class (groupsOf (bySizeThenAddr l))

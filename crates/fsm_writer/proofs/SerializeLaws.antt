@@ -2,41 +2,47 @@
 use mathlib.Core.Path.{_≡_, refl, sym, ap, ap₂, _∙_}
 use mathlib.Core.Logic.{⊎-elim}
 use Prim.Native.Nat.{ℕ, _+_, _*_, _/_, _%_, _^_, _≤_, _<_}
-use native.Mathlib.Nat.{pow-le-pow-right, mul-le-mul}
+use native.Mathlib.Nat.{mul-le-mul}
 use native.Mathlib.Omega.{arith}
 use mathlib.Core.Bool.{Bool, true, false, not, _||_}
 use mathlib.Core.List.{List, [], _∷_}
 use lib.Dec.{ltb, leb, eqb}
-use lib.ListN.{length, drop, getD}
-use borrow.Author.Tests.{ltb-false, leb-true, lt-ltb, le-ltb, le-leb, lt-leb, eq-eqb, ne-eqb}
+use lib.ListN.{length, getD}
+use borrow.Author.Tests.{ltb-false, leb-true, lt-ltb, le-ltb, eq-eqb, ne-eqb}
 use Rattle.error.specs.declared.Number.{Number}
-use Rattle.error.specs.declared.Number.the-variants as number
 use Rattle.error.specs.declared.Refusal.{Refusal}
 use Rattle.error.specs.declared.Refusal.the-variants.{Width, NotAList, Overflow, WideAddress, OverCapacity}
-use Rattle.error.specs.Outcome.{Outcome, answer, nothing, refuse, refused, when, firstOf, andThen}
+use Rattle.error.specs.Refusals.{numberOf, valuesOf}
+use Rattle.error.specs.Outcome.{Outcome, answer, nothing, refuse, refused, when, firstOf, andThen, sat}
 use Rattle.error.specs.Answers.{numberOutcome}
 use Rattle.error.specs.Lent.{With, with, left, leaving, over}
-use Rattle.error.proofs.TestLaws.{le-or-lt, and-true, or-false, true-not-false}
+use Rattle.error.proofs.TestLaws.{and-true, or-false, true-not-false}
 use Rattle.error.proofs.OutcomeLaws.{first-holds, first-passes, first-none, first-answers}
 use Rattle.fields.specs.Ranges.{top}
 use Rattle.fields.specs.Width.{encSize, validWidth}
-use Rattle.fields.proofs.WidthLaws.{encSize-least}
-use Rattle.pairs.proofs.PairLaws.{length-decode, decode-drop, decode-end}
+use Rattle.pairs.proofs.PairLaws.{length-decode}
 use Rattle.checksum.specs.Lookup3.{lookup3}
 use Rattle.fsm_sections.specs.declared.FreeSection.{FreeSection}
 use Rattle.fsm_sections.specs.declared.Source.{Source}
-use Rattle.fsm_sections.specs.Sections.{section, decode, space, distinct, All, sectionAt}
+use Rattle.fsm_sections.specs.Sections.{section, decode, space, distinct, All}
 use Rattle.fsm_sections.specs.Chains.{sectionsOf}
 use Rattle.fsm_sections.specs.Sources.{chainsOf, plainSource, Given}
-use Rattle.fsm_sections.specs.Passes.{spaceOf, Numbers}
+use Rattle.fsm_sections.specs.Passes.{storable, Numbers}
+use Rattle.fsm_sections.specs.Runs.{wide, anyWide}
+use Rattle.fsm_sections.proofs.StoredLaws.{too-great, great-enough, stored-is, stored-not}
+use Rattle.fsm_sizes.specs.declared.totals.Sums.{Sums}
+use Rattle.fsm_sizes.specs.declared.totals.Summed.{Summed}
+use Rattle.fsm_sizes.specs.declared.totals.Summed.the-variants as sums
+use Rattle.fsm_sizes.specs.Totals.{summed, summedOutcome}
+use Rattle.fsm_sizes.proofs.TotalLaws.{sum-over, summed-is, summed-not}
 use Rattle.fsm_sections.proofs.SlotLaws.{plain-runs}
 use Rattle.fsm_blocks.specs.Fshd.{Header, fshdBytes, fshdSize}
-use Rattle.fsm_blocks.specs.Fsse.{fsseSize}
-use Rattle.fsm_blocks.specs.Groups.{Widths}
-use Rattle.fsm_blocks.specs.Settings.{startingSet, headerOf, headerFor, fsseUsed, fsseFor}
-use Rattle.fsm_writer.specs.Serializing.{ofRun, wide, anyOf, anyWide, blocksSize, blocksLen, writtenFshd, writtenFsse}
-use Rattle.fsm_writer.proofs.SizeCountLaws.{run-numbers, distinct-few}
-use Rattle.fsm_writer.proofs.RowLaws.{widths-are, width-small}
+use Rattle.fsm_blocks.specs.Settings.{startingSet, headerOf, headerFor, usedBy, fsseUsed, fsseFor, blocksSize}
+use Rattle.fsm_writer.specs.Serializing.{ofRun, blocksLen, writtenFshd, writtenFsse}
+use Rattle.fsm_sections.proofs.PassLaws.{run-numbers}
+use Rattle.fsm_sections.proofs.SizesLaws.{distinct-few}
+use Rattle.fsm_blocks.proofs.LengthLaws.{width-small, used-by}
+use Rattle.error.specs.declared.Number.the-variants as number
 
 -- ---- a run of sections as a source
 
@@ -59,8 +65,32 @@ module _ (n : ℕ) (run : List ℕ) where
   pub plain-all : sectionsOf (chainsOf (plainSource n) run run run) ≡ decode n run
   plain-all = sym (plain-runs n run run run)
 
-  pub plain-few : 2 * n ≤ length run → n < 2 ^ 64 → length (sectionsOf (chainsOf (plainSource n) run run run)) < 2 ^ 64
-  plain-few room h = rw plain-all (omega (arith, length-decode section n run room))
+  -- the sum of the sizes, where the number of the sections fits
+  module _ (room : 2 * n ≤ length run) (few : n ≤ top) (s : Source) (se : s ≡ plainSource n) (c : Summed)
+      (ce : summedOutcome c ≡ summed (length (sectionsOf (chainsOf s run run run))) (space (sectionsOf (chainsOf s run run run)))) where
+    abbrev l : List FreeSection
+    l = sectionsOf (chainsOf (plainSource n) run run run)
+
+    by-plain : summedOutcome c ≡ summed (length l) (space l)
+    by-plain = ce ∙ ap (λ (x : Source). summed (length (sectionsOf (chainsOf x run run run))) (space (sectionsOf (chainsOf x run run run)))) se
+
+    long-is : length l ≤ top
+    long-is = rw plain-all (omega (arith, length-decode section n run room))
+
+    pub space-refused : (r : Refusal) → c ≡ sums.Refused r → refused r ≡ storable (space l)
+    space-refused r h =
+        let z : top < space l = ⊎-elim (λ (p : top < space l). p) (λ (p : top < length l). absurd (omega (arith, long-is))) (summed-not c _ _ by-plain r h) in
+        refuse-alike (sym (sum-over (length l) (space l) z)) (ap summedOutcome (sym h) ∙ by-plain) ∙ too-great (space l) z
+      where
+        refuse-alike : {A B : Type 0} {x : Outcome A} → x ≡ refused Overflow → refused r ≡ x → refused {A = B} r ≡ refused Overflow
+        refuse-alike e f =
+            let q : refused r ≡ refused Overflow = f ∙ e in
+            let n : numberOf r ≡ numberOf Overflow = cc in
+            let v : valuesOf r ≡ valuesOf Overflow = cc in
+            ap₂ refuse n v
+
+    pub space-is : (t : Sums) → c ≡ sums.Are t → answer (t .space) ≡ storable (space l)
+    space-is t h = let q = summed-is c _ _ by-plain t h in great-enough (t .space) (space l) (q .1) (omega (arith, q .1, q .3))
 
 -- ---- what follows on a refusal and on an answer
 
@@ -114,11 +144,11 @@ module _ (O : ℕ) (run : List ℕ) (n : ℕ) where
       unfolding ofRun
       run-long e h = then-refused _ NotAList g (first-passes _ Width _ _ v ∙ first-holds _ NotAList _ _ (rw (eq-eqb (length run % 2) 0 e, lt-ltb (length run / 2) n h)))
 
-  pub run-space : not (validWidth O) ≡ false → length run % 2 ≡ 0 → n ≤ length run / 2 → (r : Outcome ℕ) → r ≡ spaceOf (sectionsOf (chainsOf (plainSource n) run run run))
+  pub run-space : not (validWidth O) ≡ false → length run % 2 ≡ 0 → n ≤ length run / 2 → (r : Outcome ℕ) → r ≡ storable (space (sectionsOf (chainsOf (plainSource n) run run run)))
       → r ≡ andThen (ofRun O run n) (λ l. answer (space l))
-  unfolding ofRun spaceOf
+  unfolding ofRun storable
   run-space v e h r p =
-      p ∙ ap spaceOf (plain-all n run)
+      p ∙ ap (λ (l : List FreeSection). storable (space l)) (plain-all n run)
       ∙ sym (ap (λ (s : Outcome (List FreeSection)). andThen s (λ l. answer (space l)))
       (first-passes _ Width _ _ v ∙ first-passes _ NotAList _ _ (rw (eq-eqb (length run % 2) 0 e, le-ltb (length run / 2) n h)))
       ∙ one-then (ltb top (space (decode n run))) Overflow (decode n run) (λ l. answer (space l)))
@@ -149,58 +179,36 @@ pub accepted-then : {B : Type 0} (O : ℕ) (run : List ℕ) (n sum : ℕ) → Ac
 unfolding andThen
 accepted-then O run n sum h g = rw (h .is)
 
--- ---- addresses that do not fit
-
-pub wide-is : (o a : ℕ) → a < 2 ^ 64 → 1 ≤ o → ltb o (encSize a) ≡ wide o a
-wide-is o a h k = ⊎-elim big small (le-or-lt (256 ^ o) a)
-  where
-    big : 256 ^ o ≤ a → ltb o (encSize a) ≡ wide o a
-    big q =
-        let z : 0 < 256 = omega arith in
-        rw (le-leb (256 ^ o) a q)
-        (⊎-elim (λ (p : encSize a ≤ o). absurd (omega (arith, encSize-least a h .holds, pow-le-pow-right z p)))
-        (λ (p : o < encSize a). lt-ltb o (encSize a) p) (le-or-lt (encSize a) o))
-
-    small : a < 256 ^ o → ltb o (encSize a) ≡ wide o a
-    small q = rw (lt-leb (256 ^ o) a q) (le-ltb o (encSize a) (encSize-least a h .least o k q))
-
--- ---- a test of each section, one by one
-
-module _ (test : FreeSection → Bool) (n : ℕ) (run : List ℕ) (room : 2 * n ≤ length run) (i : ℕ) (h : i < n) where
-  pub any-found : (t : Bool) → t ≡ test (sectionAt run i) → t ≡ true → anyOf test (drop i (decode n run)) ≡ anyOf test (decode n run) → true ≡ anyOf test (decode n run)
-  unfolding anyOf
-  any-found t e f p = sym (sym p ∙ rw (decode-drop section n i run h room, ← e, f))
-
-  pub any-step : (t : Bool) → t ≡ test (sectionAt run i) → t ≡ false → anyOf test (drop i (decode n run)) ≡ anyOf test (decode n run)
-      → anyOf test (drop (i + 1) (decode n run)) ≡ anyOf test (decode n run)
-  unfolding anyOf
-  any-step t e f p = sym (ap (anyOf test) (decode-drop section n i run h room) ∙ rw (← e, f)) ∙ p
-
-pub any-none : (test : FreeSection → Bool) (n i : ℕ) (run : List ℕ) → 2 * n ≤ length run → n ≤ i → anyOf test (drop i (decode n run)) ≡ anyOf test (decode n run) → false ≡ anyOf test (decode n run)
-unfolding anyOf
-any-none test n i run room h p = ap (anyOf test) (sym (decode-end section n i run h room)) ∙ p
-
 -- ---- lengths
 
-module _ (o n : ℕ) (run : List ℕ) (low : 1 ≤ o) (room : 2 * n ≤ length run) (d cw : ℕ) (de : d ≡ distinct (sectionsOf (chainsOf (plainSource n) run run run))) (ce : cw ≡ encSize n) where
-  pub used-run : 9 + o + d * (cw + 8) + n * (o + 1) ≡ fsseUsed o (startingSet o) (decode n run)
-  used-run =
-      let e : length (decode n run) ≡ n = length-decode section n run room in
-      sym (ap (λ (v : Widths). fsseSize v o (decode n run)) (widths-are o (length (decode n run)) low)
-      ∙ rw (e, ← plain-all n run, ← de, ← ce))
+module _ (o n : ℕ) (run : List ℕ) (room : 2 * n ≤ length run) (fits : n < 2 ^ 64) where
+  long : length (decode n run) ≡ n
+  long = length-decode section n run room
 
-  pub few-sizes : d ≤ n
-  few-sizes = omega (arith, de, ap distinct (plain-all n run), distinct-few (decode n run), length-decode section n run room)
+  pub used-few : o ≤ 8 → fsseUsed o (startingSet o) (decode n run) ≤ 17 + 25 * n
+  used-few high =
+      let d = distinct (decode n run) in
+      let l = length (decode n run) in
+      let f : d ≤ n = omega (arith, distinct-few (decode n run), long) in
+      let w : encSize l + 8 ≤ 16 = omega (arith, width-small l (omega (arith, long))) in
+      let k : o + 1 ≤ 9 = omega arith in
+      let r : l ≤ n = omega (arith, long) in
+      omega (arith, used-by o l d, mul-le-mul f w, mul-le-mul r k)
 
-pub used-few : (o n : ℕ) (run : List ℕ) → 1 ≤ o → o ≤ 8 → 2 * n ≤ length run → n < 2 ^ 64 → fsseUsed o (startingSet o) (decode n run) ≤ 17 + 25 * n
-used-few o n run low high room fits =
-    let d = distinct (sectionsOf (chainsOf (plainSource n) run run run)) in
-    let e : 9 + o + d * (encSize n + 8) + n * (o + 1) ≡ fsseUsed o (startingSet o) (decode n run) = used-run o n run low room d (encSize n) refl refl in
-    let f : d ≤ n = few-sizes o n run low room d (encSize n) refl refl in
-    let w : encSize n + 8 ≤ 16 = omega (arith, width-small n fits) in
-    let k : o + 1 ≤ 9 = omega arith in
-    let r : n ≤ n = omega arith in
-    omega (arith, mul-le-mul f w, mul-le-mul r k)
+  module _ (d : ℕ) (de : d ≡ sat (distinct (sectionsOf (chainsOf (plainSource n) run run run)))) where
+    pub used-run : usedBy o (startingSet o) n d ≡ fsseUsed o (startingSet o) (decode n run)
+    unfolding sat
+    used-run =
+        let e : d ≡ distinct (decode n run) = omega (arith, de, ap distinct (plain-all n run), distinct-few (decode n run), long) in
+        sym (rw (long, ← e))
+
+    -- it is a number, and is not refused
+    module _ (high : o ≤ 8) (few : 17 + 25 * n ≤ top) (c : Number) (ce : numberOutcome c ≡ storable (usedBy o (startingSet o) n d)) where
+      pub used-is : (m : ℕ) → c ≡ number.Is m → m ≡ fsseUsed o (startingSet o) (decode n run)
+      used-is m h = stored-is c _ ce m h .0 ∙ used-run
+
+      pub used-not : (r : Refusal) → c ≡ number.Refused r → 0 ≡ fsseUsed o (startingSet o) (decode n run)
+      used-not r h = absurd (omega (arith, stored-not c _ ce r h, used-run, used-few high))
 
 -- ---- the entries, by their branches
 

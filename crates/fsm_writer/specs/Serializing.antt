@@ -3,17 +3,13 @@
 --   writtenOutcome   the outcome that an answer of the code stands for ("Language forms": "for every case of the enum")
 --   ofRun            a run of sections and its count: refusals 1, 3 ("Runs of sections are tested for odd length and count alone"), 4 ("a sum of
 --                    section sizes")
---   wide             an address does not fit O bytes (refusal 12: "a written address doesn't fit the offset size")
---   anyOf            a test holds of some section
---   anyWide          some section's address does not
---   blocksSize       both blocks' lengths, 0 without sections
 --   blocksLen        "`file_fsm_blocks_len` is 0 without sections, else both lengths added"
 --   writtenFshd      `serialize_fshd`: the header at the front of the lent bytes; refusals of ofRun, 12, 14
 --   writtenFsse      `serialize_fsse`: the section list at the front of the lent bytes ("Size 0 and duplicates are written"); the same refusals
-use Prim.Native.Nat.{ℕ, _+_, _/_, _%_, _^_}
-use mathlib.Core.Bool.{Bool, false, cond, not, _||_}
+use Prim.Native.Nat.{ℕ, _/_, _%_}
+use mathlib.Core.Bool.{not, _||_}
 use mathlib.Core.List.{List, [], _∷_}
-use lib.Dec.{ltb, leb, eqb}
+use lib.Dec.{ltb, eqb}
 use lib.ListN.{length}
 use Rattle.error.specs.declared.Refusal.the-variants.{Width, NotAList, Overflow, WideAddress, OverCapacity}
 use Rattle.error.specs.Outcome.{Outcome, answer, refused, when, firstOf, andThen}
@@ -23,10 +19,11 @@ use Rattle.fields.specs.Width.{validWidth}
 use Rattle.checksum.specs.Lookup3.{lookup3}
 use Rattle.fsm_sections.specs.declared.FreeSection.{FreeSection}
 use Rattle.fsm_sections.specs.Sections.{decode, space}
+use Rattle.fsm_sections.specs.Runs.{wide, anyWide}
 use Rattle.fsm_writer.specs.declared.writer.Written.{Written}
 use Rattle.fsm_writer.specs.declared.writer.Written.the-variants as written
 use Rattle.fsm_blocks.specs.Fshd.{fshdBytes, fshdSize}
-use Rattle.fsm_blocks.specs.Settings.{startingSet, headerFor, fsseFor, fsseUsed}
+use Rattle.fsm_blocks.specs.Settings.{startingSet, headerFor, fsseFor, fsseUsed, blocksSize}
 
 abbrev pub writtenOutcome : Written → Outcome ℕ
 writtenOutcome (written.Bytes n) = answer n
@@ -40,19 +37,6 @@ ofRun O run n =
     ∷ when (ltb top (space (decode n run))) Overflow
     ∷ [])
     (answer (decode n run))
-
-abbrev pub wide : ℕ → ℕ → Bool
-wide O a = leb (256 ^ O) a
-
-unfoldable pub anyOf : (FreeSection → Bool) → List FreeSection → Bool
-anyOf test [] = false
-anyOf test (s ∷ l) = test s || anyOf test l
-
-abbrev pub anyWide : ℕ → List FreeSection → Bool
-anyWide O l = anyOf (λ s. wide O (s .addr)) l
-
-abbrev pub blocksSize : ℕ → List FreeSection → ℕ
-blocksSize O l = cond (eqb (length l) 0) 0 (fshdSize O + fsseUsed O (startingSet O) l)
 
 unfoldable pub blocksLen : ℕ → List ℕ → ℕ → Outcome ℕ
 blocksLen O run n = andThen (ofRun O run n) (λ l. answer (blocksSize O l))

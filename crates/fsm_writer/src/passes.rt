@@ -1,76 +1,17 @@
-// Passes over the sections that a source gives, with no work memory: sums and counts run by run, the others by the address of the regions.
+// Passes over the sections that a source gives, with no work memory, by the address of the regions.
 ghost use mathlib.Core.Path.{_≡_};
-ghost use Prim.Native.Nat.{_+_, _*_, _<_, _≤_, _^_};
-ghost use lib.ListN.{length};
-ghost use Rattle.error.specs.Answers.{numberOutcome};
-ghost use Rattle.fsm_sections.specs.Sections.{section, decode, space, times, ofSize};
+ghost use Prim.Native.Nat.{_+_, _<_, _^_};
+ghost use Rattle.fsm_sections.specs.Sections.{section, times, ofSize};
 ghost use Rattle.fsm_sections.specs.Chains.{link, chain, sectionsOf, ChainFits};
-ghost use Rattle.fsm_sections.specs.Sources.{one, partOf, chainsIn, chainsOf, chainCount, PartFits, Given, Within, Taking, partIn};
-ghost use Rattle.fsm_sections.specs.Passes.{leastAddr, spaceOf};
-ghost use Rattle.fsm_writer.specs.Counting.{RunGiven, storable};
-use error::Number;
-use error::Refusal;
-use fsm_sections::Chain;
-use fsm_sections::FreeSection;
+ghost use Rattle.fsm_sections.specs.Sources.{chainsOf, chainCount, Given, Within, Taking, partIn};
+ghost use Rattle.fsm_sections.specs.Passes.{leastAddr};
 use fsm_sections::Part;
 use fsm_sections::Source;
 use fsm_sections::Taken;
 use fsm_sections::next::next_region;
+use fsm_sections::parts::part_chain;
 use numbers::MAX;
 use numbers::min;
-use numbers::quotient;
-use numbers::remainder;
-
-// One section, or none where it would be empty.
-fn one_chain(addr: u64, size: u64) -> Chain
-    ensures { λ r. ⌜ r ≡ one addr size ⌝ }
-{
-    if size == 0 {
-        return Chain {
-            addr: addr,
-            size: size,
-            count: 0,
-        };
-    }
-    Chain {
-        addr: addr,
-        size: size,
-        count: 1,
-    }
-}
-
-// A part of a region.
-pub(crate) fn part_chain(part: Part, page: u64, addr: u64, size: u64) -> Chain
-    requires { ⌜ (0 < page) × PartFits part (section addr size) ⌝ }
-    ensures { λ r. ⌜ r ≡ partOf part page (section addr size) ⌝ }
-{
-    let region = FreeSection {
-        addr: addr,
-        size: size,
-    };
-    match part {
-        Part::Head => one_chain(addr, region.head_size(page)),
-        Part::Pages => {
-            let head = region.head_size(page);
-            Chain {
-                addr: addr + head,
-                size: page,
-                count: quotient(size - head, page),
-            }
-        }
-        Part::Tail => {
-            let head = region.head_size(page);
-            let body = size - head;
-            let pages = quotient(body, page);
-            one_chain(addr + head + pages * page, remainder(body, page))
-        }
-        Part::Whole => Chain {
-            addr: addr,
-            size: size,
-            count: 1,
-        },
-    }
-}
 
 // The part that is meant of the regions of a run.
 fn part_in(s: Source, run: u8) -> Part
@@ -114,79 +55,6 @@ pub(crate) fn next_chain(
         j: r.j,
         k: r.k,
     }
-}
-
-// The sizes of a run's sections added to n.
-fn space_in(run: &[u64], count: usize, part: Part, page: u64, n: u64) -> Number
-    requires { ⌜ RunGiven part page (now run) count ⌝ }
-    ensures { λ r. ⌜ numberOutcome r ≡ storable (n + space (sectionsOf (chainsIn part page (decode count (now (run .entry)))))) ⌝ }
-{
-    let mut sum = n;
-    let mut i = 0;
-    while i < count {
-        let r = part_chain(part, page, run[2 * i], run[2 * i + 1]);
-        let more = r.count * r.size;
-        if MAX - sum < more {
-            return Number::Refused(Refusal::Overflow);
-        }
-        sum = sum + more;
-        i += 1;
-    }
-    Number::Is(sum)
-}
-
-// The sum of the sizes.
-pub(crate) fn space_of(a: &[u64], b: &[u64], c: &[u64], s: Source) -> Number
-    requires { ⌜ Given s (now a) (now b) (now c) ⌝ }
-    ensures { λ r. ⌜ numberOutcome r ≡ spaceOf (sectionsOf (chainsOf s (now (a .entry)) (now (b .entry)) (now (c .entry)))) ⌝ }
-{
-    let pa = s.pa;
-    let pb = s.pb;
-    let pc = s.pc;
-    let page = s.page;
-    let Number::Is(x) = space_in(a, s.na, pa, page, 0) else {
-        return Number::Refused(Refusal::Overflow);
-    };
-    let Number::Is(y) = space_in(b, s.nb, pb, page, x) else {
-        return Number::Refused(Refusal::Overflow);
-    };
-    space_in(c, s.nc, pc, page, y)
-}
-
-// How many sections a run has, added to n.
-fn count_in(run: &[u64], count: usize, part: Part, page: u64, n: u64) -> Number
-    requires { ⌜ RunGiven part page (now run) count ⌝ }
-    ensures { λ r. ⌜ numberOutcome r ≡ storable (n + length (sectionsOf (chainsIn part page (decode count (now (run .entry)))))) ⌝ }
-{
-    let mut sum = n;
-    let mut i = 0;
-    while i < count {
-        let r = part_chain(part, page, run[2 * i], run[2 * i + 1]);
-        if MAX - sum < r.count {
-            return Number::Refused(Refusal::Overflow);
-        }
-        sum = sum + r.count;
-        i += 1;
-    }
-    Number::Is(sum)
-}
-
-// How many sections there are.
-pub(crate) fn section_count(a: &[u64], b: &[u64], c: &[u64], s: Source) -> Number
-    requires { ⌜ Given s (now a) (now b) (now c) ⌝ }
-    ensures { λ r. ⌜ numberOutcome r ≡ storable (length (sectionsOf (chainsOf s (now (a .entry)) (now (b .entry)) (now (c .entry))))) ⌝ }
-{
-    let pa = s.pa;
-    let pb = s.pb;
-    let pc = s.pc;
-    let page = s.page;
-    let Number::Is(x) = count_in(a, s.na, pa, page, 0) else {
-        return Number::Refused(Refusal::Overflow);
-    };
-    let Number::Is(y) = count_in(b, s.nb, pb, page, x) else {
-        return Number::Refused(Refusal::Overflow);
-    };
-    count_in(c, s.nc, pc, page, y)
 }
 
 // The least address at or above `from` of a chain's sections, if they have size z.

@@ -7,7 +7,9 @@ use crate::lines::put_pairs;
 use crate::memory::numbers_memory;
 use crate::reply::Reply;
 use fields::convert::UNDEF;
-use fsm_plan::plan::PagedManagerPlan;
+use fsm_plan::Counts;
+use fsm_plan::blocks::PagedManagerBlock;
+use fsm_plan::blocks::PagedManagerPlan;
 use fsm_plan::plan::Planned;
 use fsm_plan::plan::plan_paged_managers;
 use replay_lines::answer::put_number;
@@ -60,13 +62,13 @@ fn place_after(run: &[u64], n: usize) -> usize
 fn put_slots(p: PagedManagerPlan, out: &mut [u8], at: usize) -> usize {
     let to = write_bytes(out, at, b"slots ");
     let slots = [
-        p.fshd0,
+        p.slot0.fshd_addr,
         UNDEF,
-        p.fshd2,
+        p.slot2.fshd_addr,
         UNDEF,
         UNDEF,
         UNDEF,
-        p.fshd6,
+        p.slot6.fshd_addr,
         UNDEF,
         UNDEF,
         UNDEF,
@@ -83,29 +85,21 @@ fn blocks_in(n: usize) -> u64
     if n == 0 { 0 } else { 1 }
 }
 
-// Puts the block of a slot, whose n sections begin the run; nothing for none.
-fn put_block(
-    fshd: u64,
-    fsse: u64,
-    class: u64,
-    n: usize,
-    sections: &[u64],
-    out: &mut [u8],
-    at: usize,
-) -> usize {
-    if n == 0 {
+// Puts the block of a slot, whose sections begin the run; nothing for none.
+fn put_block(b: PagedManagerBlock, sections: &[u64], out: &mut [u8], at: usize) -> usize {
+    if b.count == 0 {
         return at;
     }
-    let to = put_numbers(out, at, &[fshd, fsse, class]);
-    put_pairs(out, to, sections, n as u64)
+    let to = put_numbers(out, at, &[b.fshd_addr, b.fsse_addr, b.class as u64]);
+    put_pairs(out, to, sections, b.count as u64)
 }
 
 fn put_blocks(p: PagedManagerPlan, sections: &[u64], out: &mut [u8], at: usize) -> usize {
-    let raw = place_after(sections, p.n0);
-    let large = raw + place_after(&sections[raw..], p.n2);
-    let second = put_block(p.fshd0, p.fsse0, 1, p.n0, sections, out, at);
-    let third = put_block(p.fshd2, p.fsse2, 1, p.n2, &sections[raw..], out, second);
-    put_block(p.fshd6, p.fsse6, 2, p.n6, &sections[large..], out, third)
+    let raw = place_after(sections, p.slot0.count);
+    let large = raw + place_after(&sections[raw..], p.slot2.count);
+    let second = put_block(p.slot0, sections, out, at);
+    let third = put_block(p.slot2, &sections[raw..], out, second);
+    put_block(p.slot6, &sections[large..], out, third)
 }
 
 fn plan_line(p: PagedManagerPlan, sections: &[u64], out: &mut [u8]) -> usize {
@@ -116,7 +110,7 @@ fn plan_line(p: PagedManagerPlan, sections: &[u64], out: &mut [u8]) -> usize {
     let first = put_number(
         out,
         count,
-        blocks_in(p.n0) + blocks_in(p.n2) + blocks_in(p.n6),
+        blocks_in(p.slot0.count) + blocks_in(p.slot2.count) + blocks_in(p.slot6.count),
     );
     let last = put_blocks(p, sections, out, first);
     end_line(out, last)
@@ -156,14 +150,17 @@ pub(crate) fn plan_call(args: &[u64], out: &mut [u8]) -> Reply {
     let r_end = raw.end;
     let u = unclassified.from;
     let u_end = unclassified.end;
+    let n = Counts {
+        meta: (m_end - m) / 2,
+        raw: (r_end - r) / 2,
+        unclassified: (u_end - u) / 2,
+    };
     let mut sections = numbers_memory();
     let planned = plan_paged_managers(
         &args[m..m_end],
-        (m_end - m) / 2,
         &args[r..r_end],
-        (r_end - r) / 2,
         &args[u..u_end],
-        (u_end - u) / 2,
+        n,
         args[1],
         args[2],
         o as u8,

@@ -3,7 +3,7 @@
 --   Placed     what they leave of the image
 --   Accepted   both, with the record and the scratch that are given
 --   Listed     what refusals 2 and 3 leave of lists: their regions are in order, and a beginning of them is one of their regions
-use mathlib.Core.Path.{_≡_, sym, ap, _∙_}
+use mathlib.Core.Path.{_≡_, ap, _∙_}
 use mathlib.Core.Logic.{_⊎_, inl, inr, ⊎-elim}
 use Prim.Native.Nat.{ℕ, _+_, _≤_, _<_, min, max}
 use native.Mathlib.Omega.{arith}
@@ -28,7 +28,6 @@ use Rattle.fsm_sections.specs.Sections.{space}
 use Rattle.save_step.specs.declared.Save.{Save}
 use Rattle.file_space_info.specs.Message.{messageLen}
 use Rattle.save.specs.Saving.{small, smallRaw, large, blockLen, messageIn, regionTests, listTests, firstRecord, filled, begunOf, begun}
-use Rattle.save.specs.Beginning.{conditions}
 
 -- ---- the facts
 
@@ -148,12 +147,6 @@ begun-same rs page start place image image₂ scratch i e v v₂ s s₂ =
 
 -- ---- a beginning of lists is one of their regions, once refusals 2 and 3 are past
 
-pub begun-is : (ls : Lists) (page start place : ℕ) (image scratch : List ℕ) → begun ls page start place image scratch
-    ≡ firstOf (conditions ls page start place image (length scratch))
-    (answer (with (firstRecord (regionsIn ls) page start place) (filled page start (regionsIn ls) scratch)))
-unfolding begun begunOf
-begun-is ls page start place image scratch = sym (first-append (listTests ls page) (regionTests (regionsIn ls) page start place image (length scratch)) _)
-
 -- what refusals 2 and 3 leave
 pub record Listed (ls : Lists) (page : ℕ) : Type 0 where
   pub some : 0 < page
@@ -162,9 +155,10 @@ pub record Listed (ls : Lists) (page : ℕ) : Type 0 where
 
 pub listed-lists : (ls : Lists) (page start place : ℕ) (image scratch : List ℕ) (w : With Save (List ℕ))
     → begun ls page start place image scratch ≡ answer w → Listed ls page
-unfolding begun
+unfolding begun begunOf
 listed-lists ls page start place image scratch w e =
-    let h = first-answers (conditions ls page start place image (length scratch)) _ w (sym (begun-is ls page start place image scratch) ∙ e) .0 in
+    let h = first-answers (listTests ls page ++ regionTests (regionsIn ls) page start place image (length scratch)) _ w
+    (first-append (listTests ls page) (regionTests (regionsIn ls) page start place image (length scratch)) _ ∙ e) .0 in
     let v0 = and-true (isList (ls Metadata .run) (ls Metadata .list)) _ (not-false _ (h .1 .0)) in
     let v1 = and-true (isList (ls Raw .run) (ls Raw .list)) _ (v0 .1) in
     record {

@@ -38,11 +38,11 @@ use Rattle.save_step.proofs.CutLaws as c
 use Rattle.save_step.proofs.CutLaws.{Savable}
 use Rattle.save_step.proofs.StoreLaws.{after-suc}
 use Rattle.save_step.proofs.RowLaws.{step-is, steps-are, step-after, steps-end}
-use Rattle.fsm_plan.proofs.PlannedLaws.{holding-sorted}
+use Rattle.fsm_plan.proofs.PlannedLaws.{holding-sorted, length-slots, length-blocks}
 use Rattle.save.specs.Saving.{asSections, small, smallRaw, large, plan, blockLen, blockBytes, slotAddrs, messageOf, filled, begunOf}
 use Rattle.image.specs.Reading.{Listed, inSlot, listed as listedFrom, readImage, countsOf}
 use Rattle.save.specs.EveryCut.{OneSave, oneSave, afterSteps, imageAfter, metadataSlot, rawSlot, largeSlot, plannedInSlots, plannedSections, plannedCounts, OneStoreAStep, ReadInto, EveryCut, inList, freeIn, EveryCutOfLists}
-use Rattle.save.proofs.PlanLaws.{length-slots, length-blocks, slots-read, sorted}
+use Rattle.save.proofs.PlanLaws.{slots-read, sorted}
 use Rattle.save.proofs.FitLaws.{Ends, list-ends, plan-fits, slots-fit, small-plan}
 use Rattle.save.proofs.BeginLaws.{Planned, Accepted, accepted, filled-is, begun-same}
 use Rattle.save.proofs.ReadLaws.{reads-nothing, reads-slots, listed-is, into-is, nothing-into}

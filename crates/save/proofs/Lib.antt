@@ -7,7 +7,7 @@ pub mod EveryCutLaws
 pub mod AfterCallsLaws
 pub mod Instance
 pub mod TieLaws
-pub mod SumLaws
+pub mod OnceLaws
 pub mod PlaceLaws
 pub mod OrderLaws
 pub mod FillLaws

@@ -2,7 +2,7 @@
 --   way     a region ends past `start` or meets the message
 --   ways    a region of a list does
 use mathlib.Core.Path.{_≡_, refl, sym, ap, _∙_}
-use mathlib.Core.Logic.{⊎-elim}
+use mathlib.Core.Logic.{_⊎_, inl, inr, ⊎-elim}
 use Prim.Native.Nat.{ℕ, _+_, _-_, _*_, _≤_, _<_, min, max}
 use native.Mathlib.Omega.{arith}
 use mathlib.Core.Bool.{Bool, true, false, _||_}
@@ -46,16 +46,42 @@ module _ (a n b m : ℕ) (some : (0 < n) × (0 < m)) where
   pub meet-else : a < b + m → ltb b (a + n) ≡ meets (region a n) (region b m)
   meet-else h = same-test b (a + n) (max a b) (min (a + n) (b + m)) (λ k. omega arith) (λ k. omega arith)
 
-module _ (len start place : ℕ) (image : List ℕ) where
-  pub out-none : len ≡ 0 → false ≡ blocksOut len start place image
-  out-none z = sym (rw (le-ltb 0 len (omega arith)))
+-- how many bytes of blocks stand within the image and before the message
+module _ (start place : ℕ) (image : List ℕ) where
+  abbrev Room : ℕ → Type 0
+  Room r = (L : ℕ) → blocksOut L start place image ≡ ltb r L
 
-  module _ (n : len ≡ 0 → ⊥) where
-    pub out-image : length image < start + len → true ≡ blocksOut len start place image
-    out-image h = sym (rw (lt-ltb 0 len (omega arith), lt-ltb (length image) (start + len) h))
+  room-by : (r : ℕ) → ((L : ℕ) → 0 < L → L ≤ r → (start + L ≤ length image) × (min (start + L) (place + 125) ≤ max start place))
+      → ((L : ℕ) → r < L → (length image < start + L) ⊎ (max start place < min (start + L) (place + 125))) → Room r
+  room-by r f g L = ⊎-elim fits over (le-or-lt L r)
+    where
+      or-true : (t : Bool) → (t || true) ≡ true
+      or-true true = refl
+      or-true false = refl
 
-    pub out-message : start + len ≤ length image → (b : Bool) → b ≡ meets (region start len) (region place 125) → b ≡ blocksOut len start place image
-    out-message h b e = e ∙ sym (rw (lt-ltb 0 len (omega arith), le-ltb (length image) (start + len) h))
+      fits : L ≤ r → blocksOut L start place image ≡ ltb r L
+      fits h =
+          ⊎-elim
+          (λ (k : L ≤ 0). rw (le-ltb 0 L k, le-ltb r L h))
+          (λ (k : 0 < L). let q = f L k h in rw (lt-ltb 0 L k, le-ltb (length image) (start + L) (q .0), le-ltb (max start place) (min (start + L) (place + 125)) (q .1), le-ltb r L h))
+          (le-or-lt L 0)
+
+      over : r < L → blocksOut L start place image ≡ ltb r L
+      over h =
+          let k : 0 < L = omega arith in
+          ⊎-elim
+          (λ (q : length image < start + L). rw (lt-ltb 0 L k, lt-ltb (length image) (start + L) q, lt-ltb r L h))
+          (λ (q : max start place < min (start + L) (place + 125)). rw (lt-ltb 0 L k, lt-ltb (max start place) (min (start + L) (place + 125)) q, lt-ltb r L h) (or-true (ltb (length image) (start + L))))
+          (g L h)
+
+  module _ (r : ℕ) where
+    pub room-before : start < place + 125 → r ≡ min (length image - start) (place - start) → Room r
+    room-before h e =
+        room-by r (λ L k l. (omega arith, omega arith))
+        (λ L l. ⊎-elim (λ (q : start + L ≤ length image). inr (omega arith)) (λ (q : length image < start + L). inl q) (le-or-lt (start + L) (length image)))
+
+    pub room-after : place + 125 ≤ start → r ≡ length image - start → Room r
+    room-after h e = room-by r (λ L k l. (omega arith, omega arith)) (λ L l. inl (omega arith))
 
 -- blocks that do not leave the image are no longer than it
 pub not-longer : (len start place : ℕ) (image : List ℕ) (b : Bool) → b ≡ blocksOut len start place image → b ≡ false → len ≤ length image

@@ -2,15 +2,14 @@
 --   ManagerFits   what the blocks of sections at an address need in order to be read back: they end within 64 bits, and their fields hold their numbers
 --   PlanFits      the same of managers one after another
 --   sorted        what a slot reads as
-use mathlib.Core.Path.{_≡_, refl, sym, ap, ap₂, _∙_}
-use Prim.Native.Nat.{ℕ, suc, _+_, _≤_, _<_}
+use mathlib.Core.Path.{_≡_, refl, sym, ap, _∙_}
+use Prim.Native.Nat.{ℕ, _+_, _≤_, _<_}
 use native.Mathlib.Nat.{zero-lt-suc}
 use native.Mathlib.Omega.{arith}
-use mathlib.Core.Bool.{false, cond}
+use mathlib.Core.Bool.{cond}
 use mathlib.Core.List.{List, [], _∷_, _++_, map}
-use borrow.Author.Tests.{ne-eqb}
 use lib.Dec.{eqb}
-use lib.ListN.{length, take, drop, replicate, length-append, length-replicate}
+use lib.ListN.{length, take, drop, replicate, length-replicate}
 use lib.Seq.{take-at, drop-at, take-all, take-take}
 use Rattle.error.specs.Outcome.{answer}
 use Rattle.fields.specs.Ranges.{top}
@@ -22,9 +21,10 @@ use Rattle.fsm_blocks.specs.Fshd.{fshdRow, fshdBytes, fshdSize}
 use Rattle.fsm_blocks.specs.Groups.{SectionFits}
 use Rattle.fsm_blocks.specs.Settings.{Settings, widthsFor, headerFor, fsseFor, fsseUsed}
 use Rattle.fsm_blocks.specs.Reading.{readManager, readSlots}
-use Rattle.fsm_blocks.proofs.WrittenLaws.{length-fshd, length-fsse}
+use Rattle.fsm_blocks.proofs.WrittenLaws.{length-fshd}
 use Rattle.fsm_blocks.proofs.ImageLaws.{manager-read, slots-none, slots-more}
 use Rattle.fsm_plan.specs.Managers.{Manager, manager, managerSize, sizeOf, slotsFrom, managerBytes, blocksFrom}
+use Rattle.fsm_plan.proofs.PlannedLaws.{filled, pairSize, pairBytes, length-list, length-both, length-manager, length-blocks}
 
 -- ---- two runs that stand side by side
 
@@ -34,48 +34,6 @@ module _ (p m n : ℕ) (l A B : List ℕ) (e : window p (m + n) l ≡ A ++ B) (a
 
   second-stands : window (p + m) n l ≡ B
   second-stands = sym (window-window m n p (m + n) l (omega arith)) ∙ ap (λ (x : List ℕ). take n (drop m x)) e ∙ ap (take n) (drop-at A B m a) ∙ take-all n B (omega arith)
-
--- ---- lengths
-
-filled : (s : FreeSection) (l : List FreeSection) → eqb (length (s ∷ l)) 0 ≡ false
-filled s l = ne-eqb (length (s ∷ l)) 0 (λ e. omega arith)
-
-module _ (O : ℕ) (set : Settings) where
-  pub length-slots : (ms : List Manager) (a : ℕ) → length (slotsFrom O set a ms) ≡ length ms
-  unfolding slotsFrom
-  length-slots [] a = refl
-  length-slots (m ∷ ms) a = ap suc (length-slots ms (a + managerSize O set m))
-
-  abbrev pairSize : List FreeSection → ℕ
-  pairSize l = fshdSize O + (fsseUsed O set l + set .surplus)
-
-  module _ (sum : List ℕ → ℕ) where
-    -- the blocks of sections, of which there is one at least
-    abbrev pairBytes : ℕ → ℕ → List FreeSection → List ℕ
-    pairBytes a class l = fshdBytes sum O (headerFor O set (a + fshdSize O) l) ++ (fsseFor O set sum a class l ++ replicate (set .surplus) 0)
-
-    length-list : (a class : ℕ) (l : List FreeSection) → length (fsseFor O set sum a class l) ≡ fsseUsed O set l
-    length-list a class l = length-fsse sum (widthsFor O set (length l)) O a class l
-
-    length-both : (a class : ℕ) (l : List FreeSection) → length (fsseFor O set sum a class l ++ replicate (set .surplus) 0) ≡ fsseUsed O set l + set .surplus
-    length-both a class l =
-        length-append (fsseFor O set sum a class l) (replicate (set .surplus) 0) ∙ ap₂ (λ (x y : ℕ). x + y) (length-list a class l) (length-replicate (set .surplus) 0)
-
-    length-pair : (a class : ℕ) (l : List FreeSection) → length (pairBytes a class l) ≡ pairSize l
-    length-pair a class l =
-        length-append (fshdBytes sum O (headerFor O set (a + fshdSize O) l)) (fsseFor O set sum a class l ++ replicate (set .surplus) 0)
-        ∙ ap₂ (λ (x y : ℕ). x + y) (length-fshd sum O (headerFor O set (a + fshdSize O) l)) (length-both a class l)
-
-    pub length-manager : (a class : ℕ) (l : List FreeSection) → length (managerBytes O set sum a (manager class l)) ≡ managerSize O set (manager class l)
-    length-manager a class [] = refl
-    length-manager a class (s ∷ l) = rw (filled s l) (length-pair a class (s ∷ l))
-
-    pub length-blocks : (ms : List Manager) (a : ℕ) → length (blocksFrom O set sum a ms) ≡ sizeOf O set ms
-    unfolding blocksFrom sizeOf
-    length-blocks [] a = refl
-    length-blocks (m ∷ ms) a =
-        length-append (managerBytes O set sum a m) (blocksFrom O set sum (a + managerSize O set m) ms)
-        ∙ ap₂ (λ (x y : ℕ). x + y) (length-manager a (m .class) (m .sections)) (length-blocks ms (a + managerSize O set m))
 
 -- ---- reading back
 

@@ -1,51 +1,52 @@
--- The slots of the writer, by runs of regions, are the managers of the plan: their sections, their bytes, their lengths and their addresses. Assumes nothing.
---   Passed    what refusal 3's test leaves of a run for the writer's own tests
-use mathlib.Core.Path.{_≡_, refl, sym, ap, ap₂, _∙_}
-use mathlib.Core.Logic.{_⊎_, inl, inr, ⊎-elim}
-use Prim.Native.Nat.{ℕ, _+_, _/_, _%_, _≤_, _<_}
-use native.Mathlib.Nat.{add-zero, zero-add}
+-- The plan and the blocks of lists' runs are those of the lists' regions. Assumes nothing.
+--   Passed    what refusal 3's test leaves of a run for the plan's own tests
+use mathlib.Core.Path.{_≡_, refl, sym, ap, _∙_}
+use Prim.Native.Nat.{ℕ, _+_, _-_, _/_, _%_, _≤_, _<_, _^_}
 use native.Mathlib.Omega.{arith}
-use mathlib.Core.Bool.{Bool, true, false, cond}
-use mathlib.Core.List.{List, [], _∷_, _++_, map, append-nil, append-assoc}
-use borrow.Author.Tests.{le-ltb, le-leb, eq-eqb, ne-eqb, ltb-false}
-use lib.Dec.{eqb}
+use mathlib.Core.Bool.{Bool, true, false, cond, not, _&&_, _||_}
+use mathlib.Core.List.{List, [], _∷_, map}
+use borrow.Author.Tests.{le-ltb, le-leb, lt-leb, lt-ltb, eq-eqb, ne-eqb, eqb-false, ltb-true, ltb-false}
+use lib.Dec.{ltb, eqb}
 use lib.ListN.{length}
-use Rattle.error.specs.declared.Number.{Number}
-use Rattle.error.specs.declared.Number.the-variants as number
-use Rattle.error.specs.declared.Refusal.{Refusal}
-use Rattle.error.specs.Answers.{numberOutcome}
-use Rattle.error.specs.Outcome.{answer, refused}
-use Rattle.error.proofs.TestLaws.{le-or-lt}
-use Rattle.error.proofs.OutcomeLaws.{NoneHolds, first-pass, first-answers}
+use Rattle.error.specs.declared.Refusal.the-variants.{Overflow, SharedAddress, WideAddress, OverCapacity}
+use Rattle.error.specs.Outcome.{Outcome, answer, refused, Condition, when, firstOf, andThen}
+use Rattle.error.specs.Lent.{With, with, over}
+use Rattle.error.proofs.TestLaws.{and-true, or-false}
+use Rattle.error.proofs.OutcomeLaws.{NoneHolds, first-pass, first-append}
 use Rattle.fields.specs.Ranges.{top}
 use Rattle.checksum.specs.Lookup3.{lookup3}
+use Rattle.free_regions.specs.Regions.{region, okFrom}
 use Rattle.free_regions.proofs.OkLaws.{ok-prop}
-use Rattle.free_regions.specs.Regions.{region}
 use Rattle.free_space.specs.declared.list.FreeList.{FreeList}
 use Rattle.free_space.specs.Runs.{isList, decode as decodeRegions}
 use Rattle.free_space.proofs.ListLaws.{listed}
 use Rattle.pairs.specs.Pairs.{isRun}
 use Rattle.pairs.proofs.PairLaws.{decode-map}
 use Rattle.free_lists.specs.declared.FileLists.{FileLists}
-use Rattle.free_lists.specs.Lists.{Regions, listsIn, regionsIn}
+use Rattle.free_lists.specs.declared.calls.Which.{Which}
+use Rattle.free_lists.specs.declared.calls.Which.the-variants.{Metadata, Raw, Unclassified}
+use Rattle.free_lists.specs.Lists.{Regions, listsIn, regionsIn, areLists, sharedByte}
 use Rattle.fsm_sections.specs.declared.FreeSection.{FreeSection}
 use Rattle.fsm_sections.specs.Sections.{section, decode, space, All}
-use Rattle.fsm_sections.specs.Pages.{end, slot0, slot6}
-use Rattle.fsm_blocks.specs.Fshd.{fshdBytes, fshdSize}
-use Rattle.fsm_blocks.specs.Settings.{startingSet, headerFor, fsseFor, fsseUsed}
-use Rattle.fsm_writer.specs.declared.slots.Slot.{Slot}
-use Rattle.fsm_writer.specs.declared.slots.Slot.the-variants.{Small, Large}
-use Rattle.fsm_writer.specs.Serializing.{blocksSize}
-use Rattle.fsm_sections.specs.Runs.{endsAbove}
-use Rattle.fsm_writer.specs.Slots.{runTests, sizeTests, slotBytes, lenOf, slotLen}
-use Rattle.fsm_writer.proofs.MeasureLaws.{size-least, size-none}
-use Rattle.fsm_plan.specs.Managers.{manager, managerSize, managerBytes, sizeOf, slotsFrom, blocksFrom}
-use Rattle.save.specs.Saving.{small, smallRaw, large, blockLen, blockBytes, slotAddrs}
-use Rattle.save.specs.Beginning.{offsetsOf, slotAt, slotsAt, slotIn}
-use Rattle.save.proofs.PlanLaws.{length-manager}
-use Rattle.save.proofs.FitLaws.{Ends, list-ends}
+use Rattle.fsm_sections.specs.Pages.{end, slot0, slot2, slot6}
+use Rattle.fsm_sections.specs.Runs.{endsAbove, wide, anyOf, anyWide}
+use Rattle.fsm_blocks.specs.Settings.{startingSet, blocksSize}
+use Rattle.fsm_blocks.proofs.LengthLaws.{size-least}
+use Rattle.fsm_plan.specs.declared.Counts.{Counts}
+use Rattle.fsm_plan.specs.declared.measure.Measure.{Measure}
+use Rattle.fsm_plan.specs.declared.blocks.Measures.{Measures}
+use Rattle.fsm_plan.specs.declared.blocks.BlocksPlan.{BlocksPlan}
+use Rattle.fsm_plan.specs.Managers.{managersOf, sizeOf, blocksFrom}
+use Rattle.fsm_plan.specs.Order.{repeats}
+use Rattle.fsm_plan.specs.Blocks.{paged, inSlot0, inSlot2, inLarge, measureOf, measuresOf, slotsMeasured, sizeTests, blockAt, endAt, managersAt, blocksAt, wideBlock, wideManagers, runTests, plannedFrom, plannedBlocks}
+use Rattle.fsm_plan.proofs.PlannedLaws.{plan-size}
+use Rattle.fsm_writer.specs.Paged.{writtenManagers}
+use Rattle.save.specs.Saving.{asSections, small, smallRaw, large, blockLen, blockBytes, tooLarge}
+use Rattle.save.specs.Beginning.{countsIn}
+use Rattle.save.proofs.FitLaws.{Ends, list-ends, small-plan}
+use Rattle.save.proofs.OnceLaws.{slot6-once}
 
--- ---- a run that is a list passes the writer's tests
+-- ---- a run that is a list passes the plan's tests
 
 decode-sections : (n : ℕ) (xs : List ℕ) → decode n xs ≡ map (λ r. section (r .addr) (r .len)) (decodeRegions n xs)
 decode-sections n xs = sym (decode-map region (λ r. section (r .addr) (r .len)) n xs)
@@ -67,68 +68,80 @@ fine xs l e =
       ends = rw (decode-sections n xs) (none-late (map (λ r. section (r .addr) (r .len)) (decodeRegions n xs)) (list-ends 0 top (decodeRegions n xs) (ok-prop 0 (decodeRegions n xs) .0 (p .ok))));
     }
 
-module _ (slot : Slot) (xs : List ℕ) (k : FreeList) (ys : List ℕ) (l : FreeList) (zs : List ℕ) (m : FreeList) (page : ℕ) (some : 0 < page)
-    (f : isList xs k ≡ true) (g : isList ys l ≡ true) (h : isList zs m ≡ true) where
-  runs-pass : NoneHolds (runTests xs (k .count) ys (l .count) zs (m .count) page 8)
-  runs-pass =
-      let p = fine xs k f in
-      let q = fine ys l g in
-      let r = fine zs m h in
-      (refl, (ne-eqb page 0 (λ z. omega arith), (rw (p .run, q .run, r .run), (rw (p .ends, q .ends, r .ends), tt))))
+-- three lists that pass refusal 3's test, each by itself
+pub each-list : (xs ys zs : List ℕ) (f : FileLists) → areLists (listsIn xs ys zs f) ≡ true
+    → (isList xs (f .metadata) ≡ true) × (isList ys (f .raw) ≡ true) × (isList zs (f .unclassified) ≡ true)
+each-list xs ys zs f e =
+    let p = and-true (isList xs (f .metadata)) _ e in
+    let q = and-true (isList ys (f .raw)) (isList zs (f .unclassified)) (p .1) in
+    (p .0, q .0, q .1)
 
-  pub length-is : slotLen slot xs (k .count) ys (l .count) zs (m .count) page 8 ≡ lenOf 8 (slotIn slot xs (k .count) ys (l .count) zs (m .count) page)
-  unfolding slotLen
-  length-is = first-pass (runTests xs (k .count) ys (l .count) zs (m .count) page 8) _ runs-pass
+-- ---- conditions in a row
 
--- ---- what the length of a slot's blocks says
+then-first : {A B : Type 0} (cs : List Condition) (x : Outcome A) (f : A → Outcome B) → andThen (firstOf cs x) f ≡ firstOf cs (andThen x f)
+unfolding firstOf andThen
+then-first [] x f = refl
+then-first {A} {B} (c ∷ cs) x f = pick (c .holds) (then-first cs x f)
+  where
+    pick : (t : Bool) → andThen (firstOf cs x) f ≡ firstOf cs (andThen x f)
+        → andThen (cond t (refused (c .refusal)) (firstOf cs x)) f ≡ cond t (refused (c .refusal)) (firstOf cs (andThen x f))
+    pick true e = refl
+    pick false e = e
 
-pub len-low : (l : List FreeSection) → space l ≤ top → blocksSize 8 l ≤ top → lenOf 8 l ≡ answer (blocksSize 8 l)
-unfolding lenOf
-len-low l h k = first-pass (sizeTests 8 l) _ (le-ltb top (space l) h, (le-ltb top (blocksSize 8 l) k, tt))
+-- refusal 4 by seven tests, and by four: the lengths are among the end
+seven : {A : Type 0} (p p′ q q′ r r′ e : Bool) (cs : List Condition) (x : Outcome A) → (p′ ≡ true → e ≡ true) → (q′ ≡ true → e ≡ true) → (r′ ≡ true → e ≡ true)
+    → firstOf (when p Overflow ∷ when p′ Overflow ∷ [])
+    (firstOf (when q Overflow ∷ when q′ Overflow ∷ []) (firstOf (when r Overflow ∷ when r′ Overflow ∷ []) (firstOf (when e Overflow ∷ cs) x)))
+    ≡ firstOf (when (p || (q || (r || e))) Overflow ∷ cs) x
+unfolding firstOf
+seven true p′ q q′ r r′ e cs x f g h = refl
+seven {A} false p′ true q′ r r′ e cs x f g h = pick p′
+  where
+    pick : (t : Bool) → cond t (refused {A = A} Overflow) (refused Overflow) ≡ refused Overflow
+    pick true = refl
+    pick false = refl
+seven {A} false p′ false q′ true r′ e cs x f g h = pick p′ q′
+  where
+    pick : (t u : Bool) → cond t (refused {A = A} Overflow) (cond u (refused Overflow) (refused Overflow)) ≡ refused Overflow
+    pick true u = refl
+    pick false true = refl
+    pick false false = refl
+seven {A} false p′ false q′ false r′ true cs x f g h = pick p′ q′ r′
+  where
+    pick : (t u v : Bool) → cond t (refused {A = A} Overflow) (cond u (refused Overflow) (cond v (refused Overflow) (refused Overflow))) ≡ refused Overflow
+    pick true u v = refl
+    pick false true v = refl
+    pick false false true = refl
+    pick false false false = refl
+seven false p′ false q′ false r′ false cs x f g h = rw (no p′ f, no q′ g, no r′ h)
+  where
+    no : (t : Bool) → (t ≡ true → false ≡ true) → t ≡ false
+    no true k = sym (k refl)
+    no false k = refl
 
-module _ (c : Number) (l : List FreeSection) (e : numberOutcome c ≡ lenOf 8 l) where
-  pub len-known : (n : ℕ) → c ≡ number.Is n → (n ≡ blocksSize 8 l) × (space l ≤ top)
-  unfolding lenOf
-  len-known n h =
-      let q = first-answers (sizeTests 8 l) (blocksSize 8 l) n (sym e ∙ ap numberOutcome h) in
-      (sym (q .1), ltb-false top (space l) (q .0 .0))
+-- ---- 8 bytes hold every address
 
-  pub len-over : (r : Refusal) → c ≡ number.Refused r → (top < space l) ⊎ (top < blocksSize 8 l)
-  len-over r h = ⊎-elim (λ (p : space l ≤ top). ⊎-elim (λ (q : blocksSize 8 l ≤ top). impossible p q) inr (le-or-lt (blocksSize 8 l) top)) inl (le-or-lt (space l) top)
-    where
-      impossible : space l ≤ top → blocksSize 8 l ≤ top → (top < space l) ⊎ (top < blocksSize 8 l)
-      impossible p q =
-          let z : refused r ≡ answer (blocksSize 8 l) = ap numberOutcome (sym h) ∙ e ∙ len-low l p q in
-          let y : _≡_ {A = ℕ} 0 1 = cc in
-          absurd (omega arith)
+narrow : (a : ℕ) → a ≤ top → wide 8 a ≡ false
+narrow a h = lt-leb (256 ^ 8) a (omega arith)
 
--- ---- a manager of the plan, at offset size 8 with the starting set
+narrow-all : (l : List FreeSection) → All (Ends top) l → anyWide 8 l ≡ false
+unfolding anyOf
+narrow-all [] h = refl
+narrow-all (s ∷ l) h = rw (narrow (s .addr) (omega (arith, h .0))) (narrow-all l (h .1))
 
-module _ (class : ℕ) (l : List FreeSection) where
-  size-is : managerSize 8 (startingSet 8) (manager class l) ≡ blocksSize 8 l
-  size-is = ap (λ (n : ℕ). cond (eqb (length l) 0) 0 (fshdSize 8 + n)) (add-zero (fsseUsed 8 (startingSet 8) l))
+narrow-block : (class a : ℕ) (m : Measure) → ((m .count ≡ 0 → ⊥) → a + 82 ≤ top) → wideBlock 8 (blockAt 8 class a m) ≡ false
+narrow-block class a m h = pick (eqb (m .count) 0) (eqb-false (m .count) 0)
+  where
+    pick : (t : Bool) → (t ≡ false → m .count ≡ 0 → ⊥) → (not t && (wide 8 (cond t (256 ^ 8 - 1) a) || wide 8 (cond t (256 ^ 8 - 1) (a + 82)))) ≡ false
+    pick true f = refl
+    pick false f = let k : a + 82 ≤ top = h (f refl) in rw (narrow a (omega arith), narrow (a + 82) k)
 
-  bytes-are : (a : ℕ) → managerBytes 8 (startingSet 8) lookup3 a (manager class l) ≡ slotBytes a class l
-  bytes-are a =
-      ap (λ (t : List ℕ). cond (eqb (length l) 0) [] (fshdBytes lookup3 8 (headerFor 8 (startingSet 8) (a + fshdSize 8) l) ++ t))
-      (append-nil (fsseFor 8 (startingSet 8) lookup3 a class l))
+room : (l : List FreeSection) → (length l ≡ 0 → ⊥) → 82 ≤ blocksSize 8 l
+room l n = omega (arith, size-least 8 l n)
 
-  pub length-bytes : (a : ℕ) → length (slotBytes a class l) ≡ blocksSize 8 l
-  length-bytes a = sym (ap length (bytes-are a)) ∙ length-manager 8 (startingSet 8) lookup3 a class l ∙ size-is
+-- ---- the plan of three lists
 
-slot-at : (start from : ℕ) (l : List FreeSection) → cond (eqb (length l) 0) top (start + from) ≡ slotAt start from (from + blocksSize 8 l)
-slot-at start from l =
-    ap (λ (t : Bool). cond t top (start + from))
-    (⊎-elim
-    (λ (h : length l ≤ 0). let z : length l ≡ 0 = omega arith in
-    eq-eqb (length l) 0 z ∙ sym (eq-eqb from (from + blocksSize 8 l) (omega (arith, size-none 8 l z))))
-    (λ (h : 0 < length l). let n : length l ≡ 0 → ⊥ = λ z. omega arith in
-    ne-eqb (length l) 0 n ∙ sym (ne-eqb from (from + blocksSize 8 l) (λ z. omega (arith, size-least 8 l (omega arith) n))))
-    (le-or-lt (length l) 0))
-
--- ---- the plan
-
-module _ (page : ℕ) (rs : Regions) where
+module _ (page start : ℕ) (rs : Regions) where
   abbrev S : List FreeSection
   S = small page rs
 
@@ -138,53 +151,155 @@ module _ (page : ℕ) (rs : Regions) where
   abbrev G : List FreeSection
   G = large page rs
 
-  pub total : blockLen page rs ≡ blocksSize 8 S + blocksSize 8 R + blocksSize 8 G
-  unfolding sizeOf
-  total = omega (arith, size-is 1 S, size-is 1 R, size-is 2 G)
+  abbrev pub M : Measures
+  M = record { slot0 = measureOf 8 S; slot2 = measureOf 8 R; slot6 = measureOf 8 G }
 
-  module _ (start : ℕ) where
-    abbrev second : ℕ
-    second = start + blocksSize 8 S
+  pub len-is : blockLen page rs ≡ blocksSize 8 S + blocksSize 8 R + blocksSize 8 G
+  len-is = plan-size 8 page (asSections (rs Metadata)) (asSections (rs Raw)) (asSections (rs Unclassified))
 
-    abbrev third : ℕ
-    third = start + (blocksSize 8 S + blocksSize 8 R)
+  pub end-is : endAt start M ≡ start + blockLen page rs
+  end-is = omega (arith, len-is)
 
-    pub blocks-are : blockBytes page start rs ≡ (slotBytes start 1 S ++ slotBytes second 1 R) ++ slotBytes third 2 G
-    unfolding blocksFrom
-    blocks-are =
-        let x = managerSize 8 (startingSet 8) (manager 1 S) in
-        let y = managerSize 8 (startingSet 8) (manager 1 R) in
-        let p : start + x + 0 ≡ second = omega (arith, size-is 1 S) in
-        let q : start + x + 0 + y + 0 + 0 + 0 ≡ third = omega (arith, size-is 1 S, size-is 1 R) in
-        ap₂ (λ (u v : List ℕ). u ++ v) (bytes-are 1 S start)
-        (ap₂ (λ (u v : List ℕ). u ++ v) (bytes-are 1 R (start + x + 0) ∙ ap (λ (a : ℕ). slotBytes a 1 R) p)
-        (append-nil _ ∙ bytes-are 2 G (start + x + 0 + y + 0 + 0 + 0) ∙ ap (λ (a : ℕ). slotBytes a 2 G) q))
-        ∙ sym (append-assoc (slotBytes start 1 S) (slotBytes second 1 R) (slotBytes third 2 G))
+  -- what refusal 4 leaves
+  pub record Sums : Type 0 where
+    pub sum0 : space S ≤ top
+    pub sum2 : space R ≤ top
+    pub sum6 : space G ≤ top
+    pub last : start + blockLen page rs ≤ top
 
-    pub slots-are : slotAddrs page start rs ≡ slotsAt start (offsetsOf page rs)
-    unfolding slotsFrom
-    slots-are =
-        let x = managerSize 8 (startingSet 8) (manager 1 S) in
-        let y = managerSize 8 (startingSet 8) (manager 1 R) in
-        let p : start + x + 0 ≡ second = omega (arith, size-is 1 S) in
-        let q : start + x + 0 + y + 0 + 0 + 0 ≡ third = omega (arith, size-is 1 S, size-is 1 R) in
-        let a : cond (eqb (length S) 0) top start ≡ slotAt start 0 (blocksSize 8 S) =
-        ap (λ (n : ℕ). cond (eqb (length S) 0) top n) (sym (add-zero start)) ∙ slot-at start 0 S ∙ rw zero-add in
-        let b = ap (λ (n : ℕ). cond (eqb (length R) 0) top n) p ∙ slot-at start (blocksSize 8 S) R in
-        let c = ap (λ (n : ℕ). cond (eqb (length G) 0) top n) q ∙ slot-at start (blocksSize 8 S + blocksSize 8 R) G in
-        λ i. a i ∷ top ∷ b i ∷ top ∷ top ∷ top ∷ c i ∷ top ∷ top ∷ top ∷ top ∷ top ∷ []
+  pub sums : tooLarge page start rs ≡ false → Sums
+  sums e =
+      let p = or-false (ltb top (space S)) _ e in
+      let q = or-false (ltb top (space R)) _ (p .1) in
+      let r = or-false (ltb top (space G)) (ltb top (start + blockLen page rs)) (q .1) in
+      record {
+        sum0 = ltb-false top (space S) (p .0);
+        sum2 = ltb-false top (space R) (q .0);
+        sum6 = ltb-false top (space G) (r .0);
+        last = ltb-false top (start + blockLen page rs) (r .1);
+      }
 
--- ---- the plan's sections by the runs
+  abbrev pub wideTest : Bool
+  wideTest = wideManagers 8 (managersAt 8 start M) || (anyWide 8 S || (anyWide 8 R || anyWide 8 G))
 
-module _ (xs ys zs : List ℕ) (f : FileLists) (page : ℕ) where
+  abbrev pub later : List Condition
+  later = when (repeats G) SharedAddress ∷ when wideTest WideAddress ∷ []
+
+  in-four : firstOf (sizeTests 8 S) (firstOf (sizeTests 8 R) (firstOf (sizeTests 8 G) (firstOf (when (ltb top (endAt start M)) Overflow ∷ later) (answer (blocksAt 8 start M)))))
+      ≡ firstOf (when (tooLarge page start rs) Overflow ∷ later) (answer (blocksAt 8 start M))
+  in-four =
+      ap (λ (n : ℕ). firstOf (sizeTests 8 S) (firstOf (sizeTests 8 R) (firstOf (sizeTests 8 G) (firstOf (when (ltb top n) Overflow ∷ later) (answer (blocksAt 8 start M)))))) end-is
+      ∙ seven (ltb top (space S)) (ltb top (blocksSize 8 S)) (ltb top (space R)) (ltb top (blocksSize 8 R)) (ltb top (space G)) (ltb top (blocksSize 8 G))
+      (ltb top (start + blockLen page rs)) later (answer (blocksAt 8 start M))
+      (λ t. let k = ltb-true top (blocksSize 8 S) t in lt-ltb top (start + blockLen page rs) (omega (arith, len-is)))
+      (λ t. let k = ltb-true top (blocksSize 8 R) t in lt-ltb top (start + blockLen page rs) (omega (arith, len-is)))
+      (λ t. let k = ltb-true top (blocksSize 8 G) t in lt-ltb top (start + blockLen page rs) (omega (arith, len-is)))
+
+  module _ (ends : (i : Which) → All (Ends top) (asSections (rs i))) where
+    no-wide : tooLarge page start rs ≡ false → wideTest ≡ false
+    no-wide e =
+        let s = sums e in
+        let p = small-plan page rs ends (s .sum0) (s .sum2) (s .sum6) in
+        let a0 : wideBlock 8 (blockAt 8 1 start (M .slot0)) ≡ false = narrow-block 1 start (M .slot0) (λ n. omega (arith, s .last, len-is, room S n)) in
+        let a2 : wideBlock 8 (blockAt 8 1 (start + blocksSize 8 S) (M .slot2)) ≡ false = narrow-block 1 (start + blocksSize 8 S) (M .slot2) (λ n. omega (arith, s .last, len-is, room R n)) in
+        let a6 : wideBlock 8 (blockAt 8 2 (start + blocksSize 8 S + blocksSize 8 R) (M .slot6)) ≡ false =
+        narrow-block 2 (start + blocksSize 8 S + blocksSize 8 R) (M .slot6) (λ n. omega (arith, s .last, len-is, room G n)) in
+        rw (a0, a2, a6, narrow-all S (p .0 .1), narrow-all R (p .1 .1 .0 .1), narrow-all G (p .1 .1 .1 .1 .1 .1 .0 .1))
+
+-- ---- by the runs
+
+module _ (xs ys zs : List ℕ) (f : FileLists) (page start : ℕ) (some : 0 < page) (lists : areLists (listsIn xs ys zs f) ≡ true) where
   abbrev rs : Regions
   rs = regionsIn (listsIn xs ys zs f)
 
-  pub small-is : slotIn Small xs (f .metadata .count) xs (f .metadata .count) xs (f .metadata .count) page ≡ small page rs
-  small-is = ap (slot0 page) (decode-sections (f .metadata .count) xs)
+  abbrev n : Counts
+  n = countsIn f
 
-  pub raw-is : slotIn Small ys (f .raw .count) ys (f .raw .count) ys (f .raw .count) page ≡ smallRaw page rs
-  raw-is = ap (slot0 page) (decode-sections (f .raw .count) ys)
+  runs-pass : NoneHolds (runTests xs ys zs n page 8)
+  runs-pass =
+      let v = each-list xs ys zs f lists in
+      let p = fine xs (f .metadata) (v .0) in
+      let q = fine ys (f .raw) (v .1) in
+      let r = fine zs (f .unclassified) (v .2) in
+      (refl, (ne-eqb page 0 (λ z. omega arith), (rw (p .run, q .run, r .run), (rw (p .ends, q .ends, r .ends), tt))))
 
-  pub large-is : slotIn Large xs (f .metadata .count) ys (f .raw .count) zs (f .unclassified .count) page ≡ large page rs
-  large-is = λ i. slot6 page (decode-sections (f .metadata .count) xs i) (decode-sections (f .raw .count) ys i) (decode-sections (f .unclassified .count) zs i)
+  pub valid : (i : Which) → okFrom 0 (rs i) ≡ true
+  valid Metadata = listed xs (f .metadata) (each-list xs ys zs f lists .0) .ok
+  valid Raw = listed ys (f .raw) (each-list xs ys zs f lists .1) .ok
+  valid Unclassified = listed zs (f .unclassified) (each-list xs ys zs f lists .2) .ok
+
+  ends : (i : Which) → All (Ends top) (asSections (rs i))
+  ends i = list-ends 0 top (rs i) (ok-prop 0 (rs i) .0 (valid i))
+
+  abbrev e0 : decode (f .metadata .count) xs ≡ asSections (rs Metadata)
+  e0 = decode-sections (f .metadata .count) xs
+
+  abbrev e2 : decode (f .raw .count) ys ≡ asSections (rs Raw)
+  e2 = decode-sections (f .raw .count) ys
+
+  abbrev e6 : decode (f .unclassified .count) zs ≡ asSections (rs Unclassified)
+  e6 = decode-sections (f .unclassified .count) zs
+
+  abbrev Ms : List FreeSection → List FreeSection → List FreeSection → Measures
+  Ms m r u = record { slot0 = measureOf 8 (slot0 page m); slot2 = measureOf 8 (slot2 page r); slot6 = measureOf 8 (slot6 page m r u) }
+
+  -- the plan of three lists of sections, after the tests of their runs
+  abbrev planOf : List FreeSection → List FreeSection → List FreeSection → Outcome BlocksPlan
+  planOf m r u =
+      firstOf (sizeTests 8 (slot0 page m))
+      (firstOf (sizeTests 8 (slot2 page r))
+      (firstOf (sizeTests 8 (slot6 page m r u))
+      (firstOf
+      (when (ltb top (endAt start (Ms m r u))) Overflow
+      ∷ when (repeats (slot6 page m r u)) SharedAddress
+      ∷ when (wideManagers 8 (managersAt 8 start (Ms m r u)) || (anyWide 8 (slot0 page m) || (anyWide 8 (slot2 page r) || anyWide 8 (slot6 page m r u)))) WideAddress
+      ∷ [])
+      (answer (blocksAt 8 start (Ms m r u))))))
+
+  pub planned-is : plannedBlocks xs ys zs n page start 8 ≡ firstOf (when (tooLarge page start rs) Overflow ∷ later page start rs) (answer (blocksAt 8 start (M page start rs)))
+  unfolding plannedBlocks slotsMeasured plannedFrom andThen
+  planned-is =
+      first-pass (runTests xs ys zs n page 8) _ runs-pass
+      ∙ then-first (sizeTests 8 (inSlot0 (paged n page) xs ys zs)) _ (λ m. plannedFrom xs ys zs (paged n page) m start 8)
+      ∙ ap (firstOf (sizeTests 8 (inSlot0 (paged n page) xs ys zs)))
+      (then-first (sizeTests 8 (inSlot2 (paged n page) xs ys zs)) _ (λ m. plannedFrom xs ys zs (paged n page) m start 8)
+      ∙ ap (firstOf (sizeTests 8 (inSlot2 (paged n page) xs ys zs)))
+      (then-first (sizeTests 8 (inLarge (paged n page) xs ys zs)) (answer (measuresOf (paged n page) xs ys zs 8)) (λ m. plannedFrom xs ys zs (paged n page) m start 8)))
+      ∙ (λ i. planOf (e0 i) (e2 i) (e6 i))
+      ∙ in-four page start rs
+
+  -- ---- and its blocks, where no two lists share a byte
+
+  module _ (apart : sharedByte rs ≡ false) (d : List ℕ) where
+    abbrev L : ℕ
+    L = blockLen page rs
+
+    none-later : tooLarge page start rs ≡ false → NoneHolds (later page start rs)
+    none-later e = (slot6-once page rs some valid apart, (no-wide page start rs ends e, tt))
+
+    after-first : {A : Type 0} (t : Bool) (cs : List Condition) (y : Outcome A) → (t ≡ false → NoneHolds cs) → firstOf (when t Overflow ∷ cs) y ≡ firstOf (when t Overflow ∷ []) y
+    unfolding firstOf
+    after-first true cs y h = refl
+    after-first false cs y h = first-pass cs y (h refl)
+
+    abbrev short : BlocksPlan → Outcome (With BlocksPlan (List ℕ))
+    short p = firstOf (when (ltb (length d) L) (OverCapacity L (length d)) ∷ []) (answer (with p (over 0 (blockBytes page start rs) d)))
+
+    pub written-is : writtenManagers xs ys zs n page start 8 d
+        ≡ firstOf (when (tooLarge page start rs) Overflow ∷ when (ltb (length d) L) (OverCapacity L (length d)) ∷ [])
+        (answer (with (blocksAt 8 start (M page start rs)) (over 0 (blockBytes page start rs) d)))
+    unfolding writtenManagers andThen
+    written-is =
+        (λ i. let ms = managersOf page (e0 i) (e2 i) (e6 i) in
+        andThen (planned-is i)
+        (λ p. firstOf (when (ltb (length d) (sizeOf 8 (startingSet 8) ms)) (OverCapacity (sizeOf 8 (startingSet 8) ms) (length d)) ∷ [])
+        (answer (with p (over 0 (blocksFrom 8 (startingSet 8) lookup3 start ms) d)))))
+        ∙ then-first (when (tooLarge page start rs) Overflow ∷ later page start rs) (answer (blocksAt 8 start (M page start rs))) short
+        ∙ last
+      where
+        last : firstOf (when (tooLarge page start rs) Overflow ∷ later page start rs) (andThen (answer (blocksAt 8 start (M page start rs))) short)
+            ≡ firstOf (when (tooLarge page start rs) Overflow ∷ when (ltb (length d) L) (OverCapacity L (length d)) ∷ [])
+            (answer (with (blocksAt 8 start (M page start rs)) (over 0 (blockBytes page start rs) d)))
+        last =
+            after-first (tooLarge page start rs) (later page start rs) (short (blocksAt 8 start (M page start rs))) none-later
+            ∙ sym (first-append (when (tooLarge page start rs) Overflow ∷ []) (when (ltb (length d) L) (OverCapacity L (length d)) ∷ []) _)

@@ -1,75 +1,61 @@
 -- What the contracts of the private functions of a beginning say. No public contract cites this file. Assumes nothing.
---   offsetsOf     where the blocks of slots 2 and 6 begin and where all end, counted from `start`
---   conditions    all refusals of a beginning, in their order
---   testedOutcome   the outcome that an answer of the code stands for
---   slotAt        a slot's address: undefined where its blocks, between two offsets, are none
---   slotsAt       the twelve slots of the message by the offsets
+--   countsIn      how many regions three lists have
+--   awayTests     refusals 8, 9, and 13 for the message and the free regions: those that no plan is needed for; earlyTests 5 before them
+--   begunAfter    a beginning where none of these holds: refusals 4, 13 for the blocks, 14; the record and the scratch
+--   slotsBy       the twelve slots of the message by a plan
 --   messageBy     the message by them
---   slotIn        the sections of a slot, by three runs of regions and their counts
---   SlotFits      a slot's runs pass the tests of its length, and its blocks end within 64 bits and within the scratch
---   ScratchFits   what the tests leave for the writing
-use mathlib.Core.Path.{_≡_}
-use Prim.Native.Nat.{ℕ, _+_, _≤_, _<_}
-use mathlib.Core.Bool.{true, false, cond}
-use mathlib.Core.List.{List, [], _∷_, _++_}
-use lib.Dec.{eqb}
-use Rattle.error.specs.Outcome.{Outcome, answer, refused, Condition}
+use Prim.Native.Nat.{ℕ, _+_}
+use mathlib.Core.Bool.{true, _&&_, _||_, not}
+use mathlib.Core.List.{List, [], _∷_}
+use lib.Dec.{ltb, eqb}
+use lib.ListN.{length, getD}
+use Rattle.error.specs.declared.Refusal.the-variants as refusal
+use Rattle.error.specs.Outcome.{Outcome, answer, Condition, when, firstOf}
+use Rattle.error.specs.Lent.{With, with}
 use Rattle.fields.specs.Ranges.{top}
-use Rattle.free_lists.specs.Lists.{Lists, Regions, regionsIn, areLists}
-use Rattle.fsm_sections.specs.declared.FreeSection.{FreeSection}
-use Rattle.fsm_sections.specs.Sections.{decode}
-use Rattle.fsm_writer.specs.declared.slots.Slot.{Slot}
-use Rattle.fsm_writer.specs.Serializing.{blocksSize}
-use Rattle.fsm_writer.specs.Slots.{slotOf, slotLen}
+use Rattle.free_lists.specs.declared.FileLists.{FileLists}
+use Rattle.free_lists.specs.Lists.{Regions, sharedByte}
+use Rattle.fsm_plan.specs.declared.Counts.{Counts}
+use Rattle.fsm_plan.specs.declared.blocks.PagedManagerPlan.{PagedManagerPlan}
 use Rattle.file_space_info.specs.declared.FileSpaceStrategy.the-variants as strategy
 use Rattle.file_space_info.specs.Message.{messageLen, messageBytes}
 use Rattle.file_space_info.specs.Infos.{made}
-use Rattle.save.specs.declared.conditions.Offsets.{Offsets}
-use Rattle.save.specs.declared.conditions.Tested.{Tested}
-use Rattle.save.specs.declared.conditions.Tested.the-variants as code
-use Rattle.save.specs.Saving.{small, smallRaw, large, tooLarge, regionTests, listTests}
+use Rattle.save_step.specs.declared.Save.{Save}
+use Rattle.save.specs.Saving.{blockLen, tooLarge, messageIn, blocksOut, anyInTheWay, firstRecord, filled}
 
-abbrev pub offsetsOf : ℕ → Regions → Offsets
-offsetsOf page rs =
-    let first = blocksSize 8 (small page rs) in
-    let second = first + blocksSize 8 (smallRaw page rs) in
-    record { raw = first; large = second; len = second + blocksSize 8 (large page rs) }
+abbrev pub countsIn : FileLists → Counts
+countsIn f = record { meta = f .metadata .count; raw = f .raw .count; unclassified = f .unclassified .count }
 
 -- ---- the tests
 
--- `given` is the length of the scratch
-abbrev pub conditions : Lists → ℕ → ℕ → ℕ → List ℕ → ℕ → List Condition
-conditions ls page start place image given = listTests ls page ++ regionTests (regionsIn ls) page start place image given
+module _ (rs : Regions) (start place : ℕ) (image : List ℕ) where
+  abbrev pub awayTests : List Condition
+  awayTests =
+      let version = getD image place 0 in
+      let code = getD image (place + 1) 0 in
+      when (messageIn place image && not (eqb version 1)) (refusal.MessageVersion version)
+      ∷ when (messageIn place image && ltb 3 code) (refusal.Strategy code)
+      ∷ when (not (messageIn place image) || anyInTheWay start place rs) refusal.Place
+      ∷ []
 
-abbrev pub testedOutcome : Tested → Outcome Offsets
-testedOutcome (code.Passed o) = answer o
-testedOutcome (code.Refused r) = refused r
+  abbrev pub earlyTests : List Condition
+  earlyTests = when (sharedByte rs) refusal.SharedAddress ∷ awayTests
 
--- ---- the writing
+unfoldable pub begunAfter : Regions → ℕ → ℕ → ℕ → List ℕ → List ℕ → Outcome (With Save (List ℕ))
+begunAfter rs page start place image scratch =
+    let L = blockLen page rs in
+    firstOf
+    (when (tooLarge page start rs) refusal.Overflow
+    ∷ when (blocksOut L start place image) refusal.Place
+    ∷ when (ltb (length scratch) (L + messageLen)) (refusal.OverCapacity (L + messageLen) (length scratch))
+    ∷ [])
+    (answer (with (firstRecord rs page start place) (filled page start rs scratch)))
 
-abbrev pub slotAt : ℕ → ℕ → ℕ → ℕ
-slotAt start from to = cond (eqb from to) top (start + from)
+-- ---- the message
 
-abbrev pub slotsAt : ℕ → Offsets → List ℕ
-slotsAt start o =
-    slotAt start 0 (o .raw) ∷ top ∷ slotAt start (o .raw) (o .large) ∷ top ∷ top ∷ top
-    ∷ slotAt start (o .large) (o .len) ∷ top ∷ top ∷ top ∷ top ∷ top ∷ []
+abbrev pub slotsBy : PagedManagerPlan → List ℕ
+slotsBy p =
+    p .slot0 .«fshd_addr» ∷ top ∷ p .slot2 .«fshd_addr» ∷ top ∷ top ∷ top ∷ p .slot6 .«fshd_addr» ∷ top ∷ top ∷ top ∷ top ∷ top ∷ []
 
-abbrev pub messageBy : ℕ → ℕ → Offsets → List ℕ
-messageBy page start o = messageBytes 8 8 (made true strategy.Page 1 page start) (slotsAt start o)
-
-module _ (slot : Slot) (xs : List ℕ) (n : ℕ) (ys : List ℕ) (m : ℕ) (zs : List ℕ) (k page : ℕ) where
-  abbrev pub slotIn : List FreeSection
-  slotIn = slotOf slot page (decode n xs) (decode m ys) (decode k zs)
-
-  pub record SlotFits (start at given : ℕ) : Type 0 where
-    pub measured : slotLen slot xs n ys m zs k page 8 ≡ answer (blocksSize 8 slotIn)
-    pub last : start + at + blocksSize 8 slotIn ≤ top
-    pub room : at + blocksSize 8 slotIn ≤ given
-
-pub record ScratchFits (ls : Lists) (page start : ℕ) (o : Offsets) (given : ℕ) : Type 0 where
-  pub some : 0 < page
-  pub lists : areLists ls ≡ true
-  pub fits : tooLarge page start (regionsIn ls) ≡ false
-  pub offsets : o ≡ offsetsOf page (regionsIn ls)
-  pub room : o .len + messageLen ≤ given
+abbrev pub messageBy : ℕ → ℕ → PagedManagerPlan → List ℕ
+messageBy page start p = messageBytes 8 8 (made true strategy.Page 1 page start) (slotsBy p)

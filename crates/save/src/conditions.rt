@@ -1,95 +1,25 @@
-// The tests of a beginning, lowest refusal first: 2, 3, 4, 5, 8, 9, 13, 14. They read what is lent and change nothing.
+// The tests of a beginning that need no plan: 5, 8, 9, and 13 for the message and the free regions. They read what is lent and change nothing.
 ghost use mathlib.Core.Path.{_≡_};
-ghost use Prim.Native.Nat.{_+_, _≤_, _<_};
+ghost use Prim.Native.Nat.{ℕ, _+_, _≤_, _<_};
 ghost use mathlib.Core.Bool.{true, _||_};
-ghost use mathlib.Core.List.{[], _∷_};
 ghost use lib.Dec.{ltb};
-ghost use lib.ListN.{length};
-ghost use Rattle.error.specs.declared.Refusal.the-variants.{Overflow, OverCapacity};
 ghost use Rattle.error.specs.Answers.{checkedOutcome};
-ghost use Rattle.error.specs.Outcome.{answer, when, firstOf};
+ghost use Rattle.error.specs.Outcome.{answer, firstOf};
 ghost use Rattle.fields.specs.Ranges.{top};
 ghost use Rattle.free_regions.specs.Regions.{region, meets};
 ghost use Rattle.free_space.specs.Runs.{regions, isList};
 ghost use Rattle.free_lists.specs.Lists.{listsIn, regionsIn, areLists};
-ghost use Rattle.save.specs.Saving.{tooLarge, inTheWay, messageIn, blocksOut, anyInTheWay, placeTests, lateTests};
-ghost use Rattle.save.specs.Beginning.{offsetsOf, conditions, testedOutcome};
+ghost use Rattle.save.specs.Saving.{inTheWay, messageIn, blocksOut, anyInTheWay};
+ghost use Rattle.save.specs.Beginning.{awayTests, earlyTests};
 use crate::Target;
 use error::Checked;
-use error::Number;
 use error::Refusal;
 use file_space_info::MESSAGE_LEN;
 use free_lists::FileLists;
-use free_lists::are_lists;
 use free_lists::check_lists;
 use free_space::list::FreeList;
-use fsm_writer::slots::Slot;
-use fsm_writer::slots::slot_len;
-use numbers::MAX;
-
-// Counted from the first block byte: slot 0 has the blocks up to `raw`, slot 2 those up to `large`, slot 6 those up to `len`.
-pub(crate) struct Offsets {
-    pub raw: u64,
-    pub large: u64,
-    pub len: u64,
-}
-
-// The offsets of a plan that no test refuses.
-pub(crate) enum Tested {
-    Passed(Offsets),
-    Refused(Refusal),
-}
-
-// Whether three lengths from `start` on end above 2^64 - 1.
-fn ends_above(start: u64, a: u64, b: u64, c: u64) -> bool
-    ensures { λ r. ⌜ r ≡ ltb top (start + (a + b + c)) ⌝ }
-{
-    let room = MAX - start;
-    if room < a {
-        return true;
-    }
-    if room - a < b {
-        return true;
-    }
-    room - a - b < c
-}
-
-// The offsets of the plan's blocks: refusal 4.
-fn plan_offsets(
-    meta: &[u64],
-    raw: &[u64],
-    unclassified: &[u64],
-    lists: FileLists,
-    to: Target,
-) -> Tested
-    requires page { ⌜ 0 < to .page ⌝ }
-    requires lists { ⌜ areLists (listsIn (now meta) (now raw) (now unclassified) lists) ≡ true ⌝ }
-    ensures { λ r. ⌜ testedOutcome r ≡ firstOf (when (tooLarge (to .page) (to .start) (regionsIn (listsIn (now (meta .entry)) (now (raw .entry)) (now (unclassified .entry)) lists))) Overflow ∷ []) (answer (offsetsOf (to .page) (regionsIn (listsIn (now (meta .entry)) (now (raw .entry)) (now (unclassified .entry)) lists)))) ⌝ }
-{
-    let m = lists.metadata.count;
-    let r = lists.raw.count;
-    let u = lists.unclassified.count;
-    let page = to.page;
-    let Number::Is(first) = slot_len(Slot::Small, meta, m, meta, m, meta, m, page, 8) else {
-        return Tested::Refused(Refusal::Overflow);
-    };
-    let Number::Is(second) = slot_len(Slot::Small, raw, r, raw, r, raw, r, page, 8) else {
-        return Tested::Refused(Refusal::Overflow);
-    };
-    let Number::Is(third) = slot_len(Slot::Large, meta, m, raw, r, unclassified, u, page, 8) else {
-        return Tested::Refused(Refusal::Overflow);
-    };
-    if ends_above(to.start, first, second, third) {
-        return Tested::Refused(Refusal::Overflow);
-    }
-    let large = first + second;
-    let len = large + third;
-    Tested::Passed(Offsets {
-        raw: first,
-        large: large,
-        len: len,
-    })
-}
+use numbers::min;
+use numbers::saturating_sub;
 
 // Whether the message at `place` lies in the image.
 fn message_in(place: u64, image: &[u8]) -> bool
@@ -114,18 +44,16 @@ fn meet(a: u64, a_len: u64, b: u64, b_len: u64) -> bool
     b < a + a_len
 }
 
-// Whether the blocks leave the image or overlap the message.
-fn blocks_out(len: u64, start: u64, place: u64, image: &[u8]) -> bool
-    requires { ⌜ (start + len ≤ top) × (place + 125 ≤ top) ⌝ }
-    ensures { λ r. ⌜ r ≡ blocksOut len start place (now (image .entry)) ⌝ }
+// How many bytes of blocks stand within the image from `to.start` on without overlapping the message: more of them leave it or do.
+pub(crate) fn block_room(to: Target, image: &[u8]) -> u64
+    requires { ⌜ messageIn (to .place) (now image) ≡ true ⌝ }
+    ensures { λ r. ⌜ ((L : ℕ) → blocksOut L (to .start) (to .place) (now (image .entry)) ≡ ltb r L) ⌝ }
 {
-    if len == 0 {
-        return false;
+    let room = saturating_sub(image.len() as u64, to.start);
+    if to.start < to.place + MESSAGE_LEN {
+        return min(room, saturating_sub(to.place, to.start));
     }
-    if (image.len() as u64) < start + len {
-        return true;
-    }
-    meet(start, len, place, MESSAGE_LEN)
+    room
 }
 
 // Whether a region ends past `start` or meets the message.
@@ -176,36 +104,19 @@ fn any_in_the_way(
     in_the_way(unclassified, lists.unclassified, to.start, to.place)
 }
 
-// Refusal 14. The blocks are no longer than the image.
-fn test_room(len: u64, image: &[u8], given: usize) -> Checked
-    requires { ⌜ len ≤ length (now image) ⌝ }
-    ensures { λ r. ⌜ checkedOutcome r ≡ firstOf (when (ltb given (len + 125)) (OverCapacity (len + 125) given) ∷ []) (answer tt) ⌝ }
-{
-    let needed = len + MESSAGE_LEN;
-    let room = given as u64;
-    if room < needed {
-        return Checked::Refused(Refusal::OverCapacity {
-            needed: needed,
-            given: room,
-        });
-    }
-    Checked::Passed
-}
-
-// Refusals 8, 9, 13 and 14. A message that leaves the image is 13 and has no bytes for 8 and 9 to test.
-fn test_place(
+// Refusals 8, 9 and 13. A message that leaves the image is 13 and has no bytes for 8 and 9 to test.
+fn test_away(
     meta: &[u64],
     raw: &[u64],
     unclassified: &[u64],
     lists: FileLists,
-    len: u64,
     to: Target,
     image: &[u8],
-    given: usize,
 ) -> Checked
     requires lists { ⌜ areLists (listsIn (now meta) (now raw) (now unclassified) lists) ≡ true ⌝ }
-    requires last { ⌜ to .start + len ≤ top ⌝ }
-    ensures { λ r. ⌜ checkedOutcome r ≡ firstOf (placeTests (regionsIn (listsIn (now (meta .entry)) (now (raw .entry)) (now (unclassified .entry)) lists)) len (to .start) (to .place) (now (image .entry)) given) (answer tt) ⌝ }
+    ensures { λ r. ⌜ checkedOutcome r ≡ firstOf
+        (awayTests (regionsIn (listsIn (now (meta .entry)) (now (raw .entry)) (now (unclassified .entry)) lists)) (to .start) (to .place)
+        (now (image .entry))) (answer tt) ⌝ }
 {
     if !message_in(to.place, image) {
         return Checked::Refused(Refusal::Place);
@@ -219,73 +130,29 @@ fn test_place(
     if 3 < code {
         return Checked::Refused(Refusal::Strategy(code));
     }
-    if blocks_out(len, to.start, to.place, image) {
-        return Checked::Refused(Refusal::Place);
-    }
     if any_in_the_way(meta, raw, unclassified, lists, to) {
         return Checked::Refused(Refusal::Place);
     }
-    test_room(len, image, given)
+    Checked::Passed
 }
 
 // Refusal 5 and then those.
-fn test_late(
+pub(crate) fn test_early(
     meta: &[u64],
     raw: &[u64],
     unclassified: &[u64],
     lists: FileLists,
-    len: u64,
     to: Target,
     image: &[u8],
-    given: usize,
 ) -> Checked
     requires lists { ⌜ areLists (listsIn (now meta) (now raw) (now unclassified) lists) ≡ true ⌝ }
-    requires last { ⌜ to .start + len ≤ top ⌝ }
-    ensures { λ r. ⌜ checkedOutcome r ≡ firstOf (lateTests (regionsIn (listsIn (now (meta .entry)) (now (raw .entry)) (now (unclassified .entry)) lists)) len (to .start) (to .place) (now (image .entry)) given) (answer tt) ⌝ }
+    ensures { λ r. ⌜ checkedOutcome r ≡ firstOf
+        (earlyTests (regionsIn (listsIn (now (meta .entry)) (now (raw .entry)) (now (unclassified .entry)) lists)) (to .start) (to .place)
+        (now (image .entry))) (answer tt) ⌝ }
 {
     let shared = check_lists(meta, raw, unclassified, lists);
     match shared {
         Checked::Refused(r) => Checked::Refused(r),
-        Checked::Passed => test_place(meta, raw, unclassified, lists, len, to, image, given),
-    }
-}
-
-// All tests of a beginning; `given` is the length of the scratch.
-pub(crate) fn test_begin(
-    meta: &[u64],
-    raw: &[u64],
-    unclassified: &[u64],
-    lists: FileLists,
-    to: Target,
-    image: &[u8],
-    given: usize,
-) -> Tested
-    ensures { λ r. ⌜ testedOutcome r ≡ firstOf (conditions (listsIn (now (meta .entry)) (now (raw .entry)) (now (unclassified .entry)) lists) (to .page) (to .start) (to .place) (now (image .entry)) given) (answer (offsetsOf (to .page) (regionsIn (listsIn (now (meta .entry)) (now (raw .entry)) (now (unclassified .entry)) lists)))) ⌝ }
-{
-    if to.page == 0 {
-        return Tested::Refused(Refusal::Page);
-    }
-    if !are_lists(meta, raw, unclassified, lists) {
-        return Tested::Refused(Refusal::NotAList);
-    }
-    let planned = plan_offsets(meta, raw, unclassified, lists, to);
-    match planned {
-        Tested::Refused(r) => Tested::Refused(r),
-        Tested::Passed(offsets) => {
-            let late = test_late(
-                meta,
-                raw,
-                unclassified,
-                lists,
-                offsets.len,
-                to,
-                image,
-                given,
-            );
-            match late {
-                Checked::Refused(r) => Tested::Refused(r),
-                Checked::Passed => Tested::Passed(offsets),
-            }
-        }
+        Checked::Passed => test_away(meta, raw, unclassified, lists, to, image),
     }
 }

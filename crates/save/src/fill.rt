@@ -1,91 +1,59 @@
-// What an accepted beginning writes into the scratch: the blocks of slots 0, 2 and 6, and after them the message.
+// What a beginning does after its tests: it plans the blocks, writes them into the scratch, and after them the message.
 ghost use mathlib.Core.Path.{_≡_};
-ghost use Prim.Native.Nat.{_+_, _≤_};
-ghost use mathlib.Core.List.{_++_};
+ghost use Prim.Native.Nat.{ℕ, _+_, _-_, _≤_, _<_};
+ghost use mathlib.Core.Bool.{true, false};
+ghost use mathlib.Core.List.{[], _∷_};
 ghost use lib.ListN.{length};
-ghost use Rattle.error.specs.Lent.{over};
+ghost use Rattle.error.specs.declared.Refusal.the-variants.{Overflow, OverCapacity};
+ghost use Rattle.error.specs.Outcome.{Outcome, refused, when, firstOf};
+ghost use Rattle.error.specs.Lent.{left, leaving, over};
 ghost use Rattle.fields.specs.Ranges.{top};
-ghost use Rattle.fsm_writer.specs.Slots.{slotBytes};
-ghost use Rattle.free_lists.specs.Lists.{listsIn, regionsIn};
-ghost use Rattle.save.specs.Saving.{blockBytes, messageOf};
-ghost use Rattle.save.specs.Beginning.{slotAt, messageBy, slotIn, SlotFits, ScratchFits};
+ghost use Rattle.free_lists.specs.Lists.{listsIn, regionsIn, areLists, sharedByte};
+ghost use Rattle.save_step.specs.declared.Save.{Save};
+ghost use Rattle.save.specs.Saving.{tooLarge, messageIn, beginOutcome};
+ghost use Rattle.save.specs.Beginning.{countsIn, messageBy, begunAfter};
+use crate::Begin;
 use crate::Target;
-use crate::conditions::Offsets;
+use crate::conditions::block_room;
+use error::Refusal;
 use fields::convert::UNDEF;
 use file_space_info::DEFAULT_THRESHOLD;
 use file_space_info::FileSpaceInfo;
 use file_space_info::FileSpaceStrategy;
+use file_space_info::MESSAGE_LEN;
 use free_lists::FileLists;
-use fsm_writer::slots::Slot;
-use fsm_writer::slots::write_slot;
+use fsm_plan::Counts;
+use fsm_plan::blocks::BlocksPlanned;
+use fsm_plan::blocks::PagedManagerPlan;
+use fsm_plan::blocks::plan_blocks;
+use fsm_writer::managers::serialize_paged_managers;
+use numbers::min;
+use numbers::saturating_sub;
+use save_step::Save;
 
-// The class of the sections below a page, and of those of whole pages.
-const SMALL_CLASS: u8 = 1;
-
-const LARGE_CLASS: u8 = 2;
-
-// Writes the blocks of a slot, `at` bytes after the first block.
-fn put_slot(
-    slot: Slot,
-    a: &[u64],
-    na: usize,
-    b: &[u64],
-    nb: usize,
-    c: &[u64],
-    nc: usize,
-    page: u64,
-    start: u64,
-    class: u8,
-    at: u64,
-    scratch: &mut [u8],
-)
-    requires { ⌜ SlotFits slot (now a) na (now b) nb (now c) nc page start at (length (now scratch)) ⌝ }
-    ensures { λ _. ⌜ now (scratch .exit) ≡ over at (slotBytes (start + at) class (slotIn slot (now (a .entry)) na (now (b .entry)) nb (now (c .entry)) nc page)) (now (scratch .entry)) ⌝ }
+fn counts_of(lists: FileLists) -> Counts
+    ensures { λ r. ⌜ r ≡ countsIn lists ⌝ }
 {
-    let from = at as usize;
-    write_slot(
-        slot,
-        a,
-        na,
-        b,
-        nb,
-        c,
-        nc,
-        page,
-        start + at,
-        class,
-        &mut scratch[from..],
-    );
-}
-
-// The address of the slot whose blocks lie between two offsets.
-fn slot_addr(start: u64, from: u64, to: u64) -> u64
-    requires { ⌜ start + from ≤ top ⌝ }
-    ensures { λ r. ⌜ r ≡ slotAt start from to ⌝ }
-{
-    if from == to {
-        return UNDEF;
+    Counts {
+        meta: lists.metadata.count,
+        raw: lists.raw.count,
+        unclassified: lists.unclassified.count,
     }
-    start + from
 }
 
-// Writes the message after the blocks.
-fn put_message(page: u64, start: u64, o: Offsets, scratch: &mut [u8])
-    requires order { ⌜ (o .raw ≤ o .large) × (o .large ≤ o .len) ⌝ }
-    requires room { ⌜ (start + o .len ≤ top) × (o .len + 125 ≤ length (now scratch)) ⌝ }
-    ensures { λ _. ⌜ now (scratch .exit) ≡ over (o .len) (messageBy page start o) (now (scratch .entry)) ⌝ }
+// Writes the message after the blocks of a plan.
+fn put_message(page: u64, start: u64, p: PagedManagerPlan, scratch: &mut [u8])
+    requires { ⌜ (start ≤ p .«end_of_managers») × (p .«end_of_managers» - start + 125 ≤ length (now scratch)) ⌝ }
+    ensures { λ _. ⌜ now (scratch .exit) ≡ over (p .«end_of_managers» - start) (messageBy page start p) (now (scratch .entry)) ⌝ }
 {
-    let small = slot_addr(start, 0, o.raw);
-    let small_raw = slot_addr(start, o.raw, o.large);
-    let large = slot_addr(start, o.large, o.len);
     let slots = [
-        small,
+        p.slot0.fshd_addr,
         UNDEF,
-        small_raw,
+        p.slot2.fshd_addr,
         UNDEF,
         UNDEF,
         UNDEF,
-        large,
+        p.slot6.fshd_addr,
         UNDEF,
         UNDEF,
         UNDEF,
@@ -101,67 +69,112 @@ fn put_message(page: u64, start: u64, o: Offsets, scratch: &mut [u8])
     );
     let info = message.info;
     let addrs = message.slots;
-    let from = o.len as usize;
+    let from = (p.end_of_managers - start) as usize;
     info.serialize(&addrs, &mut scratch[from..]);
 }
 
-// Writes all blocks of the plan and then the message.
-pub(crate) fn fill_scratch(
+// The refusal of a beginning that an early test refuses: a plan's 4 comes before it.
+pub(crate) fn refuse_early(
     meta: &[u64],
     raw: &[u64],
     unclassified: &[u64],
     lists: FileLists,
     to: Target,
-    o: Offsets,
-    scratch: &mut [u8],
-)
-    requires { ⌜ ScratchFits (listsIn (now meta) (now raw) (now unclassified) lists) (to .page) (to .start) o (length (now scratch)) ⌝ }
-    ensures { λ _. ⌜ now (scratch .exit) ≡ over 0 (blockBytes (to .page) (to .start) (regionsIn (listsIn (now (meta .entry)) (now (raw .entry)) (now (unclassified .entry)) lists)) ++ messageOf (to .page) (to .start) (regionsIn (listsIn (now (meta .entry)) (now (raw .entry)) (now (unclassified .entry)) lists))) (now (scratch .entry)) ⌝ }
+    early: Refusal,
+) -> Refusal
+    requires { ⌜ (0 < to .page) × (areLists (listsIn (now meta) (now raw) (now unclassified) lists) ≡ true) ⌝ }
+    ensures { λ r. ⌜ _≡_ {A = Outcome Save} (refused r)
+        (firstOf (when (tooLarge (to .page) (to .start)
+        (regionsIn (listsIn (now (meta .entry)) (now (raw .entry)) (now (unclassified .entry)) lists))) Overflow ∷ []) (refused early)) ⌝ }
 {
-    let m = lists.metadata.count;
-    let r = lists.raw.count;
-    let u = lists.unclassified.count;
-    put_slot(
-        Slot::Small,
+    let n = counts_of(lists);
+    let planned = plan_blocks(meta, raw, unclassified, n, to.page, to.start, 8);
+    match planned {
+        BlocksPlanned::Plan(_) => early,
+        BlocksPlanned::Refused(r) => {
+            if r.number() == 4 {
+                return Refusal::Overflow;
+            }
+            early
+        }
+    }
+}
+
+// How many bytes a refusal 14 says to be needed.
+fn needed_of(r: Refusal) -> u64
+    ensures { λ n. ⌜ ((m g : ℕ) → r ≡ OverCapacity m g → n ≡ m) ⌝ }
+{
+    if let Refusal::OverCapacity { needed, given: _ } = r {
+        return needed;
+    }
+    0
+}
+
+// Refusal 14 of blocks of `len` bytes.
+fn refuse_room(len: u64, given: u64) -> Begin
+    requires { ⌜ len + 125 ≤ top ⌝ }
+    ensures { λ r. ⌜ beginOutcome r ≡ refused (OverCapacity (len + 125) given) ⌝ }
+{
+    Begin::Refused(Refusal::OverCapacity {
+        needed: len + MESSAGE_LEN,
+        given: given,
+    })
+}
+
+// A beginning that no early test refuses.
+pub(crate) fn begin_after(
+    meta: &[u64],
+    raw: &[u64],
+    unclassified: &[u64],
+    lists: FileLists,
+    to: Target,
+    image: &[u8],
+    scratch: &mut [u8],
+) -> Begin
+    requires lists { ⌜ (0 < to .page) × (areLists (listsIn (now meta) (now raw) (now unclassified) lists) ≡ true) ⌝ }
+    requires apart { ⌜ sharedByte (regionsIn (listsIn (now meta) (now raw) (now unclassified) lists)) ≡ false ⌝ }
+    requires message { ⌜ messageIn (to .place) (now image) ≡ true ⌝ }
+    ensures { λ r. ⌜ left (beginOutcome r) (now (scratch .exit))
+        ≡ leaving (now (scratch .entry)) (begunAfter (regionsIn (listsIn (now (meta .entry)) (now (raw .entry)) (now (unclassified .entry)) lists))
+        (to .page) (to .start) (to .place) (now (image .entry)) (now (scratch .entry))) ⌝ }
+{
+    let n = counts_of(lists);
+    let given = scratch.len() as u64;
+    let room = block_room(to, image);
+    let lent = min(room, saturating_sub(given, MESSAGE_LEN)) as usize;
+    let planned = serialize_paged_managers(
         meta,
-        m,
-        meta,
-        m,
-        meta,
-        m,
-        to.page,
-        to.start,
-        SMALL_CLASS,
-        0,
-        scratch,
-    );
-    put_slot(
-        Slot::Small,
         raw,
-        r,
-        raw,
-        r,
-        raw,
-        r,
-        to.page,
-        to.start,
-        SMALL_CLASS,
-        o.raw,
-        scratch,
-    );
-    put_slot(
-        Slot::Large,
-        meta,
-        m,
-        raw,
-        r,
         unclassified,
-        u,
+        n,
         to.page,
         to.start,
-        LARGE_CLASS,
-        o.large,
-        scratch,
+        8,
+        &mut scratch[0..lent],
     );
-    put_message(to.page, to.start, o, scratch);
+    match planned {
+        BlocksPlanned::Refused(r) => {
+            if r.number() == 4 {
+                return Begin::Refused(Refusal::Overflow);
+            }
+            let needed = needed_of(r);
+            if room < needed {
+                return Begin::Refused(Refusal::Place);
+            }
+            refuse_room(needed, given)
+        }
+        BlocksPlanned::Plan(p) => {
+            let len = p.managers.end_of_managers - to.start;
+            if given < MESSAGE_LEN {
+                return refuse_room(len, given);
+            }
+            put_message(to.page, to.start, p.managers, scratch);
+            Begin::Begun(Save {
+                start: to.start,
+                place: to.place,
+                len: len,
+                done: 0,
+            })
+        }
+    }
 }

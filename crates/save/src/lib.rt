@@ -7,11 +7,13 @@ ghost use Rattle.save.specs.Saving.{begun, beginOutcome};
 mod conditions;
 mod fill;
 
-use crate::conditions::Tested;
-use crate::conditions::test_begin;
-use crate::fill::fill_scratch;
+use crate::conditions::test_early;
+use crate::fill::begin_after;
+use crate::fill::refuse_early;
+use error::Checked;
 use error::Refusal;
 use free_lists::FileLists;
+use free_lists::are_lists;
 use save_step::Save;
 
 // Where a save goes: the page size of its blocks, the address of the first, and the place of the message.
@@ -37,19 +39,21 @@ pub fn save_begin(
     image: &[u8],
     scratch: &mut [u8],
 ) -> Begin
-    ensures { λ r. ⌜ left (beginOutcome r) (now (scratch .exit)) ≡ leaving (now (scratch .entry)) (begun (listsIn (now (meta .entry)) (now (raw .entry)) (now (unclassified .entry)) lists) (to .page) (to .start) (to .place) (now (image .entry)) (now (scratch .entry))) ⌝ }
+    ensures { λ r. ⌜ left (beginOutcome r) (now (scratch .exit))
+        ≡ leaving (now (scratch .entry)) (begun (listsIn (now (meta .entry)) (now (raw .entry)) (now (unclassified .entry)) lists) (to .page) (to .start)
+        (to .place) (now (image .entry)) (now (scratch .entry))) ⌝ }
 {
-    let tested = test_begin(meta, raw, unclassified, lists, to, image, scratch.len());
-    match tested {
-        Tested::Refused(r) => Begin::Refused(r),
-        Tested::Passed(offsets) => {
-            fill_scratch(meta, raw, unclassified, lists, to, offsets, scratch);
-            Begin::Begun(Save {
-                start: to.start,
-                place: to.place,
-                len: offsets.len,
-                done: 0,
-            })
+    if to.page == 0 {
+        return Begin::Refused(Refusal::Page);
+    }
+    if !are_lists(meta, raw, unclassified, lists) {
+        return Begin::Refused(Refusal::NotAList);
+    }
+    let early = test_early(meta, raw, unclassified, lists, to, image);
+    match early {
+        Checked::Refused(r) => {
+            Begin::Refused(refuse_early(meta, raw, unclassified, lists, to, r))
         }
+        Checked::Passed => begin_after(meta, raw, unclassified, lists, to, image, scratch),
     }
 }

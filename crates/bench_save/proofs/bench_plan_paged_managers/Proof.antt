@@ -18,7 +18,7 @@ same-length c = search needs
 returns : tie.Need-returns
 returns c =
     let d = c .before .before .before .plan-paged-managers in
-    ap (λ (n : ℕ). with n (d .last .1 .1 .1 .1 .1 .1 .1 .1 .1 .0)) (c .end-of .ensures) ∙ ap planLeft (d .ensures)
+    ap (λ (n : ℕ). with n (d .last .1 .1 .1 .1 .1 .1 .1 .0)) (c .end-of .ensures) ∙ ap planLeft (d .ensures)
 
 pub bench-plan-paged-managers-spec : {M : Type 1} → statement M
 bench-plan-paged-managers-spec =

@@ -1,8 +1,9 @@
 use mathlib.Core.Path.{sym, ap, _∙_}
+use native.Mathlib.Omega.{arith}
 use denote.Ref.{now}
 use mathlib.Core.Bool.{not}
 use borrow.Author.Needs.{needs}
-use Rattle.fsm_lengths.proofs.LengthLaws.{len-width, len-over, may-measure, len-is}
+use Rattle.fsm_lengths.proofs.LengthLaws.{len-width, len-over, len-is}
 use Rattle.fsm_lengths.proofs.fsse_len.Statement.{statement}
 use Rattle.fsm_lengths.proofs.fsse_len.Tie as tie
 
@@ -21,17 +22,18 @@ returns-2 c =
     len-over (a .offset-size) (now (a .sizes)) (ap not (sym (c .before .before .before .is-width .ensures)) ∙ c .before .before .if1 .left)
     (sym (c .if2 .taken) ∙ c .before .sum-overflows .ensures)
 
-length-of-requires : tie.Need-length-of-requires
-length-of-requires c κs =
-    let a = c .before .before .before .before .before .args in
-    may-measure (a .offset-size) (now (a .sizes)) (ap not (sym (c .before .before .before .is-width .ensures)) ∙ c .before .before .if1 .left)
-    (sym (c .if2 .left) ∙ c .before .sum-overflows .ensures)
+size-count-requires : tie.Need-size-count-requires
+size-count-requires c κs = search needs
+
+fsse-used-requires : tie.Need-fsse-used-requires
+fsse-used-requires c κs = search needs
 
 returns-3 : tie.Need-returns-3
 returns-3 c =
-    let a = c .before .before .before .before .before .before .args in
-    len-is (a .offset-size) (now (a .sizes)) (ap not (sym (c .before .before .before .before .is-width .ensures)) ∙ c .before .before .before .if1 .left)
-    (sym (c .before .if2 .left) ∙ c .before .before .sum-overflows .ensures) (c .length-of .result) (c .length-of .ensures)
+    let a = c .before .before .before .before .before .before .before .args in
+    c .fsse-used .ensures ∙ len-is (a .offset-size) (now (a .sizes))
+    (ap not (sym (c .before .before .before .before .before .is-width .ensures)) ∙ c .before .before .before .before .if1 .left)
+    (sym (c .before .before .if2 .left) ∙ c .before .before .before .sum-overflows .ensures) (omega arith) (c .before .size-count .result) (c .before .size-count .ensures)
 
 pub fsse-len-spec : {M : Type 1} → statement M
 fsse-len-spec =
@@ -41,5 +43,6 @@ fsse-len-spec =
     returns
     sum-overflows-requires
     returns-2
-    length-of-requires
+    size-count-requires
+    fsse-used-requires
     returns-3)

@@ -7,7 +7,7 @@ use lib.ListN.{drop}
 use borrow.Author.Needs.{needs}
 use Rattle.fsm_sections.specs.Sections.{decode}
 use Rattle.fsm_sections.specs.Pages.{split}
-use Rattle.fsm_writer.specs.Serializing.{anyWide}
+use Rattle.fsm_sections.specs.Runs.{anyWide}
 use Rattle.fsm_sections.specs.Runs.{endsAbove}
 use Rattle.fsm_pages.proofs.RunLaws.{fits-at}
 use Rattle.fsm_plan.proofs.AllPiecesLaws.{any-wide-found, any-wide-step, any-wide-end}

@@ -1,6 +1,6 @@
 use native.Mathlib.Omega.{arith}
 use denote.Ref.{now}
-use Rattle.fsm_plan.proofs.PlanLaws.{second-room, third-room, slots-put}
+use Rattle.fsm_plan.proofs.PlanLaws.{second-room, third-asked, slots-put}
 use borrow.Author.Needs.{needs}
 use Rattle.fsm_plan.proofs.plan.put_slots.Statement.{statement}
 use Rattle.fsm_plan.proofs.plan.put_slots.Tie as tie
@@ -9,21 +9,12 @@ put-small-requires : tie.Need-put-small-requires
 put-small-requires c κs = let p = c .before .before .before .before .before .pre in (p .0 .some, (p .0 .room-a, (p .1 .0 .0, omega (arith, p .1 .1))))
 
 put-small-requires-2 : tie.Need-put-small-requires-2
-put-small-requires-2 c κs =
-    let c3 = c .before .before .before in
-    let c9 = c3 .before .before .before .before .before .before in
-    let a = c9 .args in
-    let p = c9 .pre in (
-      p .0 .some,
-      (
-        p .0 .room-b,
-        (
-          p .1 .0 .1,
-          second-room (a .s) (now (a .meta)) (now (a .raw)) (now (a .unclassified)) (now (a .out)) (p .0 .some) (p .1 .1) _ _ (c3 .put-small .ensures .0)
-              (c3 .put-small .ensures .1),
-        ),
-      ),
-    )
+put-small-requires-2 c κs = let a = c .before .before .before .before .before .before .before .before .before .args in
+    let p = c .before .before .before .before .before .before .before .before .before .pre in
+    (p .0 .some, (p .0 .room-b, (p .1 .0 .1, second-room (a .s) (now (a .meta)) (now (a .raw)) (now (a .unclassified)) (now (a .out)) (p .0 .some) (p .1 .1) _ _ (c .before .before .before .put-small .ensures .0) (c .before .before .before .put-small .ensures .1))))
+
+source-of-requires : tie.Need-source-of-requires
+source-of-requires c κs = search needs
 
 mul-put-large : tie.Need-mul-put-large
 mul-put-large c = search needs
@@ -38,30 +29,17 @@ part-put-large-end : tie.Need-part-put-large-end
 part-put-large-end c = search needs
 
 put-large-requires : tie.Need-put-large-requires
-put-large-requires c κs =
-    let c3 = c .before .before .before in
-    let c7 = c3 .before .before .before .before in
-    let c13 = c7 .before .before .before .before .before .before in
-    let a = c13 .args in
-    let p = c13 .pre in (
-      p .0,
-      third-room (a .s) (now (a .meta)) (now (a .raw)) (now (a .unclassified)) (now (a .out)) (p .0 .some) (p .1 .1) _ _ (c7 .put-small .ensures .0) (c7 .put-small .ensures .1) _ _
-          (c3 .put-small2 .ensures .0) (c3 .put-small2 .ensures .1),
-    )
+put-large-requires c κs = let a = c .before .before .before .before .before .before .before .before .before .before .before .before .before .before .args in
+    let p = c .before .before .before .before .before .before .before .before .before .before .before .before .before .before .pre in
+    third-asked (a .s) (now (a .meta)) (now (a .raw)) (now (a .unclassified)) (now (a .out)) (p .0 .some) (p .1 .1) _ _ (c .before .before .before .before .before .before .before .before .put-small .ensures .0) (c .before .before .before .before .before .before .before .before .put-small .ensures .1) _ _ (c .before .before .before .before .put-small2 .ensures .0) (c .before .before .before .before .put-small2 .ensures .1) _ (c .before .source-of .ensures) (p .0)
 
 same-length : tie.Need-same-length
 same-length c = search needs
 
 returns : tie.Need-returns
-returns c =
-    let c2 = c .before .before in
-    let c6 = c2 .before .before .before .before in
-    let c10 = c6 .before .before .before .before in
-    let c16 = c10 .before .before .before .before .before .before in
-    let a = c16 .args in
-    let p = c16 .pre in
-    slots-put (a .s) (now (a .meta)) (now (a .raw)) (now (a .unclassified)) (now (a .out)) (p .0 .some) (p .1 .1) _ _ (c10 .put-small .ensures .0)
-    (c10 .put-small .ensures .1) _ _ (c6 .put-small2 .ensures .0) (c6 .put-small2 .ensures .1) _ (c2 .put-large .ensures)
+returns c = let a = c .before .before .before .before .before .before .before .before .before .before .before .before .before .before .before .before .before .args in
+    let p = c .before .before .before .before .before .before .before .before .before .before .before .before .before .before .before .before .before .pre in
+    slots-put (a .s) (now (a .meta)) (now (a .raw)) (now (a .unclassified)) (now (a .out)) (p .0 .some) (p .1 .1) _ _ (c .before .before .before .before .before .before .before .before .before .before .before .put-small .ensures .0) (c .before .before .before .before .before .before .before .before .before .before .before .put-small .ensures .1) _ _ (c .before .before .before .before .before .before .before .put-small2 .ensures .0) (c .before .before .before .before .before .before .before .put-small2 .ensures .1) _ (c .before .before .before .before .source-of .ensures) _ (c .before .before .put-large .ensures)
 
 pub put-slots-spec : {M : Type 1} → statement M
 put-slots-spec =
@@ -69,6 +47,7 @@ put-slots-spec =
     (tie.spec
     put-small-requires
     put-small-requires-2
+    source-of-requires
     mul-put-large
     sub-put-large
     part-put-large-start

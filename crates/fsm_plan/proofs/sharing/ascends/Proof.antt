@@ -1,77 +1,63 @@
+use borrow.Author.Needs.{needs}
 use mathlib.Core.Bool.{false}
-use Prim.Native.Nat.{_+_, _-_}
-use native.Mathlib.Omega.{arith}
 use denote.Ref.{now}
 use Rattle.error.proofs.TestLaws.{true-not-false}
-use Rattle.fsm_sections.specs.Sources.{chainCount, Within}
-use Rattle.fsm_sections.proofs.TakeLaws.{at-first}
-use Rattle.fsm_plan.specs.Order.{sourceOf}
-use Rattle.fsm_plan.proofs.SharingLaws.{Below, below-start, below-step, below-end}
-use borrow.Author.Needs.{needs}
+use Rattle.fsm_sections.specs.Steps.{left}
+use Rattle.fsm_plan.proofs.SharingLaws.{Below, below-start, below-step, below-end, taking}
 use Rattle.fsm_plan.proofs.sharing.ascends.Statement.{statement}
 use Rattle.fsm_plan.proofs.sharing.ascends.Tie as tie
 
 abbrev Inv-loop : tie.InvT-loop
-Inv-loop a b c s total floor₀ i₀ j₀ k₀ floor i j k = Within (sourceOf s) i j k × Below s a b c floor i j k
+Inv-loop a b c s floor₀ at₀ floor at = Below s a b c floor at
 
 abbrev μ-loop : tie.MeasureT-loop
-μ-loop a b c s total floor₀ i₀ j₀ k₀ floor i j k = chainCount (sourceOf s) - (i + (j + k))
+μ-loop a b c s floor₀ at₀ floor at = left s at
 
-add-total : tie.Need-add-total Inv-loop μ-loop
-add-total c = search needs
-
-add-total-2 : tie.Need-add-total-2 Inv-loop μ-loop
-add-total-2 c = search needs
+start-requires : tie.Need-start-requires Inv-loop μ-loop
+start-requires c κs = search needs
 
 loop-holds : tie.Need-loop-holds Inv-loop μ-loop
-loop-holds c =
-    let c5 = c .before .before .before .before .before in
-    let a = c5 .args in
-    (at-first (sourceOf (a .s)) (now (a .a)) (now (a .b)) (now (a .c)) (c5 .pre), below-start (a .s) (now (a .a)) (now (a .b)) (now (a .c)) (c5 .pre))
-
-add-loop : tie.Need-add-loop Inv-loop μ-loop
-add-loop c = search needs
-
-add-loop-2 : tie.Need-add-loop-2 Inv-loop μ-loop
-add-loop-2 c = search needs
+loop-holds c = let s = c .before .before .before .before in
+    let a = s .args in
+    below-start (a .s) (now (a .a)) (now (a .b)) (now (a .c)) (s .pre) _ (c .start .ensures)
 
 next-chain-requires : tie.Need-next-chain-requires Inv-loop μ-loop
-next-chain-requires c κs = (c .before .before .before .before .before .before .before .pre, (omega arith, c .before .loop .inv .0))
+next-chain-requires c κs = search needs
 
-raised-requires : tie.Need-raised-requires Inv-loop μ-loop
-raised-requires c κs = c .next-chain .ensures .taking .fits
-
-enum-known-f : tie.Need-enum-known-f Inv-loop μ-loop
-enum-known-f c = search needs
+enum-known-t : tie.Need-enum-known-t Inv-loop μ-loop
+enum-known-t c = search needs
 
 enum-told : tie.Need-enum-told Inv-loop μ-loop
 enum-told c = search needs
 
 returns : tie.Need-returns Inv-loop μ-loop
-returns c = λ e. true-not-false false e (λ i. false)
+returns c = let s = c .before .before .before .before .before .before .before .before in
+    let a = s .args in
+    λ e. below-end (a .s) (now (a .a)) (now (a .b)) (now (a .c)) (s .pre) (c .before .before .before .loop .at) _ (c .before .before .next-chain .ensures) (c .enum-told .given .1) (c .before .before .before .loop .floor) (c .before .before .before .loop .inv)
 
-loop-less : tie.Need-loop-less Inv-loop μ-loop
-loop-less c = omega (arith, c .before .before .before .before .next-chain .ensures .taking .one-more)
+raised-requires : tie.Need-raised-requires Inv-loop μ-loop
+raised-requires c κs = let s = c .before .before .before .before .before .before .before .before .before in
+    let a = s .args in
+    taking (a .s) (now (a .a)) (now (a .b)) (now (a .c)) (s .pre) (c .before .before .before .before .loop .at) _ (c .before .before .before .next-chain .ensures) _ (c .before .t .given .1) .fits (s .pre)
 
-loop-again : tie.Need-loop-again Inv-loop μ-loop
-loop-again c =
-    let c3 = c .before .before .before in
-    let c4 = c3 .before in
-    let c6 = c4 .before .before in
-    let c12 = c6 .before .before .before .before .before .before in
-    let a = c12 .args in
-    let l = c6 .loop in (
-      c4 .next-chain .ensures .taking .within,
-      below-step (a .s) (now (a .a)) (now (a .b)) (now (a .c)) (l .i) (l .j) (l .k) (c4 .next-chain .result) (c4 .next-chain .ensures)
-          (c12 .pre .some) (l .floor) _ (l .inv .1) (c3 .raised .result) (c3 .raised .ensures) (c .before .f .given .1),
-    )
+enum-known-f : tie.Need-enum-known-f Inv-loop μ-loop
+enum-known-f c = search needs
+
+enum-told-2 : tie.Need-enum-told-2 Inv-loop μ-loop
+enum-told-2 c = search needs
 
 returns-2 : tie.Need-returns-2 Inv-loop μ-loop
-returns-2 c =
-    let c7 = c .before .before .before .before .before .before .before in
-    let a = c7 .args in
-    let l = c .before .loop in
-    λ e. below-end (a .s) (now (a .a)) (now (a .b)) (now (a .c)) (c7 .pre) (l .i) (l .j) (l .k) (l .inv .0) (omega arith) (l .floor) (l .inv .1)
+returns-2 c = λ e. true-not-false false e (λ i. false)
+
+loop-less : tie.Need-loop-less Inv-loop μ-loop
+loop-less c = let s = c .before .before .before .before .before .before .before .before .before .before .before .before .before .before in
+    let a = s .args in
+    taking (a .s) (now (a .a)) (now (a .b)) (now (a .c)) (s .pre) (c .before .before .before .before .before .before .before .before .before .loop .at) _ (c .before .before .before .before .before .before .before .before .next-chain .ensures) _ (c .before .before .before .before .before .before .t .given .1) .less
+
+loop-again : tie.Need-loop-again Inv-loop μ-loop
+loop-again c = let s = c .before .before .before .before .before .before .before .before .before .before .before .before .before .before in
+    let a = s .args in
+    below-step (a .s) (now (a .a)) (now (a .b)) (now (a .c)) (s .pre) (c .before .before .before .before .before .before .before .before .before .loop .at) _ (c .before .before .before .before .before .before .before .before .next-chain .ensures) _ (c .before .before .before .before .before .before .t .given .1) (c .before .before .before .before .before .before .before .before .before .loop .floor) _ (c .before .before .before .before .before .before .before .before .before .loop .inv) (c .before .before .before .before .raised .result) (c .before .before .before .before .raised .ensures) (c .before .before .f .given .1)
 
 pub ascends-spec : {M : Type 1} → statement M
 ascends-spec =
@@ -79,16 +65,15 @@ ascends-spec =
     (tie.spec
     Inv-loop
     μ-loop
-    add-total
-    add-total-2
+    start-requires
     loop-holds
-    add-loop
-    add-loop-2
     next-chain-requires
-    raised-requires
-    enum-known-f
+    enum-known-t
     enum-told
     returns
+    raised-requires
+    enum-known-f
+    enum-told-2
+    returns-2
     loop-less
-    loop-again
-    returns-2)
+    loop-again)

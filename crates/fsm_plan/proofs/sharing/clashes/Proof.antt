@@ -1,75 +1,57 @@
-use Prim.Native.Nat.{_+_, _-_}
-use native.Mathlib.Omega.{arith}
-use denote.Ref.{now}
-use Rattle.fsm_sections.specs.Sources.{chainCount, Within}
-use Rattle.fsm_sections.proofs.TakeLaws.{at-first}
-use Rattle.fsm_plan.specs.Order.{sourceOf}
-use Rattle.fsm_plan.proofs.SharingLaws.{Apart, apart-start, apart-found, apart-step, apart-end}
 use borrow.Author.Needs.{needs}
+use denote.Ref.{now}
+use Rattle.fsm_sections.specs.Steps.{left}
+use Rattle.fsm_plan.proofs.SharingLaws.{Apart, apart-start, apart-found, apart-step, apart-end, taking}
 use Rattle.fsm_plan.proofs.sharing.clashes.Statement.{statement}
 use Rattle.fsm_plan.proofs.sharing.clashes.Tie as tie
 
 abbrev Inv-loop : tie.InvT-loop
-Inv-loop a b c s total i₀ j₀ k₀ i j k = Within (sourceOf s) i j k × Apart s a b c i j k
+Inv-loop a b c s at₀ at = Apart s a b c at
 
 abbrev μ-loop : tie.MeasureT-loop
-μ-loop a b c s total i₀ j₀ k₀ i j k = chainCount (sourceOf s) - (i + (j + k))
+μ-loop a b c s at₀ at = left s at
 
-add-total : tie.Need-add-total Inv-loop μ-loop
-add-total c = search needs
-
-add-total-2 : tie.Need-add-total-2 Inv-loop μ-loop
-add-total-2 c = search needs
+start-requires : tie.Need-start-requires Inv-loop μ-loop
+start-requires c κs = search needs
 
 loop-holds : tie.Need-loop-holds Inv-loop μ-loop
-loop-holds c =
-    let c5 = c .before .before .before .before .before in
-    let a = c5 .args in
-    (at-first (sourceOf (a .s)) (now (a .a)) (now (a .b)) (now (a .c)) (c5 .pre), apart-start (a .s) (now (a .a)) (now (a .b)) (now (a .c)) (c5 .pre))
-
-add-loop : tie.Need-add-loop Inv-loop μ-loop
-add-loop c = search needs
-
-add-loop-2 : tie.Need-add-loop-2 Inv-loop μ-loop
-add-loop-2 c = search needs
+loop-holds c = let s = c .before .before .before .before in
+    let a = s .args in
+    apart-start (a .s) (now (a .a)) (now (a .b)) (now (a .c)) (s .pre) _ (c .start .ensures)
 
 next-chain-requires : tie.Need-next-chain-requires Inv-loop μ-loop
-next-chain-requires c κs = (c .before .before .before .before .before .before .before .pre, (omega arith, c .before .loop .inv .0))
+next-chain-requires c κs = search needs
 
-meets-requires : tie.Need-meets-requires Inv-loop μ-loop
-meets-requires c κs = (c .before .before .before .before .before .before .before .before .pre, (c .next-chain .ensures .taking .within, c .next-chain .ensures .stepped))
+enum-known-t : tie.Need-enum-known-t Inv-loop μ-loop
+enum-known-t c = search needs
+
+enum-told : tie.Need-enum-told Inv-loop μ-loop
+enum-told c = search needs
 
 returns : tie.Need-returns Inv-loop μ-loop
-returns c =
-    let c2 = c .before .before in
-    let c4 = c2 .before .before in
-    let c10 = c4 .before .before .before .before .before .before in
-    let a = c10 .args in
-    let l = c4 .loop in
-    apart-found (a .s) (now (a .a)) (now (a .b)) (now (a .c)) (l .i) (l .j) (l .k) (c2 .next-chain .result) (c2 .next-chain .ensures) (c10 .pre .some) (l .inv .1)
-    (c .before .meets .result) (c .before .meets .ensures) (c .if1 .taken)
+returns c = let s = c .before .before .before .before .before .before .before .before in
+    let a = s .args in
+    apart-end (a .s) (now (a .a)) (now (a .b)) (now (a .c)) (s .pre) (c .before .before .before .loop .at) _ (c .before .before .next-chain .ensures) (c .enum-told .given .1) (c .before .before .before .loop .inv)
 
-loop-less : tie.Need-loop-less Inv-loop μ-loop
-loop-less c = omega (arith, c .before .before .next-chain .ensures .taking .one-more)
-
-loop-again : tie.Need-loop-again Inv-loop μ-loop
-loop-again c =
-    let c2 = c .before .before in
-    let c4 = c2 .before .before in
-    let c10 = c4 .before .before .before .before .before .before in
-    let a = c10 .args in
-    let l = c4 .loop in (
-      c2 .next-chain .ensures .taking .within,
-      apart-step (a .s) (now (a .a)) (now (a .b)) (now (a .c)) (l .i) (l .j) (l .k) (c2 .next-chain .result) (c2 .next-chain .ensures)
-          (c10 .pre .some) (l .inv .1) (c .before .meets .result) (c .before .meets .ensures) (c .if1 .left),
-    )
+meets-requires : tie.Need-meets-requires Inv-loop μ-loop
+meets-requires c κs = let s = c .before .before .before .before .before .before .before .before .before in
+    let a = s .args in
+    (s .pre, taking (a .s) (now (a .a)) (now (a .b)) (now (a .c)) (s .pre) (c .before .before .before .before .loop .at) _ (c .before .before .before .next-chain .ensures) _ (c .before .t .given .1) .pages)
 
 returns-2 : tie.Need-returns-2 Inv-loop μ-loop
-returns-2 c =
-    let c7 = c .before .before .before .before .before .before .before in
-    let a = c7 .args in
-    let l = c .before .loop in
-    apart-end (a .s) (now (a .a)) (now (a .b)) (now (a .c)) (c7 .pre) (l .i) (l .j) (l .k) (l .inv .0) (omega arith) (l .inv .1)
+returns-2 c = let s = c .before .before .before .before .before .before .before .before .before .before .before in
+    let a = s .args in
+    apart-found (a .s) (now (a .a)) (now (a .b)) (now (a .c)) (s .pre) (c .before .before .before .before .before .before .loop .at) _ (c .before .before .before .before .before .next-chain .ensures) _ (c .before .before .before .t .given .1) (c .before .before .before .before .before .before .loop .inv) (c .before .meets .result) (c .before .meets .ensures) (c .if1 .taken)
+
+loop-less : tie.Need-loop-less Inv-loop μ-loop
+loop-less c = let s = c .before .before .before .before .before .before .before .before .before .before .before .before in
+    let a = s .args in
+    taking (a .s) (now (a .a)) (now (a .b)) (now (a .c)) (s .pre) (c .before .before .before .before .before .before .before .loop .at) _ (c .before .before .before .before .before .before .next-chain .ensures) _ (c .before .before .before .before .t .given .1) .less
+
+loop-again : tie.Need-loop-again Inv-loop μ-loop
+loop-again c = let s = c .before .before .before .before .before .before .before .before .before .before .before .before in
+    let a = s .args in
+    apart-step (a .s) (now (a .a)) (now (a .b)) (now (a .c)) (s .pre) (c .before .before .before .before .before .before .before .loop .at) _ (c .before .before .before .before .before .before .next-chain .ensures) _ (c .before .before .before .before .t .given .1) (c .before .before .before .before .before .before .before .loop .inv) (c .before .before .meets .result) (c .before .before .meets .ensures) (c .before .if1 .left)
 
 pub clashes-spec : {M : Type 1} → statement M
 clashes-spec =
@@ -77,14 +59,13 @@ clashes-spec =
     (tie.spec
     Inv-loop
     μ-loop
-    add-total
-    add-total-2
+    start-requires
     loop-holds
-    add-loop
-    add-loop-2
     next-chain-requires
-    meets-requires
+    enum-known-t
+    enum-told
     returns
+    meets-requires
+    returns-2
     loop-less
-    loop-again
-    returns-2)
+    loop-again)

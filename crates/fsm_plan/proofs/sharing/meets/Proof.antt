@@ -1,75 +1,53 @@
-use mathlib.Core.Path.{refl}
-use Prim.Native.Nat.{_+_, _-_}
-use native.Mathlib.Omega.{arith}
-use denote.Ref.{now}
-use Rattle.fsm_sections.specs.Sources.{chainCount, Within}
-use Rattle.fsm_plan.specs.Order.{sourceOf}
-use Rattle.fsm_plan.proofs.SharingLaws.{alike, Unmet, unmet-found, unmet-step, unmet-end}
 use borrow.Author.Needs.{needs}
+use mathlib.Core.Path.{refl}
+use denote.Ref.{now}
+use Rattle.fsm_sections.specs.Steps.{left}
+use Rattle.fsm_plan.proofs.SharingLaws.{Unmet, alike, unmet-found, unmet-step, unmet-end, taking}
 use Rattle.fsm_plan.proofs.sharing.meets.Statement.{statement}
 use Rattle.fsm_plan.proofs.sharing.meets.Tie as tie
 
 abbrev Inv-loop : tie.InvT-loop
-Inv-loop a b c s t total i₀ j₀ k₀ i j k = Within (sourceOf s) i j k × Unmet s a b c t i j k
+Inv-loop a b c s t at₀ at = Unmet s a b c t at
 
 abbrev μ-loop : tie.MeasureT-loop
-μ-loop a b c s t total i₀ j₀ k₀ i j k = chainCount (sourceOf s) - (i + (j + k))
-
-add-total : tie.Need-add-total Inv-loop μ-loop
-add-total c = search needs
-
-add-total-2 : tie.Need-add-total-2 Inv-loop μ-loop
-add-total-2 c = search needs
+μ-loop a b c s t at₀ at = left s at
 
 loop-holds : tie.Need-loop-holds Inv-loop μ-loop
-loop-holds c = (c .before .before .before .before .before .pre .1 .0, λ x h. refl)
-
-add-loop : tie.Need-add-loop Inv-loop μ-loop
-add-loop c = search needs
-
-add-loop-2 : tie.Need-add-loop-2 Inv-loop μ-loop
-add-loop-2 c = search needs
+loop-holds c = λ x h. refl
 
 next-chain-requires : tie.Need-next-chain-requires Inv-loop μ-loop
-next-chain-requires c κs = (c .before .before .before .before .before .before .before .pre .0, (omega arith, c .before .loop .inv .0))
+next-chain-requires c κs = search needs
 
-shares-requires : tie.Need-shares-requires Inv-loop μ-loop
-shares-requires c κs =
-    let c8 = c .before .before .before .before .before .before .before .before in
-    let a = c8 .args in
-    alike (a .s .page) (a .t) (c .next-chain .result) (c8 .pre .1 .1) (c .next-chain .ensures .stepped)
+enum-known-u : tie.Need-enum-known-u Inv-loop μ-loop
+enum-known-u c = search needs
+
+enum-told : tie.Need-enum-told Inv-loop μ-loop
+enum-told c = search needs
 
 returns : tie.Need-returns Inv-loop μ-loop
-returns c =
-    let c2 = c .before .before in
-    let c4 = c2 .before .before in
-    let c10 = c4 .before .before .before .before .before .before in
-    let a = c10 .args in
-    let l = c4 .loop in
-    unmet-found (a .s) (now (a .a)) (now (a .b)) (now (a .c)) (l .i) (l .j) (l .k) (c2 .next-chain .result) (c2 .next-chain .ensures) (a .t) (l .inv .1)
-    (c .before .shares .result) (c .before .shares .ensures) (c .if1 .taken)
+returns c = let s = c .before .before .before .before .before .before .before .before in
+    let a = s .args in
+    unmet-end (a .s) (now (a .a)) (now (a .b)) (now (a .c)) (s .pre .0) (c .before .before .before .loop .at) _ (c .before .before .next-chain .ensures) (c .enum-told .given .1) (a .t) (c .before .before .before .loop .inv)
 
-loop-less : tie.Need-loop-less Inv-loop μ-loop
-loop-less c = omega (arith, c .before .before .next-chain .ensures .taking .one-more)
-
-loop-again : tie.Need-loop-again Inv-loop μ-loop
-loop-again c =
-    let c2 = c .before .before in
-    let c4 = c2 .before .before in
-    let c10 = c4 .before .before .before .before .before .before in
-    let a = c10 .args in
-    let l = c4 .loop in (
-      c2 .next-chain .ensures .taking .within,
-      unmet-step (a .s) (now (a .a)) (now (a .b)) (now (a .c)) (l .i) (l .j) (l .k) (c2 .next-chain .result) (c2 .next-chain .ensures) (a .t)
-          (l .inv .1) (c .before .shares .result) (c .before .shares .ensures) (c .if1 .left),
-    )
+shares-requires : tie.Need-shares-requires Inv-loop μ-loop
+shares-requires c κs = let s = c .before .before .before .before .before .before .before .before .before in
+    let a = s .args in
+    alike (a .s .page) (a .t .chain) (c .before .u .given .0 .0 .chain) (s .pre .1) (taking (a .s) (now (a .a)) (now (a .b)) (now (a .c)) (s .pre .0) (c .before .before .before .before .loop .at) _ (c .before .before .before .next-chain .ensures) _ (c .before .u .given .1) .pages)
 
 returns-2 : tie.Need-returns-2 Inv-loop μ-loop
-returns-2 c =
-    let c7 = c .before .before .before .before .before .before .before in
-    let a = c7 .args in
-    let l = c .before .loop in
-    unmet-end (a .s) (now (a .a)) (now (a .b)) (now (a .c)) (c7 .pre .0) (l .i) (l .j) (l .k) (l .inv .0) (omega arith) (a .t) (l .inv .1)
+returns-2 c = let s = c .before .before .before .before .before .before .before .before .before .before .before in
+    let a = s .args in
+    unmet-found (a .s) (now (a .a)) (now (a .b)) (now (a .c)) (s .pre .0) (c .before .before .before .before .before .before .loop .at) _ (c .before .before .before .before .before .next-chain .ensures) _ (c .before .before .before .u .given .1) (a .t) (c .before .before .before .before .before .before .loop .inv) (c .before .shares .result) (c .before .shares .ensures) (c .if1 .taken)
+
+loop-less : tie.Need-loop-less Inv-loop μ-loop
+loop-less c = let s = c .before .before .before .before .before .before .before .before .before .before .before .before in
+    let a = s .args in
+    taking (a .s) (now (a .a)) (now (a .b)) (now (a .c)) (s .pre .0) (c .before .before .before .before .before .before .before .loop .at) _ (c .before .before .before .before .before .before .next-chain .ensures) _ (c .before .before .before .before .u .given .1) .less
+
+loop-again : tie.Need-loop-again Inv-loop μ-loop
+loop-again c = let s = c .before .before .before .before .before .before .before .before .before .before .before .before in
+    let a = s .args in
+    unmet-step (a .s) (now (a .a)) (now (a .b)) (now (a .c)) (s .pre .0) (c .before .before .before .before .before .before .before .loop .at) _ (c .before .before .before .before .before .before .next-chain .ensures) _ (c .before .before .before .before .u .given .1) (a .t) (c .before .before .before .before .before .before .before .loop .inv) (c .before .before .shares .result) (c .before .before .shares .ensures) (c .before .if1 .left)
 
 pub meets-spec : {M : Type 1} → statement M
 meets-spec =
@@ -77,14 +55,12 @@ meets-spec =
     (tie.spec
     Inv-loop
     μ-loop
-    add-total
-    add-total-2
     loop-holds
-    add-loop
-    add-loop-2
     next-chain-requires
-    shares-requires
+    enum-known-u
+    enum-told
     returns
+    shares-requires
+    returns-2
     loop-less
-    loop-again
-    returns-2)
+    loop-again)

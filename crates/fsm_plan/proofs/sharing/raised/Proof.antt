@@ -1,5 +1,5 @@
 use native.Mathlib.Omega.{arith}
-use Rattle.fsm_writer.proofs.EntryLaws.{last-fits}
+use Rattle.fsm_sections.proofs.ChainLaws.{last-fits}
 use Rattle.fsm_plan.proofs.SharingLaws.{raised-none, raised-to}
 use borrow.Author.Needs.{needs}
 use Rattle.fsm_plan.proofs.sharing.raised.Statement.{statement}

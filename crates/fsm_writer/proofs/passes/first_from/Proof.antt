@@ -1,7 +1,7 @@
 use native.Mathlib.Omega.{arith}
 use Prim.Native.Nat.{_+_, _-_, _/_}
 use Rattle.fsm_sections.proofs.ChainLaws.{from-none, from-other, from-first, from-zero, from-done, from-next}
-use Rattle.fsm_writer.proofs.PickLaws.{start-fits}
+use Rattle.fsm_sections.proofs.ChainLaws.{start-fits}
 use borrow.Author.Needs.{needs}
 use Rattle.fsm_writer.proofs.passes.first_from.Statement.{statement}
 use Rattle.fsm_writer.proofs.passes.first_from.Tie as tie

@@ -3,10 +3,11 @@ use denote.Ref.{now}
 use Rattle.fsm_sections.specs.declared.Part.{Part}
 use Rattle.fsm_sections.specs.declared.next.Region.{Region}
 use Rattle.fsm_sections.specs.Sections.{section}
-use Rattle.fsm_sections.specs.Sources.{partOf}
+use Rattle.fsm_sections.specs.Sources.{partOf, PartFits}
 use Rattle.fsm_sections.proofs.NextLaws.{Picked, next-picked}
 use Rattle.fsm_writer.proofs.PickLaws.{picked-fits, picked-taking}
 use borrow.Author.Needs.{needs}
+use Rattle.fsm_sections.proofs.SourceLaws.{part-all}
 use Rattle.fsm_writer.proofs.passes.next_chain.Statement.{statement}
 use Rattle.fsm_writer.proofs.passes.next_chain.Tie as tie
 
@@ -27,19 +28,17 @@ picked c =
     (next-picked (a .s) (now (a .a)) (now (a .b)) (now (a .c)) (a .i) (a .j) (a .k) (s .pre .1 .0) (s .pre .1 .1))
 
 part-chain-requires : tie.Need-part-chain-requires
-part-chain-requires c κs =
-    let s = c .before .before .before .before .before in
-    let a = s .args in
-    (s .pre .0 .some, rw (c .part-in .ensures) (picked-fits (a .s) (now (a .a)) (now (a .b)) (now (a .c)) (s .pre .0) (a .i) (a .j) (a .k) _ (picked (c .before))))
+part-chain-requires c κs = search needs
 
 returns : tie.Need-returns
 returns c =
     let s = c .before .before .before .before .before .before in
     let a = s .args in
     let r = c .before .before .next-region .result in
+    let f : PartFits (c .before .part-in .result) (section (r .addr) (r .size)) = rw (c .before .part-in .ensures) (picked-fits (a .s) (now (a .a)) (now (a .b)) (now (a .c)) (s .pre .0) (a .i) (a .j) (a .k) r (picked (c .before .before))) in
     picked-taking (a .s) (now (a .a)) (now (a .b)) (now (a .c)) (s .pre .0) (a .i) (a .j) (a .k) (s .pre .1 .1) _ r (picked (c .before .before))
     (record {
-      part-of = c .part-chain .ensures ∙ ap (λ (p : Part). partOf p (a .s .page) (section (r .addr) (r .size))) (c .before .part-in .ensures);
+      part-of = part-all _ (a .s .page) (section (r .addr) (r .size)) _ (c .part-chain .ensures) f ∙ ap (λ (p : Part). partOf p (a .s .page) (section (r .addr) (r .size))) (c .before .part-in .ensures);
       counts = (refl, refl, refl);
     })
 

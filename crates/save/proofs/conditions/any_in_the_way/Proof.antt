@@ -4,7 +4,7 @@ use mathlib.Core.Bool.{_||_}
 use Rattle.free_space.specs.Runs.{regions}
 use Rattle.error.proofs.TestLaws.{or-decides, or-leaves}
 use Rattle.save.specs.Saving.{inTheWay}
-use Rattle.save.proofs.SumLaws.{each-list}
+use Rattle.save.proofs.TieLaws.{each-list}
 use Rattle.save.proofs.conditions.any_in_the_way.Statement.{statement}
 use Rattle.save.proofs.conditions.any_in_the_way.Tie as tie
 

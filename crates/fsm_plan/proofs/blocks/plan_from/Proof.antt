@@ -1,0 +1,71 @@
+use denote.Ref.{now}
+use Rattle.fsm_plan.proofs.BlocksLaws.{from-given, from-late, from-placed, from-shared, from-wide, from-wide-section, from-plan}
+use borrow.Author.Needs.{needs}
+use Rattle.fsm_plan.proofs.blocks.plan_from.Statement.{statement}
+use Rattle.fsm_plan.proofs.blocks.plan_from.Tie as tie
+
+ends-late-requires : tie.Need-ends-late-requires
+ends-late-requires c κs = search needs
+
+returns : tie.Need-returns
+returns c = let s = c .before .before .before .before .before in
+    let a = s .args in
+    from-late (now (a .meta)) (now (a .raw)) (now (a .unclassified)) (a .s) (a .offset-size) (a .m) (s .pre) (a .start) (c .before .ends-late .result) (c .before .ends-late .ensures) (c .if1 .taken)
+
+source-of-requires : tie.Need-source-of-requires
+source-of-requires c κs = search needs
+
+is-shared-requires : tie.Need-is-shared-requires
+is-shared-requires c κs = let s = c .before .before .before .before .before .before in
+    let a = s .args in
+    from-given (now (a .meta)) (now (a .raw)) (now (a .unclassified)) (a .s) (a .offset-size) (a .m) (s .pre) (a .start) _ (c .source-of .ensures)
+
+returns-2 : tie.Need-returns-2
+returns-2 c = let s = c .before .before .before .before .before .before .before .before in
+    let a = s .args in
+    from-shared (now (a .meta)) (now (a .raw)) (now (a .unclassified)) (a .s) (a .offset-size) (a .m) (s .pre) (a .start) (c .before .before .before .before .ends-late .result) (c .before .before .before .before .ends-late .ensures) (c .before .before .before .if1 .left) _ (c .before .before .source-of .ensures) (c .before .is-shared .result) (c .before .is-shared .ensures) (c .if2 .taken)
+
+managers-at-requires : tie.Need-managers-at-requires
+managers-at-requires c κs = let s = c .before .before .before .before .before .before .before .before in
+    let a = s .args in
+    from-placed (now (a .meta)) (now (a .raw)) (now (a .unclassified)) (a .s) (a .offset-size) (a .m) (s .pre) (a .start) (c .before .before .before .before .ends-late .result) (c .before .before .before .before .ends-late .ensures) (c .before .before .before .if1 .left)
+
+wide-managers-requires : tie.Need-wide-managers-requires
+wide-managers-requires c κs = search needs
+
+returns-3 : tie.Need-returns-3
+returns-3 c = let s = c .before .before .before .before .before .before .before .before .before .before .before in
+    let a = s .args in
+    from-wide (now (a .meta)) (now (a .raw)) (now (a .unclassified)) (a .s) (a .offset-size) (a .m) (s .pre) (a .start) (c .before .before .before .before .before .before .before .ends-late .result) (c .before .before .before .before .before .before .before .ends-late .ensures) (c .before .before .before .before .before .before .if1 .left) _ (c .before .before .before .before .before .source-of .ensures) (c .before .before .before .before .is-shared .result) (c .before .before .before .before .is-shared .ensures) (c .before .before .before .if2 .left) _
+    (c .before .before .managers-at .ensures) (c .before .wide-managers .result) (c .before .wide-managers .ensures) (c .if3 .taken)
+
+wide-slots-requires : tie.Need-wide-slots-requires
+wide-slots-requires c κs = search needs
+
+returns-4 : tie.Need-returns-4
+returns-4 c = let s = c .before .before .before .before .before .before .before .before .before .before .before .before .before in
+    let a = s .args in
+    from-wide-section (now (a .meta)) (now (a .raw)) (now (a .unclassified)) (a .s) (a .offset-size) (a .m) (s .pre) (a .start) (c .before .before .before .before .before .before .before .before .before .ends-late .result) (c .before .before .before .before .before .before .before .before .before .ends-late .ensures) (c .before .before .before .before .before .before .before .before .if1 .left) _ (c .before .before .before .before .before .before .before .source-of .ensures) (c .before .before .before .before .before .before .is-shared .result) (c .before .before .before .before .before .before .is-shared .ensures) (c .before .before .before .before .before .if2 .left) _
+    (c .before .before .before .before .managers-at .ensures) (c .before .before .before .wide-managers .result) (c .before .before .before .wide-managers .ensures) (c .before .before .if3 .left) (c .before .wide-slots .result) (c .before .wide-slots .ensures) (c .if4 .taken)
+
+returns-5 : tie.Need-returns-5
+returns-5 c = let s = c .before .before .before .before .before .before .before .before .before .before .before .before .before in
+    let a = s .args in
+    from-plan (now (a .meta)) (now (a .raw)) (now (a .unclassified)) (a .s) (a .offset-size) (a .m) (s .pre) (a .start) (c .before .before .before .before .before .before .before .before .before .ends-late .result) (c .before .before .before .before .before .before .before .before .before .ends-late .ensures) (c .before .before .before .before .before .before .before .before .if1 .left) _ (c .before .before .before .before .before .before .before .source-of .ensures) (c .before .before .before .before .before .before .is-shared .result) (c .before .before .before .before .before .before .is-shared .ensures) (c .before .before .before .before .before .if2 .left) _
+    (c .before .before .before .before .managers-at .ensures) (c .before .before .before .wide-managers .result) (c .before .before .before .wide-managers .ensures) (c .before .before .if3 .left) (c .before .wide-slots .result) (c .before .wide-slots .ensures) (c .if4 .left)
+
+pub plan-from-spec : {M : Type 1} → statement M
+plan-from-spec =
+    tie.close
+    (tie.spec
+    ends-late-requires
+    returns
+    source-of-requires
+    is-shared-requires
+    returns-2
+    managers-at-requires
+    wide-managers-requires
+    returns-3
+    wide-slots-requires
+    returns-4
+    returns-5)

@@ -1,0 +1,69 @@
+-- Tests of the sections of a run, one by one. Assumes nothing.
+use mathlib.Core.Path.{_≡_, refl, sym, ap, _∙_}
+use mathlib.Core.Logic.{⊎-elim}
+use Prim.Native.Nat.{ℕ, _+_, _-_, _*_, _^_, _≤_, _<_}
+use native.Mathlib.Nat.{pow-le-pow-right}
+use native.Mathlib.Omega.{arith}
+use mathlib.Core.Bool.{Bool, true, false, _||_}
+use mathlib.Core.List.{List, [], _∷_}
+use lib.Dec.{ltb}
+use lib.ListN.{length, drop}
+use borrow.Author.Tests.{lt-ltb, le-ltb, le-leb, lt-leb, ltb-false}
+use Rattle.error.proofs.TestLaws.{le-or-lt, or-false}
+use Rattle.fields.specs.Ranges.{top}
+use Rattle.fields.specs.Width.{encSize}
+use Rattle.fields.proofs.WidthLaws.{encSize-least}
+use Rattle.pairs.proofs.PairLaws.{decode-drop, decode-end}
+use Rattle.fsm_sections.specs.declared.FreeSection.{FreeSection}
+use Rattle.fsm_sections.specs.Sections.{section, decode, sectionAt, All}
+use Rattle.fsm_sections.specs.Pages.{end}
+use Rattle.fsm_sections.specs.Runs.{endsAbove, wide, anyOf}
+
+-- ---- a test of each section, one by one
+
+module _ (test : FreeSection → Bool) (n : ℕ) (run : List ℕ) (room : 2 * n ≤ length run) (i : ℕ) (h : i < n) where
+  pub any-found : (t : Bool) → t ≡ test (sectionAt run i) → t ≡ true → anyOf test (drop i (decode n run)) ≡ anyOf test (decode n run) → true ≡ anyOf test (decode n run)
+  unfolding anyOf
+  any-found t e f p = sym (sym p ∙ rw (decode-drop section n i run h room, ← e, f))
+
+  pub any-step : (t : Bool) → t ≡ test (sectionAt run i) → t ≡ false → anyOf test (drop i (decode n run)) ≡ anyOf test (decode n run)
+      → anyOf test (drop (i + 1) (decode n run)) ≡ anyOf test (decode n run)
+  unfolding anyOf
+  any-step t e f p = sym (ap (anyOf test) (decode-drop section n i run h room) ∙ rw (← e, f)) ∙ p
+
+pub any-none : (test : FreeSection → Bool) (n i : ℕ) (run : List ℕ) → 2 * n ≤ length run → n ≤ i → anyOf test (drop i (decode n run)) ≡ anyOf test (decode n run) → false ≡ anyOf test (decode n run)
+unfolding anyOf
+any-none test n i run room h p = ap (anyOf test) (sym (decode-end section n i run h room)) ∙ p
+
+-- ---- ends
+
+pub late-is : (a z : ℕ) → z ≤ top → ltb (18446744073709551615 - z) a ≡ ltb top (end (section a z))
+late-is a z h =
+    ⊎-elim
+    (λ (p : a ≤ 18446744073709551615 - z). le-ltb (18446744073709551615 - z) a p ∙ sym (le-ltb top (a + z) (omega arith)))
+    (λ (p : 18446744073709551615 - z < a). lt-ltb (18446744073709551615 - z) a p ∙ sym (lt-ltb top (a + z) (omega arith)))
+    (le-or-lt a (18446744073709551615 - z))
+
+pub ends-any : (rs : List FreeSection) → endsAbove rs ≡ anyOf (λ r. ltb top (end r)) rs
+unfolding anyOf
+ends-any [] = refl
+ends-any (r ∷ rs) = ap (λ (t : Bool). ltb top (end r) || t) (ends-any rs)
+
+pub none-above : (rs : List FreeSection) → endsAbove rs ≡ false → All (λ r. end r ≤ top) rs
+none-above [] e = tt
+none-above (r ∷ rs) e = let p = or-false (ltb top (end r)) (endsAbove rs) e in (ltb-false top (end r) (p .0), none-above rs (p .1))
+
+-- ---- addresses that do not fit
+
+pub wide-is : (o a : ℕ) → a < 2 ^ 64 → 1 ≤ o → ltb o (encSize a) ≡ wide o a
+wide-is o a h k = ⊎-elim big small (le-or-lt (256 ^ o) a)
+  where
+    big : 256 ^ o ≤ a → ltb o (encSize a) ≡ wide o a
+    big q =
+        let z : 0 < 256 = omega arith in
+        rw (le-leb (256 ^ o) a q)
+        (⊎-elim (λ (p : encSize a ≤ o). absurd (omega (arith, encSize-least a h .holds, pow-le-pow-right z p)))
+        (λ (p : o < encSize a). lt-ltb o (encSize a) p) (le-or-lt (encSize a) o))
+
+    small : a < 256 ^ o → ltb o (encSize a) ≡ wide o a
+    small q = rw (lt-leb (256 ^ o) a q) (le-ltb o (encSize a) (encSize-least a h .least o k q))

@@ -1,0 +1,149 @@
+use mathlib.Core.Path.{_≡_, refl}
+use Prim.Native.Nat.{_+_, _*_, _-_, _≤_}
+use native.Mathlib.Omega.{arith}
+use borrow.Author.Needs.{needs}
+use denote.Ref.{now}
+use lib.ListN.{length, drop}
+use Rattle.fields.specs.Ranges.{top}
+use Rattle.fsm_sections.specs.Sections.{decode, space}
+use Rattle.fsm_sections.specs.Chains.{sectionsOf}
+use Rattle.fsm_sections.specs.Sources.{chainsIn}
+use Rattle.fsm_sizes.proofs.TotalLaws.{region-space, space-step, count-step, space-end, count-end, sum-over, number-over, both-low}
+use Rattle.fsm_sizes.proofs.totals.sums_in.Statement.{statement}
+use Rattle.fsm_sizes.proofs.totals.sums_in.Tie as tie
+
+abbrev Inv-loop : tie.InvT-loop
+Inv-loop run count part page n₀ sum₀ i₀ n sum i =
+    let all = chainsIn part page (decode count run) in
+    (i ≤ count) × (n + length (sectionsOf (drop i all)) ≡ n₀ + length (sectionsOf all)) × (sum + space (sectionsOf (drop i all)) ≡ sum₀ + space (sectionsOf all)) × (n ≤ top) × (sum ≤ top)
+
+abbrev μ-loop : tie.MeasureT-loop
+μ-loop run count part page n₀ sum₀ i₀ n sum i = count - i
+
+loop-holds : tie.Need-loop-holds Inv-loop μ-loop
+loop-holds c = (omega arith, refl, refl, omega arith, omega arith)
+
+mul-part-chain : tie.Need-mul-part-chain Inv-loop μ-loop
+mul-part-chain c = search needs
+
+mul-part-chain-2 : tie.Need-mul-part-chain-2 Inv-loop μ-loop
+mul-part-chain-2 c = search needs
+
+shared-slice-read-part-chain : tie.Need-shared-slice-read-part-chain Inv-loop μ-loop
+shared-slice-read-part-chain c = omega (arith, c .before .before .before .before .pre, c .before .loop-test .taken)
+
+mul-part-chain-3 : tie.Need-mul-part-chain-3 Inv-loop μ-loop
+mul-part-chain-3 c = search needs
+
+add-part-chain : tie.Need-add-part-chain Inv-loop μ-loop
+add-part-chain c = search needs
+
+mul-part-chain-4 : tie.Need-mul-part-chain-4 Inv-loop μ-loop
+mul-part-chain-4 c = search needs
+
+shared-slice-read-part-chain-2 : tie.Need-shared-slice-read-part-chain-2 Inv-loop μ-loop
+shared-slice-read-part-chain-2 c = omega (arith, c .before .before .before .before .before .pre, c .before .before .loop-test .taken)
+
+part-chain-requires : tie.Need-part-chain-requires Inv-loop μ-loop
+part-chain-requires c κs = search needs
+
+mul-more : tie.Need-mul-more Inv-loop μ-loop
+mul-more c =
+    let s = c .before .before .before .before .before .before .before in
+    let a = s .args in
+    let i = c .before .before .before .before .before .loop .i in
+    omega (
+      arith,
+      c .before .before .shared-slice-known3 .given (2 * i + 1),
+      region-space (a .part) (a .page) (now (a .run)) (a .count) (s .pre) i (c .before .before .before .before .loop-test .taken) _ (c .before .part-chain .ensures),
+    )
+
+sub-if1 : tie.Need-sub-if1 Inv-loop μ-loop
+sub-if1 c = search needs
+
+returns : tie.Need-returns Inv-loop μ-loop
+returns c =
+    let s = c .before .before .before .before .before .before .before .before in
+    let a = s .args in
+    let l = c .before .before .before .before .before .before .loop in
+    sum-over _ _ (omega (
+      arith,
+      c .if1 .taken,
+      l .inv .2,
+      l .inv .4,
+      space-step (a .part) (a .page) (now (a .run)) (a .count) (s .pre) (l .i) (c .before .before .before .before .before .loop-test .taken) _ (c .before .before .part-chain .ensures),
+    ))
+
+sub-if2 : tie.Need-sub-if2 Inv-loop μ-loop
+sub-if2 c = search needs
+
+returns-2 : tie.Need-returns-2 Inv-loop μ-loop
+returns-2 c =
+    let s = c .before .before .before .before .before .before .before .before .before .before in
+    let a = s .args in
+    let l = c .before .before .before .before .before .before .before .before .loop in
+    number-over _ _ (omega (
+      arith,
+      c .if2 .taken,
+      l .inv .1,
+      l .inv .3,
+      count-step (a .part) (a .page) (now (a .run)) (a .count) (s .pre) (l .i) (c .before .before .before .before .before .before .before .loop-test .taken) _ (c .before .before .before .before .part-chain .ensures),
+    ))
+
+add-sum : tie.Need-add-sum Inv-loop μ-loop
+add-sum c = search needs
+
+add-n : tie.Need-add-n Inv-loop μ-loop
+add-n c = search needs
+
+add-i : tie.Need-add-i Inv-loop μ-loop
+add-i c = search needs
+
+loop-less : tie.Need-loop-less Inv-loop μ-loop
+loop-less c = search needs
+
+loop-again : tie.Need-loop-again Inv-loop μ-loop
+loop-again c =
+    let s = c .before .before .before .before .before .before .before .before .before .before .before in
+    let a = s .args in
+    let l = c .before .before .before .before .before .before .before .before .before .loop in
+    let n = count-step (a .part) (a .page) (now (a .run)) (a .count) (s .pre) (l .i) (c .before .before .before .before .before .before .before .before .loop-test .taken) _ (c .before .before .before .before .before .part-chain .ensures) in
+    let z = space-step (a .part) (a .page) (now (a .run)) (a .count) (s .pre) (l .i) (c .before .before .before .before .before .before .before .before .loop-test .taken) _ (c .before .before .before .before .before .part-chain .ensures) in
+    (omega arith, omega (arith, n, l .inv .1), omega (arith, z, l .inv .2), omega (arith, c .before .if2 .left, l .inv .3), omega (arith, c .before .before .before .if1 .left, l .inv .4))
+
+returns-3 : tie.Need-returns-3 Inv-loop μ-loop
+returns-3 c =
+    let s = c .before .before .before in
+    let a = s .args in
+    let l = c .before .loop in
+    both-low _ _ _ _
+    (omega (arith, l .inv .1, count-end (a .part) (a .page) (now (a .run)) (a .count) (s .pre) (l .i) (omega arith)))
+    (omega (arith, l .inv .2, space-end (a .part) (a .page) (now (a .run)) (a .count) (s .pre) (l .i) (omega arith)))
+    (l .inv .3) (l .inv .4)
+
+pub sums-in-spec : {M : Type 1} → statement M
+sums-in-spec =
+    tie.close
+    (tie.spec
+    Inv-loop
+    μ-loop
+    loop-holds
+    mul-part-chain
+    mul-part-chain-2
+    shared-slice-read-part-chain
+    mul-part-chain-3
+    add-part-chain
+    mul-part-chain-4
+    shared-slice-read-part-chain-2
+    part-chain-requires
+    mul-more
+    sub-if1
+    returns
+    sub-if2
+    returns-2
+    add-sum
+    add-n
+    add-i
+    loop-less
+    loop-again
+    returns-3)

@@ -1,0 +1,79 @@
+use borrow.Author.Needs.{needs}
+use native.Mathlib.Omega.{arith}
+use denote.Ref.{now}
+use mathlib.Core.Path.{_≡_, refl, sym, _∙_}
+use Prim.Native.Nat.{_≤_}
+use lib.ListN.{length}
+use Rattle.fsm_sections.specs.Chains.{sectionsOf}
+use Rattle.fsm_sections.specs.Sources.{chainsOf}
+use Rattle.fsm_sizes.specs.Chained.{Room, Cleared}
+use Rattle.fsm_sizes.proofs.NoteLaws.{stands-first, stands-counted, room-cleared}
+use Rattle.fsm_sizes.proofs.windows.window_of.Statement.{statement}
+use Rattle.fsm_sizes.proofs.windows.window_of.Tie as tie
+
+abbrev Inv-loop : tie.InvT-loop
+Inv-loop a b c s of₀ link₀ slot₀ from reach₀ of link slot reach = Room of link slot × Cleared slot × (from ≤ reach) × (length of ≡ length of₀)
+
+abbrev μ-loop : tie.MeasureT-loop
+μ-loop a b c s of₀ link₀ slot₀ from reach₀ of link slot reach = reach
+
+loop-holds : tie.Need-loop-holds Inv-loop μ-loop
+loop-holds c = let p = c .before .before .before .before .before .before .pre .1 in (p .0, p .1, omega arith, refl)
+
+sweep-requires : tie.Need-sweep-requires Inv-loop μ-loop
+sweep-requires c κs =
+    let s = c .before .before .before .before .before .before .before .before .before .before in
+    let l = c .before .before .before .loop in
+    (s .pre .0, ((l .inv .0, l .inv .2), stands-first (s .args .from) (l .reach) (l .of) (l .link) (l .slot) (l .inv .0) (l .inv .1)))
+
+same-length : tie.Need-same-length Inv-loop μ-loop
+same-length c = c .before .before .before .before .before .before .before .sweep .ensures .same ∙ c .before .before .before .before .before .before .before .before .before .before .before .loop .inv .3
+
+same-length-2 : tie.Need-same-length-2 Inv-loop μ-loop
+same-length-2 c = let e = c .before .before .before .before .before .before .before .sweep .ensures in e .room .alike ∙ e .same ∙ c .before .before .before .before .before .before .before .before .before .before .before .loop .inv .3 ∙ sym (c .before .before .before .before .before .before .before .before .before .before .before .before .before .before .before .before .before .before .pre .1 .0 .alike)
+
+same-length-3 : tie.Need-same-length-3 Inv-loop μ-loop
+same-length-3 c = c .before .before .before .before .before .before .before .sweep .ensures .room .slots ∙ sym (c .before .before .before .before .before .before .before .before .before .before .before .before .before .before .before .before .before .before .pre .1 .0 .slots)
+
+returns : tie.Need-returns Inv-loop μ-loop
+returns c =
+    let a = c .before .before .before .before .before .before .before .before .before .before .before .before .before .before .before .before .before .before .args in
+    let l = c .before .before .before .before .before .before .before .before .before .before .before .loop in
+    let e = c .before .before .before .before .before .before .before .sweep .ensures in (
+      stands-counted (a .from) (l .reach) (sectionsOf (chainsOf (a .s) (now (a .a)) (now (a .b)) (now (a .c)))) (l .of) _ _ _ _ _ (l .inv .2) e
+          (omega (arith, c .if1 .taken, e .same)),
+      e .room,
+      e .same ∙ l .inv .3,
+    )
+
+nearer-requires : tie.Need-nearer-requires Inv-loop μ-loop
+nearer-requires c κs = let e = c .before .before .before .before .before .before .before .before .sweep .ensures in (e .full (omega (arith, c .before .if1 .left, e .same)), e .room .some)
+
+clear-requires : tie.Need-clear-requires Inv-loop μ-loop
+clear-requires c κs = search needs
+
+loop-less : tie.Need-loop-less Inv-loop μ-loop
+loop-less c = c .before .before .before .before .nearer .ensures .1
+
+loop-again : tie.Need-loop-again Inv-loop μ-loop
+loop-again c =
+    let e = c .before .before .before .before .before .before .before .before .before .before .before .before .before .sweep .ensures in
+    let f = c .before .before .clear .ensures in
+    (room-cleared _ _ _ _ (e .room) (f .0), f .1, c .before .before .before .before .nearer .ensures .0, e .same ∙ c .before .before .before .before .before .before .before .before .before .before .before .before .before .before .before .before .before .loop .inv .3)
+
+pub window-of-spec : {M : Type 1} → statement M
+window-of-spec =
+    tie.close
+    (tie.spec
+    Inv-loop
+    μ-loop
+    loop-holds
+    sweep-requires
+    same-length
+    same-length-2
+    same-length-3
+    returns
+    nearer-requires
+    clear-requires
+    loop-less
+    loop-again)

@@ -1,0 +1,3 @@
+pub mod Windows
+pub mod Chained
+pub mod Totals
