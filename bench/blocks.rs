@@ -1,5 +1,5 @@
-//! The managers' blocks, written and read, at 16, 1,000 and 10,000 sections: all of one size and each of its own, sizes that fall by
-//! address, sizes as in an archive, and sections out of address order; sections cut at pages, and their pieces counted.
+//! The managers' blocks, written and read, at 16, 1,000 and 10,000 sections by address, all of one size and each of its own; written with
+//! sizes that fall, with sizes as an archive has them, and out of address order; sections cut at pages, and their pieces counted.
 
 use crate::address::BaseAddress;
 use crate::figures::Figures;
@@ -38,7 +38,8 @@ fn write(pairs: &[u64], out: &mut [u8]) -> u64 {
     }
 }
 
-fn blocks(figures: &Figures, name: &str, sections: &[FreeSection]) {
+/// Both blocks, as the Rust writes them, and ours timed beside.
+fn written(figures: &Figures, name: &str, sections: &[FreeSection]) -> Vec<u8> {
     let pairs = pairs(sections);
     let (mut bytes, list) = serialize_file_fsm(sections, 0, FSHD_LEN, 8, 0);
     bytes.extend(list);
@@ -53,6 +54,12 @@ fn blocks(figures: &Figures, name: &str, sections: &[FreeSection]) {
             header.len() + list.len()
         },
     );
+    bytes
+}
+
+fn blocks(figures: &Figures, name: &str, sections: &[FreeSection]) {
+    let pairs = pairs(sections);
+    let bytes = written(figures, name, sections);
     let mut read = vec![0u64; pairs.len()];
     figures.compare(
         &format!("read {name}"),
@@ -85,41 +92,32 @@ fn regions(count: u64, step: u64, size: impl Fn(u64) -> u64) -> Vec<FreeSection>
     (0..count).map(|i| FreeSection { addr: i * step, size: size(i) }).collect()
 }
 
-/// A size as in an archive: seven in ten are of twelve small sizes, the others spread over the powers of two from 2^6 to 2^28.
+/// Seven in ten sections have one of twelve small sizes, the others are spread evenly over the powers of two from 2^6 to 2^28.
 fn archive_size(i: u64) -> u64 {
-    let number = (i + 1).wrapping_mul(6_364_136_223_846_793_005) >> 24;
-    if number % 10 < 7 {
-        return 64 + 32 * (number / 10 % 12);
-    }
-    let power = 1 << (6 + number / 10 % 22);
-    power + number / 1000 % power
+    let mix = i.wrapping_mul(0x9E37_79B9_7F4A_7C15) >> 20;
+    let power = 1 << (6 + mix / 10 % 22);
+    if mix % 10 < 7 { 16 + 8 * (mix / 10 % 12) } else { power + mix / 220 % power }
 }
 
-/// The same sections out of address order: 7919 is prime, and each comes once.
-fn out_of_order(sections: &[FreeSection]) -> Vec<FreeSection> {
-    (0..sections.len()).map(|i| sections[i * 7919 % sections.len()]).collect()
+/// The same sections in an order that is not that of their addresses.
+fn shuffled(sections: Vec<FreeSection>) -> Vec<FreeSection> {
+    let count = sections.len() as u64;
+    (0..count).map(|i| FreeSection { ..sections[(i * 7919 % count) as usize] }).collect()
 }
 
 pub fn run(figures: &Figures) {
     for count in [16, 1000, 10_000] {
-        let equal = regions(count, 1 << 20, |_| 512);
+        blocks(figures, &format!("{count} equal sizes"), &regions(count, 1 << 20, |_| 512));
         // 7919 is prime, so that the sizes come in no order
-        let distinct = regions(count, 1 << 20, |i| 1 + i * 7919 % 10_007);
-        let of_100 = regions(count, 1 << 20, |i| 1 + i * 7919 % 100);
-        blocks(figures, &format!("{count} equal sizes"), &equal);
-        blocks(figures, &format!("{count} distinct sizes"), &distinct);
-        blocks(figures, &format!("{count} of 100 sizes"), &of_100);
-        if count == 16 {
-            continue;
-        }
-        blocks(figures, &format!("{count} falling sizes"), &regions(count, 1 << 20, |i| count - i));
-        blocks(figures, &format!("{count} archive sizes"), &regions(count, 1 << 30, archive_size));
-        // at 10,000 these take minutes: each address is looked for in a pass of its own
-        if count == 1000 {
-            blocks(figures, &format!("{count} equal sizes, out of order"), &out_of_order(&equal));
-            blocks(figures, &format!("{count} distinct sizes, out of order"), &out_of_order(&distinct));
-            blocks(figures, &format!("{count} of 100 sizes, out of order"), &out_of_order(&of_100));
-        }
+        blocks(figures, &format!("{count} distinct sizes"), &regions(count, 1 << 20, |i| 1 + i * 7919 % 10_007));
+        blocks(figures, &format!("{count} of 100 sizes"), &regions(count, 1 << 20, |i| 1 + i * 7919 % 100));
+    }
+    for count in [1000, 10_000] {
+        written(figures, &format!("{count} falling sizes"), &regions(count, 1 << 20, |i| 1 + 3 * (count - i)));
+        written(figures, &format!("{count} archive sizes"), &regions(count, 1 << 30, archive_size));
+        written(figures, &format!("{count} equal sizes out of order"), &shuffled(regions(count, 1 << 20, |_| 512)));
+        written(figures, &format!("{count} distinct sizes out of order"), &shuffled(regions(count, 1 << 20, |i| 1 + i * 7919 % 10_007)));
+        written(figures, &format!("{count} of 100 sizes out of order"), &shuffled(regions(count, 1 << 20, |i| 1 + i * 7919 % 100)));
     }
     split(figures, "1,000 of a tenth of a page", PAGE, &regions(1000, 8192, |_| PAGE / 10));
     split(figures, "1,000 of three pages and a half", PAGE, &regions(1000, 32_768 + 100, |_| 7 * PAGE / 2));

@@ -51,7 +51,8 @@ pub extern "C" fn bench_serialize_fshd(
     fsse_addr: u64,
     out: &mut [u8],
 ) -> u64
-    ensures { λ r. ⌜ with r (now (out .exit)) ≡ leftOrTop (leaving (now (out .entry)) (writtenFshd 8 (now (sections .entry)) count «fsse_addr» (now (out .entry)))) ⌝ }
+    ensures { λ r. ⌜ with r (now (out .exit))
+        ≡ leftOrTop (leaving (now (out .entry)) (writtenFshd 8 (now (sections .entry)) count «fsse_addr» (now (out .entry)))) ⌝ }
 {
     byte_count(serialize_fshd(sections, count, fsse_addr, 8, out))
 }
@@ -64,14 +65,16 @@ pub extern "C" fn bench_serialize_fsse(
     class: u8,
     out: &mut [u8],
 ) -> u64
-    ensures { λ r. ⌜ with r (now (out .exit)) ≡ leftOrTop (leaving (now (out .entry)) (writtenFsse 8 (now (sections .entry)) count «fshd_addr» class (now (out .entry)))) ⌝ }
+    ensures { λ r. ⌜ with r (now (out .exit))
+        ≡ leftOrTop (leaving (now (out .entry)) (writtenFsse 8 (now (sections .entry)) count «fshd_addr» class (now (out .entry)))) ⌝ }
 {
     byte_count(serialize_fsse(sections, count, fshd_addr, 8, class, out))
 }
 
 #[no_mangle]
 pub extern "C" fn bench_read_sections(bytes: &[u8], slots: &[u64], out: &mut [u64]) -> u64
-    ensures { λ r. ⌜ with r (now (out .exit)) ≡ leftOrTop (leaving (now (out .entry)) (persisted (now (slots .entry)) 0 8 (now (bytes .entry)) (now (out .entry)))) ⌝ }
+    ensures { λ r. ⌜ with r (now (out .exit))
+        ≡ leftOrTop (leaving (now (out .entry)) (persisted (now (slots .entry)) 0 8 (now (bytes .entry)) (now (out .entry)))) ⌝ }
 {
     read_count(read_persisted_sections(bytes, slots, BaseAddress(0), 8, out))
 }

@@ -63,10 +63,12 @@ pub fn call_save_anew(
     ensures lists { λ r. ⌜ listsIn (now (metadata .exit)) (now (raw .exit)) (now (unclassified .exit)) (r .lists)
         ≡ afterCalls (now (calls .entry)) (now (metadata .entry)) (now (raw .entry)) (now (unclassified .entry)) ⌝ }
     ensures anew { λ r. ⌜ anewBy r (now (image .exit)) (now (scratch .exit)) (now (other .exit))
-        ≡ anewAfter k (begun (afterCalls (now (calls .entry)) (now (metadata .entry)) (now (raw .entry)) (now (unclassified .entry))) (to .page) (to .start) (to .place))
+        ≡ anewAfter k (begun (afterCalls (now (calls .entry)) (now (metadata .entry)) (now (raw .entry)) (now (unclassified .entry)))
+        (to .page) (to .start) (to .place))
         (now (image .entry)) (now (scratch .entry)) (now (other .entry)) ⌝ }
     ensures uncut { λ r. ⌜ EndsUncut (runsOf (now (metadata .entry)) (now (raw .entry)) (now (unclassified .entry))) (callsOf (now (calls .entry)))
-        (to .page) (to .start) (to .place) k (now (image .entry)) (now (scratch .entry)) (now (other .entry)) (anewBy r (now (image .exit)) (now (scratch .exit)) (now (other .exit))) ⌝ }
+        (to .page) (to .start) (to .place) k (now (image .entry)) (now (scratch .entry)) (now (other .entry))
+        (anewBy r (now (image .exit)) (now (scratch .exit)) (now (other .exit))) ⌝ }
 {
     let lists = make_calls(calls, metadata, raw, unclassified);
     let first = begin_and_step(metadata, raw, unclassified, lists, to, image, scratch, k);

@@ -10,7 +10,8 @@ ghost use Rattle.fields.specs.Width.{validWidth};
 ghost use Rattle.fields.specs.Layout.{row, layout, leAt};
 ghost use Rattle.file_space_info.specs.Strategies.{codeOf, fromCode, strategyOutcome};
 ghost use Rattle.file_space_info.specs.Infos.{nonPersistent, persistentManagers, persistentEmpty, persistentSingleManager};
-ghost use Rattle.file_space_info.specs.Message.{shape, fixedLen, bit, numbersOf, addressRow, serialized, infoWith, present, numbersAt, fixedRead, fixedOutcome, parsed, parsedOutcome};
+ghost use Rattle.file_space_info.specs.Message.{shape, fixedLen, bit, numbersOf, addressRow, serialized, infoWith};
+ghost use Rattle.file_space_info.specs.Message.{present, numbersAt, fixedRead, fixedOutcome, parsed, parsedOutcome};
 use error::Number;
 use error::Refusal;
 use fields::bytes::read_uint_le;
@@ -190,7 +191,8 @@ impl FileSpaceInfo {
 
     // Reads a message of the given sizes, and all whole addresses after it if free space is kept.
     pub fn parse(bytes: &[u8], offset_size: u8, length_size: u8, addrs: &mut [u64]) -> Parsed
-        ensures { λ r. ⌜ left (parsedOutcome r) (now (addrs .exit)) ≡ leaving (now (addrs .entry)) (parsed (now (bytes .entry)) «offset_size» «length_size» (now (addrs .entry))) ⌝ }
+        ensures { λ r. ⌜ left (parsedOutcome r) (now (addrs .exit))
+            ≡ leaving (now (addrs .entry)) (parsed (now (bytes .entry)) «offset_size» «length_size» (now (addrs .entry))) ⌝ }
     {
         let fixed = read_fixed(bytes, offset_size, length_size);
         match fixed {

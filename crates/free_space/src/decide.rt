@@ -111,7 +111,8 @@ fn edges(addr: u64, a: u64, e: u64, last: u64) -> Patch
 // Takes the `len` bytes from `start` on out of the region `r` at `i`.
 fn take_part(run: &[u64], list: FreeList, i: usize, r: FreeRegion, start: u64, len: u64) -> Decision
     requires { ⌜ (isList (now run) list ≡ true) × (i < list .count) × (r ≡ regionAt (now run) i) × (start + len ≤ end r) ⌝ }
-    ensures { λ d. ⌜ Gives (now (run .entry)) list (placed (giving start) (now (run .entry)) list (without (regions (now (run .entry)) list) i start len)) d ⌝ }
+    ensures { λ d. ⌜ Gives (now (run .entry)) list (placed (giving start) (now (run .entry)) list
+        (without (regions (now (run .entry)) list) i start len)) d ⌝ }
 {
     change(
         run,
@@ -126,7 +127,8 @@ fn take_part(run: &[u64], list: FreeList, i: usize, r: FreeRegion, start: u64, l
 // The same from the front of the whole units of the region.
 fn take_units(run: &[u64], list: FreeList, i: usize, r: FreeRegion, len: u64, unit: u64) -> Decision
     requires { ⌜ (isList (now run) list ≡ true) × (i < list .count) × (r ≡ regionAt (now run) i) × (0 < len) × (len ≤ interiorSpan unit r) ⌝ }
-    ensures { λ d. ⌜ Gives (now (run .entry)) list (placed (giving (interiorStart unit r)) (now (run .entry)) list (without (regions (now (run .entry)) list) i (interiorStart unit r) len)) d ⌝ }
+    ensures { λ d. ⌜ Gives (now (run .entry)) list (placed (giving (interiorStart unit r)) (now (run .entry)) list
+        (without (regions (now (run .entry)) list) i (interiorStart unit r) len)) d ⌝ }
 {
     let w = whole_units(r, unit);
     take_part(run, list, i, r, w.start, len)

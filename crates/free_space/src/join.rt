@@ -39,7 +39,9 @@ fn region_to(index: usize, addr: u64, len: u64) -> Joined
 // `new` stands before the region at `i`: with the region below it, if they touch.
 fn join_below(run: &[u64], list: FreeList, i: usize, new: FreeRegion) -> Joined
     requires { ⌜ Apart (now run) list (new .addr) (end new) i i × (0 < new .len) × (end new ≤ top) ⌝ }
-    ensures { λ j. ⌜ (j .index ≤ i) × (end (j .region) ≡ end new) × (insert new (regions (now (run .entry)) list) ≡ take (j .index) (regions (now (run .entry)) list) ++ absorb (j .region) (drop i (regions (now (run .entry)) list))) ⌝ }
+    ensures { λ j. ⌜ (j .index ≤ i) × (end (j .region) ≡ end new)
+        × (insert new (regions (now (run .entry)) list)
+        ≡ take (j .index) (regions (now (run .entry)) list) ++ absorb (j .region) (drop i (regions (now (run .entry)) list))) ⌝ }
 {
     if 0 < i {
         let r = region_at(run, i - 1);
@@ -56,7 +58,8 @@ fn join_below(run: &[u64], list: FreeList, i: usize, new: FreeRegion) -> Joined
 // The same with the region above it.
 fn join_above(run: &[u64], list: FreeList, i: usize, new: FreeRegion) -> Joined
     requires { ⌜ (isList (now run) list ≡ true) × (i ≤ list .count) × (i < list .count → end new ≤ (regionAt (now run) i) .addr) × (end new ≤ top) ⌝ }
-    ensures { λ j. ⌜ (i ≤ j .index) × (j .index ≤ list .count) × (absorb new (drop i (regions (now (run .entry)) list)) ≡ j .region ∷ drop (j .index) (regions (now (run .entry)) list)) ⌝ }
+    ensures { λ j. ⌜ (i ≤ j .index) × (j .index ≤ list .count)
+        × (absorb new (drop i (regions (now (run .entry)) list)) ≡ j .region ∷ drop (j .index) (regions (now (run .entry)) list)) ⌝ }
 {
     if i < list.count {
         let r = region_at(run, i);

@@ -97,7 +97,8 @@ impl FreeList {
 
 // Replaces the regions from `lo` up to `hi`, and makes the record of what is left.
 fn apply(run: &mut [u64], list: FreeList, lo: usize, hi: usize, p: Patch) -> FreeList
-    requires { ⌜ (lo ≤ hi) × (hi ≤ list .count) × (2 * list .count ≤ length (now run)) × (2 * (lo + length (patch p) + (list .count - hi)) ≤ length (now run)) ⌝ }
+    requires { ⌜ (lo ≤ hi) × (hi ≤ list .count) × (2 * list .count ≤ length (now run))
+        × (2 * (lo + length (patch p) + (list .count - hi)) ≤ length (now run)) ⌝ }
     ensures record { λ r. ⌜ r ≡ recordOf (spliced (regions (now (run .entry)) list) lo hi (patch p)) ⌝ }
     ensures memory { λ r. ⌜ now (run .exit) ≡ stored (now (run .entry)) (list .count) (spliced (regions (now (run .entry)) list) lo hi (patch p)) ⌝ }
 {

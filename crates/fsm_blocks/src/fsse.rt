@@ -92,7 +92,8 @@ pub fn parse_fsse(
     offset_size: u8,
     out: &mut [u64],
 ) -> SectionsAnswer
-    ensures { λ r. ⌜ left (sectionsOutcome r) (now (out .exit)) ≡ leaving (now (out .entry)) (parsedFsse header «offset_size» (now (bytes .entry)) (now (out .entry))) ⌝ }
+    ensures { λ r. ⌜ left (sectionsOutcome r) (now (out .exit))
+        ≡ leaving (now (out .entry)) (parsedFsse header «offset_size» (now (bytes .entry)) (now (out .entry))) ⌝ }
 {
     if !is_width(offset_size) {
         return SectionsAnswer::Refused(Refusal::Width);

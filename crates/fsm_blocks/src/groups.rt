@@ -1,10 +1,11 @@
 // The groups of a section list: for each size a count, the size, and the entries.
 ghost use mathlib.Core.Path.{_≡_};
-ghost use Prim.Native.Nat.{_+_, _*_, _≤_, _<_};
+ghost use Prim.Native.Nat.{_+_, _*_, _≤_, _<_, min};
 ghost use lib.Dec.{ltb};
-ghost use lib.ListN.{length, drop};
+ghost use lib.ListN.{length, take, drop};
 ghost use Rattle.error.specs.Answers.{numberOutcome};
 ghost use Rattle.error.specs.Lent.{over};
+ghost use Rattle.fields.specs.Le.{leValue};
 ghost use Rattle.fields.specs.Layout.{leAt};
 ghost use Rattle.fsm_sections.specs.Sections.{flat, withSize};
 ghost use Rattle.fsm_blocks.specs.Groups.{parseGroups};
@@ -36,6 +37,22 @@ fn eight_at(bytes: &[u8], at: usize) -> u64
         + wide(bytes[at + 6]) * 0x1_0000
         + wide(bytes[at + 7]) * 0x100_0000;
     low + high * 0x1_0000_0000
+}
+
+// The number that `width` bytes at `at` spell, as `read_uint_le` has it: eight bytes in one load.
+pub fn number_at(bytes: &[u8], at: usize, width: usize) -> u64
+    ensures { λ r. ⌜ r ≡ leValue (take (min width 8) (drop at (now (bytes .entry)))) ⌝ }
+{
+    if width != 8 {
+        return read_uint_le(bytes, at, width);
+    }
+    if bytes.len() < 8 {
+        return read_uint_le(bytes, at, width);
+    }
+    if bytes.len() - 8 < at {
+        return read_uint_le(bytes, at, width);
+    }
+    eight_at(bytes, at)
 }
 
 // The number that `width` bytes at `at` spell. Sizes and addresses mostly take eight bytes, and the counts of fewer than 65,536

@@ -1,6 +1,6 @@
 // The blocks of a free-space manager: the header FSHD and the section list FSSE.
 pub mod fsse;
-mod groups;
+pub mod groups;
 pub mod header;
 pub mod length;
 pub mod manager;

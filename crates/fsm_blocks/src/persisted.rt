@@ -44,7 +44,8 @@ fn put_slots(bytes: &[u8], slots: &[u64], base: BaseAddress, offset_size: u8, ou
     requires width { ⌜ not (validWidth «offset_size») ≡ false ⌝ }
     requires accepted { ⌜ Accepted (readSlots «offset_size» (base .0) (now slots) (now bytes)) ⌝ }
     requires room { ⌜ 2 * length (joined (got (readSlots «offset_size» (base .0) (now slots) (now bytes)))) ≤ length (now out) ⌝ }
-    ensures { λ _. ⌜ now (out .exit) ≡ over 0 (flat (joined (got (readSlots «offset_size» (base .0) (now (slots .entry)) (now (bytes .entry)))))) (now (out .entry)) ⌝ }
+    ensures { λ _. ⌜ now (out .exit)
+        ≡ over 0 (flat (joined (got (readSlots «offset_size» (base .0) (now (slots .entry)) (now (bytes .entry)))))) (now (out .entry)) ⌝ }
 {
     let mut k = 0;
     let mut i = 0;
@@ -63,7 +64,8 @@ pub fn read_persisted_sections(
     offset_size: u8,
     out: &mut [u64],
 ) -> SectionsAnswer
-    ensures { λ r. ⌜ left (sectionsOutcome r) (now (out .exit)) ≡ leaving (now (out .entry)) (persisted (now (slots .entry)) (base .0) «offset_size» (now (bytes .entry)) (now (out .entry))) ⌝ }
+    ensures { λ r. ⌜ left (sectionsOutcome r) (now (out .exit))
+        ≡ leaving (now (out .entry)) (persisted (now (slots .entry)) (base .0) «offset_size» (now (bytes .entry)) (now (out .entry))) ⌝ }
 {
     if !is_width(offset_size) {
         return SectionsAnswer::Refused(Refusal::Width);

@@ -38,7 +38,8 @@ fn room_in(page: u64, addr: u64) -> u64
 fn pieces_in(sections: &[u64], count: usize, page: u64) -> Number
     requires page { ⌜ 0 < page ⌝ }
     requires room { ⌜ 2 * count ≤ length (now sections) ⌝ }
-    ensures { λ r. ⌜ numberOutcome r ≡ firstOf (when (endsAbove (decode count (now (sections .entry)))) Overflow ∷ []) (answer (sat (length (split page (decode count (now (sections .entry))))))) ⌝ }
+    ensures { λ r. ⌜ numberOutcome r ≡ firstOf (when (endsAbove (decode count (now (sections .entry)))) Overflow ∷ [])
+        (answer (sat (length (split page (decode count (now (sections .entry))))))) ⌝ }
 {
     let mut some: u64 = 0;
     let mut more: u64 = 0;

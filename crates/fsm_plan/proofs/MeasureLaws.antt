@@ -23,7 +23,7 @@ use Rattle.fsm_sections.specs.Passes.{storable}
 use Rattle.fsm_sections.proofs.SectionsLaws.{length-sorted}
 use Rattle.fsm_sections.proofs.SizesLaws.{distinct-sorted}
 use Rattle.fsm_sections.proofs.StoredLaws.{too-great, great-enough, stored-is, stored-not}
-use Rattle.fsm_sections.proofs.TakeLaws.{space-sorted}
+use Rattle.fsm_sections.proofs.SpaceLaws.{space-sorted}
 use Rattle.fsm_sizes.specs.declared.totals.Totals.{Totals}
 use Rattle.fsm_sizes.specs.declared.totals.Totalled.{Totalled}
 use Rattle.fsm_sizes.specs.declared.totals.Totalled.the-variants as totals

@@ -11,9 +11,7 @@ use Rattle.fsm_sections.specs.declared.FreeSection.{FreeSection}
 use Rattle.fsm_sections.specs.declared.Chain.{Chain}
 use Rattle.fsm_sections.specs.declared.Source.{Source}
 use Rattle.fsm_sections.specs.declared.next.Cursor.{Cursor}
-use Rattle.fsm_sections.specs.declared.next.Taken.{Taken}
 use Rattle.fsm_sections.specs.declared.next.Step.{Step}
-use Rattle.fsm_sections.specs.declared.next.Step.the-variants as steps
 use Rattle.fsm_sections.specs.Chains.{sectionsIn, sectionsOf}
 use Rattle.fsm_sections.specs.Sources.{chainsOf, Given}
 use Rattle.fsm_sections.specs.Steps.{start, rest, Taking, Stepped}
@@ -69,7 +67,7 @@ module _ (s : Source) (a b c : List ℕ) where
   all = sectionsOf (chainsOf s a b c)
 
   -- no chain that was passed has an address of t
-  abbrev pub Unmet : Taken → Cursor → Type 0
+  abbrev pub Unmet : Step → Cursor → Type 0
   Unmet t at = (x : ℕ) → 0 < atAddr x (sectionsIn (t .chain)) → atAddr x (left at) ≡ atAddr x (left (t .at))
 
   -- the chains that were passed share no address with another
@@ -92,11 +90,11 @@ module _ (s : Source) (a b c : List ℕ) where
     pub below-start : (at : Cursor) → at ≡ start → Below 0 at
     below-start at e = rw e (record { few = λ x. omega (arith, begin x); same = λ x h. sym (begin x) })
 
-    module _ (at : Cursor) (r : Step) (w : Stepped s a b c at r) (e : r ≡ steps.End) where
+    module _ (at : Cursor) (r : Step) (w : Stepped s a b c at r) (e : r .end ≡ true) where
       done : (x : ℕ) → atAddr x (left at) ≡ 0
-      done x = ap (atAddr x) (subst (λ (y : Step). Stepped s a b c at y) e w g) ∙ at-nil x
+      done x = ap (atAddr x) (w .none e g) ∙ at-nil x
 
-      pub unmet-end : (t : Taken) → Unmet t at → Meet false (sectionsIn (t .chain)) (left (t .at))
+      pub unmet-end : (t : Step) → Unmet t at → Meet false (sectionsIn (t .chain)) (left (t .at))
       unmet-end t h = λ x l. sym (h x l) ∙ done x
 
       pub apart-end : Apart at → false ≡ repeats all
@@ -105,14 +103,14 @@ module _ (s : Source) (a b c : List ℕ) where
       pub below-end : (floor : ℕ) → Below floor at → repeats all ≡ false
       below-end floor p = sym (repeats-not all (λ x. omega (arith, p .few x, done x)))
 
-    module _ (at : Cursor) (v : Step) (w : Stepped s a b c at v) (u : Taken) (ve : v ≡ steps.Next u) where
+    module _ (at : Cursor) (u : Step) (w : Stepped s a b c at u) (ve : u .end ≡ false) where
       pub taking : Taking s a b c at u
-      taking = subst (λ (y : Step). Stepped s a b c at y) ve w
+      taking = w .some ve
 
       parts : (x : ℕ) → atAddr x (left at) ≡ atAddr x (sectionsIn (u .chain)) + atAddr x (left (u .at))
       parts x = take-by s a b c g at u taking (atAddr x) (at-sorted x) ∙ at-append x (sectionsIn (u .chain)) (left (u .at))
 
-      module _ (t : Taken) (h : Unmet t at) (r : Bool) (m : Meet r (sectionsIn (t .chain)) (sectionsIn (u .chain))) where
+      module _ (t : Step) (h : Unmet t at) (r : Bool) (m : Meet r (sectionsIn (t .chain)) (sectionsIn (u .chain))) where
         pub unmet-found : r ≡ true → Meet true (sectionsIn (t .chain)) (left (t .at))
         unmet-found e =
             let q = meet-yes (sectionsIn (t .chain)) (sectionsIn (u .chain)) r m e in

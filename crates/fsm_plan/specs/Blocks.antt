@@ -11,6 +11,7 @@
 --   blockAt          the blocks of a slot from an address on: "Non-empty slots get FSHD then FSSE", and the class of its sections
 --   endAt            where the blocks of all slots end
 --   managersAt       the blocks "from `start` on, in order 0, 2, 6"; "Class 1 for slots 0 and 2, class 2 for slot 6"; and the end
+--   slotsBy          the twelve slots of the message by a plan ("The save": "unused ones all one bits")
 --   blocksAt         with the measures
 --   wideBlock        a slot has blocks, and an address of one does not fit O bytes; wideManagers one of the three has
 --   Placed           the blocks end within 64 bits, and those of a slot with sections have room for its FSHD: for contracts of private functions
@@ -110,6 +111,10 @@ managersAt O start m = record {
   slot6 = blockAt O 2 (start + m .slot0 .len + m .slot2 .len) (m .slot6);
   «end_of_managers» = endAt start m;
 }
+
+abbrev pub slotsBy : PagedManagerPlan → List ℕ
+slotsBy p =
+    p .slot0 .«fshd_addr» ∷ top ∷ p .slot2 .«fshd_addr» ∷ top ∷ top ∷ top ∷ p .slot6 .«fshd_addr» ∷ top ∷ top ∷ top ∷ top ∷ top ∷ []
 
 abbrev pub blocksAt : ℕ → ℕ → Measures → BlocksPlan
 blocksAt O start m = record { managers = managersAt O start m; measures = m }

@@ -6,7 +6,7 @@ ghost use lib.Dec.{ltb, eqb};
 ghost use Rattle.fields.specs.Ranges.{top};
 ghost use Rattle.fsm_blocks.specs.Fshd.{fshdSize};
 ghost use Rattle.fsm_plan.specs.Blocks.{blockAt, endAt, managersAt, wideBlock, wideManagers, Placed, slotsMeasured, measuresOutcome};
-ghost use Rattle.fsm_plan.specs.Blocks.{paged, Ready, plannedFrom, plannedBlocks, blocksOutcome};
+ghost use Rattle.fsm_plan.specs.Blocks.{slotsBy, paged, Ready, plannedFrom, plannedBlocks, blocksOutcome};
 use crate::Counts;
 use crate::chains::Paged;
 use crate::chains::source_of;
@@ -15,13 +15,13 @@ use crate::measure::Measured;
 use crate::measure::large_source;
 use crate::measure::measure_of;
 use crate::measure::small_source;
-use crate::pieces::is_wide;
 use crate::pieces::wide_slots;
 use crate::runs::test_runs;
 use crate::sharing::is_shared;
 use error::Checked;
 use error::Refusal;
 use fields::convert::UNDEF;
+use fsm_sections::wide::is_wide;
 use numbers::MAX;
 
 // The class of the sections of slots 0 and 2, and of those of slot 6.
@@ -58,6 +58,26 @@ impl PagedManagerPlan {
             return false;
         }
         self.slot6.count == 0
+    }
+
+    // The twelve slots of the message: the addresses of the headers, and the undefined one for a slot without blocks.
+    pub fn slots(self) -> [u64; 12]
+        ensures { λ r. ⌜ r ≡ slotsBy self ⌝ }
+    {
+        [
+            self.slot0.fshd_addr,
+            UNDEF,
+            self.slot2.fshd_addr,
+            UNDEF,
+            UNDEF,
+            UNDEF,
+            self.slot6.fshd_addr,
+            UNDEF,
+            UNDEF,
+            UNDEF,
+            UNDEF,
+            UNDEF,
+        ]
     }
 }
 
@@ -168,7 +188,6 @@ fn managers_at(start: u64, m: Measures, offset_size: u8) -> PagedManagerPlan
 
 // Whether the address of a slot's block does not fit o bytes.
 fn wide_block(b: PagedManagerBlock, o: usize) -> bool
-    requires { ⌜ 1 ≤ o ⌝ }
     ensures { λ r. ⌜ r ≡ wideBlock o b ⌝ }
 {
     if b.count == 0 {
@@ -182,7 +201,6 @@ fn wide_block(b: PagedManagerBlock, o: usize) -> bool
 
 // Whether the address of a block does not.
 fn wide_managers(p: PagedManagerPlan, o: usize) -> bool
-    requires { ⌜ 1 ≤ o ⌝ }
     ensures { λ r. ⌜ r ≡ wideManagers o p ⌝ }
 {
     if wide_block(p.slot0, o) {

@@ -6,24 +6,17 @@ ghost use lib.ListN.{length};
 ghost use Rattle.fsm_sections.specs.Sections.{section, decode};
 ghost use Rattle.fsm_sections.specs.Pages.{pieces, split};
 ghost use Rattle.fsm_sections.specs.Sources.{Given};
-ghost use Rattle.fsm_sections.specs.Runs.{endsAbove, wide, anyWide};
+ghost use Rattle.fsm_sections.specs.Runs.{endsAbove, anyWide};
 ghost use Rattle.fsm_plan.specs.Order.{sourceOf};
 ghost use Rattle.fsm_plan.specs.Blocks.{wideSections};
 use crate::chains::Paged;
-use fields::width::enc_size;
+use fsm_sections::wide::any_wide;
+use fsm_sections::wide::is_wide;
 use numbers::quotient;
 
-// Whether an address does not fit o bytes.
-pub(crate) fn is_wide(addr: u64, o: usize) -> bool
-    requires { ⌜ 1 ≤ o ⌝ }
-    ensures { λ r. ⌜ r ≡ wide o addr ⌝ }
-{
-    o < enc_size(addr)
-}
-
-// Whether the address of one of a section's pieces does not: the last piece has the greatest.
+// Whether the address of one of a section's pieces does not fit o bytes: the last piece has the greatest.
 fn wide_piece(page: u64, addr: u64, size: u64, o: usize) -> bool
-    requires { ⌜ (0 < page) × (addr + size < 2 ^ 64) × (1 ≤ o) ⌝ }
+    requires { ⌜ (0 < page) × (addr + size < 2 ^ 64) ⌝ }
     ensures { λ r. ⌜ r ≡ anyWide o (pieces page (section addr size)) ⌝ }
 {
     if size == 0 {
@@ -38,7 +31,7 @@ fn wide_piece(page: u64, addr: u64, size: u64, o: usize) -> bool
 
 // Whether the address of a piece of one of the sections does not.
 fn wide_pieces(sections: &[u64], count: usize, page: u64, o: usize) -> bool
-    requires page { ⌜ (0 < page) × (1 ≤ o) ⌝ }
+    requires page { ⌜ 0 < page ⌝ }
     requires room { ⌜ 2 * count ≤ length (now sections) ⌝ }
     requires fits { ⌜ endsAbove (decode count (now sections)) ≡ false ⌝ }
     ensures { λ r. ⌜ r ≡ anyWide o (split page (decode count (now (sections .entry)))) ⌝ }
@@ -46,21 +39,6 @@ fn wide_pieces(sections: &[u64], count: usize, page: u64, o: usize) -> bool
     let mut i = 0;
     while i < count {
         if wide_piece(page, sections[2 * i], sections[2 * i + 1], o) {
-            return true;
-        }
-        i += 1;
-    }
-    false
-}
-
-// Whether the address of one of the sections does not.
-fn wide_sections(sections: &[u64], count: usize, o: usize) -> bool
-    requires { ⌜ (1 ≤ o) × (2 * count ≤ length (now sections)) ⌝ }
-    ensures { λ r. ⌜ r ≡ anyWide o (decode count (now (sections .entry))) ⌝ }
-{
-    let mut i = 0;
-    while i < count {
-        if is_wide(sections[2 * i], o) {
             return true;
         }
         i += 1;
@@ -78,7 +56,6 @@ pub(crate) fn wide_slots(
 ) -> bool
     requires given { ⌜ Given (sourceOf s) (now meta) (now raw) (now unclassified) ⌝ }
     requires fits { ⌜ (endsAbove (decode (s .na) (now meta)) ≡ false) × (endsAbove (decode (s .nb) (now raw)) ≡ false) ⌝ }
-    requires width { ⌜ 1 ≤ o ⌝ }
     ensures { λ r. ⌜ r ≡ wideSections s (now (meta .entry)) (now (raw .entry)) (now (unclassified .entry)) o ⌝ }
 {
     if wide_pieces(meta, s.na, s.page, o) {
@@ -87,5 +64,5 @@ pub(crate) fn wide_slots(
     if wide_pieces(raw, s.nb, s.page, o) {
         return true;
     }
-    wide_sections(unclassified, s.nc, o)
+    any_wide(unclassified, s.nc, o)
 }

@@ -11,7 +11,6 @@ use fsm_sections::Chain;
 use fsm_sections::Source;
 use fsm_sections::next::Cursor;
 use fsm_sections::next::Step;
-use fsm_sections::next::Taken;
 use fsm_sections::next::next_chain;
 use numbers::MAX;
 
@@ -62,16 +61,17 @@ fn shares(t: Chain, u: Chain) -> bool
 }
 
 // Whether a chain shares an address with one of those that are left after it.
-fn meets(a: &[u64], b: &[u64], c: &[u64], s: Source, t: Taken) -> bool
+fn meets(a: &[u64], b: &[u64], c: &[u64], s: Source, t: Step) -> bool
     requires given { ⌜ Given s (now a) (now b) (now c) ⌝ }
     requires pages { ⌜ Paging (s .page) (t .chain) ⌝ }
     ensures { λ r. ⌜ Meet r (sectionsIn (t .chain)) (rest s (now (a .entry)) (now (b .entry)) (now (c .entry)) (t .at)) ⌝ }
 {
     let mut at = t.at;
     loop {
-        let Step::Next(u) = next_chain(a, b, c, s, at) else {
+        let u = next_chain(a, b, c, s, at);
+        if u.end {
             return false;
-        };
+        }
         if shares(t.chain, u.chain) {
             return true;
         }
@@ -86,9 +86,10 @@ fn clashes(a: &[u64], b: &[u64], c: &[u64], s: Source) -> bool
 {
     let mut at = Cursor::start();
     loop {
-        let Step::Next(t) = next_chain(a, b, c, s, at) else {
+        let t = next_chain(a, b, c, s, at);
+        if t.end {
             return false;
-        };
+        }
         if meets(a, b, c, s, t) {
             return true;
         }
@@ -122,9 +123,10 @@ fn ascends(a: &[u64], b: &[u64], c: &[u64], s: Source) -> bool
     let mut floor: u64 = 0;
     let mut at = Cursor::start();
     loop {
-        let Step::Next(t) = next_chain(a, b, c, s, at) else {
+        let t = next_chain(a, b, c, s, at);
+        if t.end {
             return true;
-        };
+        }
         let Floor::To(f) = raised(floor, t.chain) else {
             return false;
         };

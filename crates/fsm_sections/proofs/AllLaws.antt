@@ -2,15 +2,10 @@
 use Prim.Native.Nat.{ℕ, zero, suc, _<_}
 use native.Mathlib.Nat.{le-of-suc-le-suc, not-suc-le-zero}
 use mathlib.Core.List.{List, [], _∷_, _++_}
-use lib.ListN.{length, take, getD}
+use lib.ListN.{length, getD}
 use Rattle.fsm_sections.specs.Sections.{All}
 
 module _ {A : Type 0} where
-  pub all-take : (P : A → Type 0) (k : ℕ) (l : List A) → All P l → All P (take k l)
-  all-take P zero l h = tt
-  all-take P (suc k) [] h = tt
-  all-take P (suc k) (x ∷ l) h = (h .0, all-take P k l (h .1))
-
   pub all-append : (P : A → Type 0) (l m : List A) → All P l → All P m → All P (l ++ m)
   all-append P [] m h k = k
   all-append P (x ∷ l) m h k = (h .0, all-append P l m (h .1) k)

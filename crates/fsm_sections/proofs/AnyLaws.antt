@@ -1,8 +1,8 @@
 -- Tests of the sections of a run, one by one. Assumes nothing.
 use mathlib.Core.Path.{_≡_, refl, sym, ap, _∙_}
 use mathlib.Core.Logic.{⊎-elim}
-use Prim.Native.Nat.{ℕ, _+_, _-_, _*_, _^_, _≤_, _<_}
-use native.Mathlib.Nat.{pow-le-pow-right}
+use Prim.Native.Nat.{ℕ, zero, suc, _+_, _-_, _*_, _/_, _^_, _≤_, _<_, min}
+use native.Mathlib.Nat.{zero-min, min-zero, pow-le-pow-right}
 use native.Mathlib.Omega.{arith}
 use mathlib.Core.Bool.{Bool, true, false, _||_}
 use mathlib.Core.List.{List, [], _∷_}
@@ -15,9 +15,23 @@ use Rattle.fields.specs.Width.{encSize}
 use Rattle.fields.proofs.WidthLaws.{encSize-least}
 use Rattle.pairs.proofs.PairLaws.{decode-drop, decode-end}
 use Rattle.fsm_sections.specs.declared.FreeSection.{FreeSection}
-use Rattle.fsm_sections.specs.Sections.{section, decode, sectionAt, All}
+use Rattle.fsm_sections.specs.Sections.{section, decode, sectionAt, bySizeThenAddr, All}
 use Rattle.fsm_sections.specs.Pages.{end}
 use Rattle.fsm_sections.specs.Runs.{endsAbove, wide, anyOf}
+use Rattle.fsm_sections.proofs.PassLaws.{by-order}
+
+-- ---- no more pairs are read than there are
+
+decode-least : (n : ℕ) (xs : List ℕ) → decode n xs ≡ decode (min n (length xs / 2)) xs
+decode-least zero xs = ap (λ (k : ℕ). decode k xs) (sym (zero-min (length xs / 2)))
+decode-least (suc n) [] = ap (λ (k : ℕ). decode k []) (sym (min-zero (suc n)))
+decode-least (suc n) (a ∷ []) = ap (λ (k : ℕ). decode k (a ∷ [])) (sym (min-zero (suc n)))
+decode-least (suc n) (a ∷ s ∷ xs) =
+    let e : min (suc n) (suc (suc (length xs)) / 2) ≡ suc (min n (length xs / 2)) = omega arith in
+    ap (λ (l : List FreeSection). section a s ∷ l) (decode-least n xs) ∙ ap (λ (k : ℕ). decode k (a ∷ s ∷ xs)) (sym e)
+
+pub decode-present : (n count : ℕ) (xs : List ℕ) → n ≡ min count (length xs / 2) → decode n xs ≡ decode count xs
+decode-present n count xs e = ap (λ (k : ℕ). decode k xs) e ∙ sym (decode-least count xs)
 
 -- ---- a test of each section, one by one
 
@@ -34,6 +48,17 @@ module _ (test : FreeSection → Bool) (n : ℕ) (run : List ℕ) (room : 2 * n 
 pub any-none : (test : FreeSection → Bool) (n i : ℕ) (run : List ℕ) → 2 * n ≤ length run → n ≤ i → anyOf test (drop i (decode n run)) ≡ anyOf test (decode n run) → false ≡ anyOf test (decode n run)
 unfolding anyOf
 any-none test n i run room h p = ap (anyOf test) (sym (decode-end section n i run h room)) ∙ p
+
+-- ---- a test of some section, in whatever order
+
+pub any-sorted : (test : FreeSection → Bool) (l : List FreeSection) → anyOf test (bySizeThenAddr l) ≡ anyOf test l
+unfolding anyOf
+any-sorted test = by-order (anyOf test) (λ s l m e. ap (λ (t : Bool). test s || t) e) (λ s t l. swap (test s) (test t) (anyOf test l))
+  where
+    swap : (x y z : Bool) → (x || (y || z)) ≡ (y || (x || z))
+    swap true true z = refl
+    swap true false z = refl
+    swap false y z = refl
 
 -- ---- ends
 

@@ -6,11 +6,11 @@ pub mod SlotLaws
 pub mod SizesLaws
 pub mod SourceLaws
 pub mod PassLaws
-pub mod TakeLaws
-pub mod AddrLaws
-pub mod ChainLaws
+pub mod SpaceLaws
 pub mod NextLaws
 pub mod LowestLaws
 pub mod StoredLaws
 pub mod AnyLaws
 pub mod StepLaws
+pub mod SiftLaws
+pub mod ChainLaws

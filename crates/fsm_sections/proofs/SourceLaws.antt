@@ -14,12 +14,11 @@ use Rattle.pairs.proofs.PairLaws.{length-decode, decode-at, decode-map}
 use Rattle.fsm_sections.specs.declared.FreeSection.{FreeSection}
 use Rattle.fsm_sections.specs.Sections.{section, decode, bySizeThenAddr, All, sectionAt}
 use Rattle.fsm_sections.specs.Chains.{link, chain, sectionsOf, ChainFits}
-use Rattle.fsm_sections.specs.Sources.{one, headSize, bodySize, partOf, chainsOf, rest, PartFits, Within, Taking, Given, PartIs, chainsIn}
+use Rattle.fsm_sections.specs.Sources.{one, headSize, bodySize, partOf, chainsOf, PartFits, Given, PartIs, chainsIn}
 use Rattle.fsm_sections.specs.declared.Chain.{Chain}
 use Rattle.fsm_sections.specs.declared.Part.{Part}
 use Rattle.fsm_sections.specs.declared.Part.the-variants.{Head, Pages, Tail, Whole}
 use Rattle.fsm_sections.specs.declared.Source.{Source}
-use Rattle.fsm_sections.specs.declared.Taken.{Taken}
 use Rattle.fsm_sections.proofs.SlotLaws.{times-append, sections-append, same-order}
 use Rattle.fsm_sections.proofs.AllLaws.{all-getD}
 
@@ -61,34 +60,12 @@ part-fits Tail page r f = few (eqb (bodySize page r % page) 0)
     few false h = absurd (omega arith)
 part-fits Whole page r f = λ h. absurd (omega arith)
 
--- the chain at i in front of those after it
-opens : (l : List Chain) (i : ℕ) → i < length l → (r : Chain) → r ≡ getD l i (link 0 0 0) → drop i l ≡ r ∷ drop (i + 1) l
-opens l i h r e = drop-cons l i (link 0 0 0) h ∙ rw (← e, add-one)
-
 pub swap : (l m n : List FreeSection) → bySizeThenAddr (l ++ (m ++ n)) ≡ bySizeThenAddr (m ++ (l ++ n))
 swap l m n =
     same-order (l ++ (m ++ n)) (m ++ (l ++ n))
     (λ x. omega (arith, times-append x l (m ++ n), times-append x m n, times-append x m (l ++ n), times-append x l n))
 
 module _ (s : Source) (a b c : List ℕ) (g : Given s a b c) where
-  abbrev A : List Chain
-  A = map (partOf (s .pa) (s .page)) (decode (s .na) a)
-
-  abbrev B : List Chain
-  B = map (partOf (s .pb) (s .page)) (decode (s .nb) b)
-
-  abbrev C : List Chain
-  C = map (partOf (s .pc) (s .page)) (decode (s .nc) c)
-
-  la : length A ≡ s .na
-  la = length-map (decode (s .na) a) (partOf (s .pa) (s .page)) ∙ length-decode section (s .na) a (g .room-a)
-
-  lb : length B ≡ s .nb
-  lb = length-map (decode (s .nb) b) (partOf (s .pb) (s .page)) ∙ length-decode section (s .nb) b (g .room-b)
-
-  lc : length C ≡ s .nc
-  lc = length-map (decode (s .nc) c) (partOf (s .pc) (s .page)) ∙ length-decode section (s .nc) c (g .room-c)
-
   pub fits-a : (j : ℕ) → j < s .na → PartFits (s .pa) (sectionAt a j)
   fits-a j h = all-at (PartFits (s .pa)) (s .na) j a h (g .room-a) (g .fit-a)
 
@@ -97,61 +74,6 @@ module _ (s : Source) (a b c : List ℕ) (g : Given s a b c) where
 
   pub fits-c : (j : ℕ) → j < s .nc → PartFits (s .pc) (sectionAt c j)
   fits-c j h = all-at (PartFits (s .pc)) (s .nc) j c h (g .room-c) (g .fit-c)
-
-  -- ---- a chain is taken of what is left
-
-  module _ (i j k : ℕ) (at : Within s i j k) (t : Taken) where
-    abbrev r : Chain
-    r = link (t .addr) (t .size) (t .count)
-
-    abbrev front : List FreeSection
-    front = chain (t .addr) (t .size) (t .count)
-
-    fit : (q : Part) (x : FreeSection) → r ≡ partOf q (s .page) x → PartFits q x → ChainFits r
-    fit q x e f = subst ChainFits (sym e) (part-fits q (s .page) x f)
-
-    front-in : (l m : List Chain) → bySizeThenAddr (sectionsOf (l ++ (r ∷ m))) ≡ bySizeThenAddr (front ++ sectionsOf (l ++ m))
-    unfolding sectionsOf
-    front-in l m = rw (sections-append l (r ∷ m), sections-append l m) (swap (sectionsOf l) front (sectionsOf m))
-
-    pub take-a : i < s .na → r ≡ partOf (s .pa) (s .page) (sectionAt a i) → (t .i ≡ i + 1) × (t .j ≡ j) × (t .k ≡ k) → Taking s a b c i j k t
-    unfolding rest sectionsOf
-    take-a h e p = record {
-      fits = fit (s .pa) (sectionAt a i) e (fits-a i h);
-      within = record { a-in = omega arith; b-in = omega (arith, at .b-in); c-in = omega (arith, at .c-in) };
-      one-more = omega arith;
-      same = rw (p .0, p .1, p .2, opens A i (omega (arith, la)) r (e ∙ sym (map-at (s .pa) (s .page) (s .na) i a (link 0 0 0) h (g .room-a))));
-    }
-
-    pub take-b : j < s .nb → r ≡ partOf (s .pb) (s .page) (sectionAt b j) → (t .i ≡ i) × (t .j ≡ j + 1) × (t .k ≡ k) → Taking s a b c i j k t
-    unfolding rest
-    take-b h e p = record {
-      fits = fit (s .pb) (sectionAt b j) e (fits-b j h);
-      within = record { a-in = omega (arith, at .a-in); b-in = omega arith; c-in = omega (arith, at .c-in) };
-      one-more = omega arith;
-      same = rw (p .0, p .1, p .2, opens B j (omega (arith, lb)) r (e ∙ sym (map-at (s .pb) (s .page) (s .nb) j b (link 0 0 0) h (g .room-b))))
-          (front-in (drop i A) (drop (j + 1) B ++ drop k C));
-    }
-
-    pub take-c : k < s .nc → r ≡ partOf (s .pc) (s .page) (sectionAt c k) → (t .i ≡ i) × (t .j ≡ j) × (t .k ≡ k + 1) → Taking s a b c i j k t
-    unfolding rest
-    take-c h e p = record {
-      fits = fit (s .pc) (sectionAt c k) e (fits-c k h);
-      within = record { a-in = omega (arith, at .a-in); b-in = omega (arith, at .b-in); c-in = omega arith };
-      one-more = omega arith;
-      same = rw (p .0, p .1, p .2, opens C k (omega (arith, lc)) r (e ∙ sym (map-at (s .pc) (s .page) (s .nc) k c (link 0 0 0) h (g .room-c))))
-          (rw (← append-assoc (drop i A) (drop j B) (r ∷ drop (k + 1) C), ← append-assoc (drop i A) (drop j B) (drop (k + 1) C))
-          (front-in (drop i A ++ drop j B) (drop (k + 1) C)));
-    }
-
-  pub rest-all : rest s a b c 0 0 0 ≡ sectionsOf (chainsOf s a b c)
-  unfolding rest chainsOf
-  rest-all = refl
-
-  pub rest-none : (i j k : ℕ) → s .na ≤ i → s .nb ≤ j → s .nc ≤ k → rest s a b c i j k ≡ []
-  unfolding rest sectionsOf
-  rest-none i j k h m n =
-      rw (drop-of-length-le A {i = i} (omega (arith, la)), drop-of-length-le B {i = j} (omega (arith, lb)), drop-of-length-le C {i = k} (omega (arith, lc)))
 
 -- ---- a part is no longer than its region
 

@@ -7,7 +7,7 @@ use mathlib.Core.Logic.{_⊎_, inl, inr, ⊎-elim}
 use mathlib.Core.List.{List, [], _∷_, _++_, append-assoc}
 use lib.Dec.{ltb, eqb}
 use lib.ListN.{length, length-append, drop}
-use borrow.Author.Tests.{lt-ltb, eq-eqb, ne-eqb}
+use borrow.Author.Tests.{lt-ltb, ne-eqb}
 use Rattle.error.proofs.TestLaws.{le-or-lt}
 use Rattle.pairs.proofs.PairLaws.{decode-drop, decode-end}
 use Rattle.fsm_sections.specs.declared.FreeSection.{FreeSection}
@@ -17,12 +17,12 @@ use Rattle.fsm_sections.specs.declared.Part.the-variants.{Head, Pages, T
 use Rattle.fsm_sections.specs.declared.Source.{Source}
 use Rattle.fsm_sections.specs.declared.next.Region.{Region}
 use Rattle.fsm_sections.specs.declared.next.Cursor.{Cursor}
-use Rattle.fsm_sections.specs.declared.next.Taken.{Taken}
+use Rattle.fsm_sections.specs.declared.next.Step.{Step}
 use Rattle.fsm_sections.specs.Sections.{section, sectionAt, decode, bySizeThenAddr, times, ofSize}
 use Rattle.fsm_sections.specs.Chains.{sectionsIn, sectionsOf, ChainFits}
 use Rattle.fsm_sections.specs.Sources.{headSize, bodySize, partOf, chainsIn, chainsOf, partIn, Given, PartFits, PartIs}
 use Rattle.fsm_sections.specs.Nexts.{nextRegion}
-use Rattle.fsm_sections.specs.Steps.{start, rest, left, Taking}
+use Rattle.fsm_sections.specs.Steps.{start, rest, Taking}
 use Rattle.fsm_sections.proofs.SectionsLaws.{length-sorted}
 use Rattle.fsm_sections.proofs.SortLaws.{times-sorted}
 use Rattle.fsm_sections.proofs.SizesLaws.{ofSize-append, length-chain, ofSize-chain, ofSize-sorted}
@@ -86,20 +86,22 @@ module _ (s : Source) (a b c : List ℕ) (at : Cursor) where
           let n = next-none a (s .na) b (s .nb) c (s .nc) i j k (λ q. omega arith) (λ q. omega arith) (λ q. omega arith) in
           inr (ap (λ (r : Region). r .run) n, passed (omega arith))
 
+  pub rest-none : Passed → Given s a b c → rest s a b c at ≡ []
+  unfolding rest sectionsOf
+  rest-none p g =
+      rw (
+        decode-end section (s .na) i a (p .of-a) (g .room-a),
+        decode-end section (s .nb) j b (p .of-b) (g .room-b),
+        decode-end section (s .nc) k c (p .of-c) (g .room-c),
+      )
+
   module _ (r : Region) (e : r ≡ next) where
     pub step-picked : (r .run ≡ 3 → ⊥) → Picked s a b c i j k r
     step-picked n =
         subst (Picked s a b c i j k) (sym e) (⊎-elim (λ p. p) (λ (p : (next .run ≡ 3) × Passed). absurd (n (ap (λ (x : Region). x .run) e ∙ p .0))) chosen)
 
     pub step-end : r .run ≡ 3 → Given s a b c → rest s a b c at ≡ []
-    unfolding rest sectionsOf
-    step-end n g =
-        let p = ⊎-elim none (λ (q : (next .run ≡ 3) × Passed). q .1) chosen in
-        rw (
-          decode-end section (s .na) i a (p .of-a) (g .room-a),
-          decode-end section (s .nb) j b (p .of-b) (g .room-b),
-          decode-end section (s .nc) k c (p .of-c) (g .room-c),
-        )
+    step-end n = rest-none (⊎-elim none (λ (q : (next .run ≡ 3) × Passed). q .1) chosen)
       where
         three : next .run ≡ 3
         three = ap (λ (x : Region). x .run) (sym e) ∙ n
@@ -137,7 +139,7 @@ opens : (q : Part) (page n i : ℕ) (xs : List ℕ) (r : Chain) → i < n → 2 
 opens q page n i xs r h l e =
     ap (chainsIn q page) (decode-drop section n i xs h l) ∙ ap (λ (x : Chain). x ∷ chainsIn q page (drop (i + 1) (decode n xs))) (sym e)
 
-module _ (s : Source) (a b c : List ℕ) (at : Cursor) (t : Taken) where
+module _ (s : Source) (a b c : List ℕ) (at : Cursor) (t : Step) where
   -- a chain is a region's part
   abbrev Made : Region → Type 0
   Made r = PartIs (partIn s (r .run)) (s .page) (section (r .addr) (r .size)) (t .chain) × (t .at ≡ record { i = r .i; j = r .j; k = r .k })
@@ -190,7 +192,7 @@ module _ (s : Source) (a b c : List ℕ) where
   unfolding rest chainsOf
   rest-all = refl
 
-  module _ (g : Given s a b c) (at : Cursor) (t : Taken) (h : Taking s a b c at t) where
+  module _ (g : Given s a b c) (at : Cursor) (t : Step) (h : Taking s a b c at t) where
     abbrev now : List FreeSection
     now = rest s a b c at
 

@@ -6,11 +6,8 @@
 --   partOf        a part of a region as a chain, in closed form: its head, its whole pages, its tail or all of it
 --   chainsIn      the chains of regions
 --   chainsOf      the chains of a source, run by run
---   chainCount    how many
---   rest          the sections that are left when the first i, j and k regions of the three runs are done
---   Within        as many as there are at most
+--   sectionsFrom  the sections of a source
 --   partIn        the part that is meant of the regions of a run, 0, 1 or 2
---   Taking        a chain is taken of those that are left, whichever: for contracts of private functions
 --   PartFits      what is cut ends within 64 bits
 --   PartIs        `part_chain`: the size and the number of a part's sections, and where they begin if what is cut ends within 64 bits
 --   Given         a source that can be gone through, as refusals 2, 3 and 4 leave it: the page is not 0, each count is within its run, what is
@@ -19,19 +16,18 @@
 --   largeSource   the sections of slot 6: the whole pages of two runs, and the regions of a third uncut
 --   plainSource   a run of sections as they are
 use mathlib.Core.Path.{_≡_}
-use Prim.Native.Nat.{ℕ, suc, _+_, _-_, _*_, _/_, _%_, _^_, min, _≤_, _<_}
+use Prim.Native.Nat.{ℕ, _+_, _-_, _*_, _/_, _%_, _^_, min, _≤_, _<_}
 use mathlib.Core.Bool.{cond}
 use mathlib.Core.List.{List, _++_, map}
 use lib.Dec.{eqb}
-use lib.ListN.{length, drop}
+use lib.ListN.{length}
 use Rattle.fsm_sections.specs.declared.FreeSection.{FreeSection}
 use Rattle.fsm_sections.specs.declared.Chain.{Chain}
 use Rattle.fsm_sections.specs.declared.Part.{Part}
 use Rattle.fsm_sections.specs.declared.Part.the-variants.{Head, Pages, Tail, Whole}
 use Rattle.fsm_sections.specs.declared.Source.{Source}
-use Rattle.fsm_sections.specs.declared.Taken.{Taken}
-use Rattle.fsm_sections.specs.Sections.{decode, bySizeThenAddr, All}
-use Rattle.fsm_sections.specs.Chains.{link, chain, sectionsOf, ChainFits}
+use Rattle.fsm_sections.specs.Sections.{decode, All}
+use Rattle.fsm_sections.specs.Chains.{link, sectionsOf}
 
 abbrev pub pad : ℕ → ℕ → ℕ
 pad page a = cond (eqb (a % page) 0) 0 (page - a % page)
@@ -59,14 +55,8 @@ chainsOf s a b c =
     chainsIn (s .pa) (s .page) (decode (s .na) a)
     ++ (chainsIn (s .pb) (s .page) (decode (s .nb) b) ++ chainsIn (s .pc) (s .page) (decode (s .nc) c))
 
-unfoldable pub rest : Source → List ℕ → List ℕ → List ℕ → ℕ → ℕ → ℕ → List FreeSection
-rest s a b c i j k =
-    sectionsOf
-    (drop i (chainsIn (s .pa) (s .page) (decode (s .na) a))
-    ++ (drop j (chainsIn (s .pb) (s .page) (decode (s .nb) b)) ++ drop k (chainsIn (s .pc) (s .page) (decode (s .nc) c))))
-
-abbrev pub chainCount : Source → ℕ
-chainCount s = s .na + (s .nb + s .nc)
+abbrev pub sectionsFrom : Source → List ℕ → List ℕ → List ℕ → List FreeSection
+sectionsFrom s a b c = sectionsOf (chainsOf s a b c)
 
 abbrev pub PartFits : Part → FreeSection → Type 0
 PartFits Head r = r .addr + r .size < 2 ^ 64
@@ -88,19 +78,8 @@ pub record Given (s : Source) (a b c : List ℕ) : Type 0 where
   pub fit-b : All (PartFits (s .pb)) (decode (s .nb) b)
   pub fit-c : All (PartFits (s .pc)) (decode (s .nc) c)
 
-pub record Within (s : Source) (i j k : ℕ) : Type 0 where
-  pub a-in : i ≤ s .na
-  pub b-in : j ≤ s .nb
-  pub c-in : k ≤ s .nc
-
 abbrev pub partIn : Source → ℕ → Part
 partIn s w = cond (eqb w 0) (s .pa) (cond (eqb w 1) (s .pb) (s .pc))
-
-pub record Taking (s : Source) (a b c : List ℕ) (i j k : ℕ) (t : Taken) : Type 0 where
-  pub fits : ChainFits (link (t .addr) (t .size) (t .count))
-  pub within : Within s (t .i) (t .j) (t .k)
-  pub one-more : t .i + (t .j + t .k) ≡ suc (i + (j + k))
-  pub same : bySizeThenAddr (rest s a b c i j k) ≡ bySizeThenAddr (chain (t .addr) (t .size) (t .count) ++ rest s a b c (t .i) (t .j) (t .k))
 
 abbrev pub smallSource : ℕ → ℕ → Source
 smallSource page n = record { na = n; pa = Head; nb = n; pb = Tail; nc = 0; pc = Whole; page = page }

@@ -4,17 +4,16 @@
 --   left        how many regions are left: with each step fewer
 --   Taking      a chain is taken of those that are left, and a cursor after it: of a source that can be gone through, the chain's sections and
 --               those that are left then are those that were left; a chain of more than one section is whole pages
---   Stepped     the answer of `next_chain`: a chain is taken, or no section is left
+--   Stepped     what `next_chain` gives: a chain is taken; or, at the end, no section is left
 use mathlib.Core.Path.{_≡_}
 use Prim.Native.Nat.{ℕ, _+_, _-_, _<_}
+use mathlib.Core.Bool.{true, false}
 use mathlib.Core.List.{List, [], _++_}
 use lib.ListN.{drop}
 use Rattle.fsm_sections.specs.declared.FreeSection.{FreeSection}
 use Rattle.fsm_sections.specs.declared.Source.{Source}
 use Rattle.fsm_sections.specs.declared.next.Cursor.{Cursor}
-use Rattle.fsm_sections.specs.declared.next.Taken.{Taken}
 use Rattle.fsm_sections.specs.declared.next.Step.{Step}
-use Rattle.fsm_sections.specs.declared.next.Step.the-variants.{Next, End}
 use Rattle.fsm_sections.specs.Sections.{decode, bySizeThenAddr}
 use Rattle.fsm_sections.specs.Chains.{sectionsIn, sectionsOf, ChainFits}
 use Rattle.fsm_sections.specs.Sources.{chainsIn, Given}
@@ -31,12 +30,12 @@ rest s a b c at =
 abbrev pub left : Source → Cursor → ℕ
 left s at = (s .na - at .i) + ((s .nb - at .j) + (s .nc - at .k))
 
-pub record Taking (s : Source) (a b c : List ℕ) (at : Cursor) (t : Taken) : Type 0 where
+pub record Taking (s : Source) (a b c : List ℕ) (at : Cursor) (t : Step) : Type 0 where
   pub less : left s (t .at) < left s at
   pub pages : 1 < t .chain .count → t .chain .size ≡ s .page
   pub fits : Given s a b c → ChainFits (t .chain)
   pub same : Given s a b c → bySizeThenAddr (rest s a b c at) ≡ bySizeThenAddr (sectionsIn (t .chain) ++ rest s a b c (t .at))
 
-abbrev pub Stepped : Source → List ℕ → List ℕ → List ℕ → Cursor → Step → Type 0
-Stepped s a b c at (Next t) = Taking s a b c at t
-Stepped s a b c at End = Given s a b c → rest s a b c at ≡ []
+pub record Stepped (s : Source) (a b c : List ℕ) (at : Cursor) (t : Step) : Type 0 where
+  pub some : t .end ≡ false → Taking s a b c at t
+  pub none : t .end ≡ true → Given s a b c → rest s a b c at ≡ []

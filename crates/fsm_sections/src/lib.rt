@@ -11,6 +11,7 @@ use numbers::remainder;
 
 pub mod next;
 pub mod parts;
+pub mod wide;
 
 // The address first, then the size: a host lends records of it.
 #[repr(C)]
@@ -71,14 +72,4 @@ pub struct Source {
     pub nc: usize,
     pub pc: Part,
     pub page: u64,
-}
-
-// A chain of a source, and how many regions of each run are done when it is taken.
-pub struct Taken {
-    pub addr: u64,
-    pub size: u64,
-    pub count: u64,
-    pub i: usize,
-    pub j: usize,
-    pub k: usize,
 }

@@ -5,3 +5,5 @@ pub mod NoteLaws
 pub mod CountLaws
 pub mod SourceSizesLaws
 pub mod TotalLaws
+pub mod GroupedLaws
+pub mod OrderedLaws

@@ -24,7 +24,7 @@ use Rattle.fsm_sections.specs.Sections.{section, decode, space, sectionAt, dist
 use Rattle.fsm_sections.specs.Chains.{chain, sectionsOf}
 use Rattle.fsm_sections.specs.Sources.{partOf, chainsIn, chainsOf, PartIs}
 use Rattle.fsm_sections.proofs.SizesLaws.{length-chain, distinct-few}
-use Rattle.fsm_sections.proofs.TakeLaws.{space-append, space-chain}
+use Rattle.fsm_sections.proofs.SpaceLaws.{space-append, space-chain}
 use Rattle.fsm_sections.proofs.SourceLaws.{part-within, three}
 use Rattle.fsm_sizes.specs.declared.totals.Sums.{Sums}
 use Rattle.fsm_sizes.specs.declared.totals.Summed.{Summed}

@@ -1,3 +1,4 @@
 pub mod Windows
 pub mod Chained
 pub mod Totals
+pub mod Ordered

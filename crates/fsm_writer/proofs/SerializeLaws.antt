@@ -7,8 +7,8 @@ use native.Mathlib.Omega.{arith}
 use mathlib.Core.Bool.{Bool, true, false, not, _||_}
 use mathlib.Core.List.{List, [], _∷_}
 use lib.Dec.{ltb, leb, eqb}
-use lib.ListN.{length, getD}
-use borrow.Author.Tests.{ltb-false, leb-true, lt-ltb, le-ltb, eq-eqb, ne-eqb}
+use lib.ListN.{length, drop, getD}
+use borrow.Author.Tests.{ltb-false, leb-true, leb-false, lt-ltb, le-ltb, le-leb, lt-leb, eq-eqb, ne-eqb}
 use Rattle.error.specs.declared.Number.{Number}
 use Rattle.error.specs.declared.Refusal.{Refusal}
 use Rattle.error.specs.declared.Refusal.the-variants.{Width, NotAList, Overflow, WideAddress, OverCapacity}
@@ -24,11 +24,12 @@ use Rattle.pairs.proofs.PairLaws.{length-decode}
 use Rattle.checksum.specs.Lookup3.{lookup3}
 use Rattle.fsm_sections.specs.declared.FreeSection.{FreeSection}
 use Rattle.fsm_sections.specs.declared.Source.{Source}
-use Rattle.fsm_sections.specs.Sections.{section, decode, space, distinct, All}
+use Rattle.fsm_sections.specs.Sections.{section, decode, space, distinct, bySizeThenAddr, All}
 use Rattle.fsm_sections.specs.Chains.{sectionsOf}
 use Rattle.fsm_sections.specs.Sources.{chainsOf, plainSource, Given}
 use Rattle.fsm_sections.specs.Passes.{storable, Numbers}
-use Rattle.fsm_sections.specs.Runs.{wide, anyWide}
+use Rattle.fsm_sections.specs.Runs.{wide, anyOf, anyWide}
+use Rattle.fsm_sections.proofs.AnyLaws.{any-sorted}
 use Rattle.fsm_sections.proofs.StoredLaws.{too-great, great-enough, stored-is, stored-not}
 use Rattle.fsm_sizes.specs.declared.totals.Sums.{Sums}
 use Rattle.fsm_sizes.specs.declared.totals.Summed.{Summed}
@@ -37,7 +38,10 @@ use Rattle.fsm_sizes.specs.Totals.{summed, summedOutcome}
 use Rattle.fsm_sizes.proofs.TotalLaws.{sum-over, summed-is, summed-not}
 use Rattle.fsm_sections.proofs.SlotLaws.{plain-runs}
 use Rattle.fsm_blocks.specs.Fshd.{Header, fshdBytes, fshdSize}
+use Rattle.fsm_blocks.specs.Fsse.{fsseSize}
+use Rattle.fsm_blocks.specs.Groups.{Widths}
 use Rattle.fsm_blocks.specs.Settings.{startingSet, headerOf, headerFor, usedBy, fsseUsed, fsseFor, blocksSize}
+use Rattle.fsm_writer.specs.Writing.{Narrow}
 use Rattle.fsm_writer.specs.Serializing.{ofRun, blocksLen, writtenFshd, writtenFsse}
 use Rattle.fsm_sections.proofs.PassLaws.{run-numbers}
 use Rattle.fsm_sections.proofs.SizesLaws.{distinct-few}
@@ -321,15 +325,27 @@ or-right a b e f = rw (e, f)
 pub or-neither : (a b : Bool) → a ≡ false → b ≡ false → (a || b) ≡ false
 or-neither a b e f = rw (e, f)
 
+all-narrow : (O : ℕ) (l : List FreeSection) → anyWide O l ≡ false → Narrow O l
+unfolding anyOf
+all-narrow O [] e = tt
+all-narrow O (s ∷ l) e = let q = or-false (wide O (s .addr)) (anyWide O l) e in (leb-false (256 ^ O) (s .addr) (q .0), all-narrow O l (q .1))
+
+-- the same of sections in another order
+pub sorted-narrow : (O : ℕ) (l m : List FreeSection) → bySizeThenAddr l ≡ bySizeThenAddr m → anyWide O l ≡ false → Narrow O m
+sorted-narrow O l m e n =
+    let test : FreeSection → Bool = λ s. wide O (s .addr) in
+    all-narrow O m (sym (any-sorted test m) ∙ ap (anyWide O) (sym e) ∙ any-sorted test l ∙ n)
+
 -- what the list's writer asks, of a run of sections
 pub run-asked : (O : ℕ) (run : List ℕ) (n sum : ℕ) → Accepted O run n sum → ((i : ℕ) → getD run i 0 < 2 ^ 64) → (m : ℕ) → m ≡ fsseUsed O (startingSet O) (decode n run) → (k : ℕ) → m ≤ k
-    → (s : Source) → s ≡ plainSource n
+    → (s : Source) → s ≡ plainSource n → anyWide O (decode n run) ≡ false
     → Given s run run run
     × (Numbers (sectionsOf (chainsOf s run run run))
+    × (Narrow O (sectionsOf (chainsOf s run run run))
     × (((1 ≤ O) × (O ≤ 8))
     × ((n ≡ length (sectionsOf (chainsOf s run run run)))
-    × ((m ≡ fsseUsed O (startingSet O) (sectionsOf (chainsOf s run run run))) × (m ≤ k)))))
-run-asked O run n sum h numbers m u k f s e =
+    × ((m ≡ fsseUsed O (startingSet O) (sectionsOf (chainsOf s run run run))) × (m ≤ k))))))
+run-asked O run n sum h numbers m u k f s e w =
     rw e
     (rw (plain-all n run)
-    (plain-given n run (h .room), (run-numbers n run numbers, ((h .low, h .high), (sym (length-decode section n run (h .room)), (u, f))))))
+    (plain-given n run (h .room), (run-numbers n run numbers, (all-narrow O (decode n run) w, ((h .low, h .high), (sym (length-decode section n run (h .room)), (u, f)))))))

@@ -18,10 +18,10 @@ use Rattle.pairs.specs.Pairs.{isEven}
 use Rattle.checksum.specs.Lookup3.{lookup3}
 use Rattle.fsm_sections.specs.declared.FreeSection.{FreeSection}
 use Rattle.fsm_sections.specs.Sections.{decode, flat, space, times, bySizeThenAddr}
-use Rattle.fsm_sections.specs.Runs.{wide, anyOf, anyWide}
-use Rattle.fsm_sections.proofs.PassLaws.{by-order}
+use Rattle.fsm_sections.specs.Runs.{wide, anyWide}
+use Rattle.fsm_sections.proofs.AnyLaws.{any-sorted}
 use Rattle.fsm_sections.proofs.SlotLaws.{same-order}
-use Rattle.fsm_sections.proofs.TakeLaws.{space-sorted}
+use Rattle.fsm_sections.proofs.SpaceLaws.{space-sorted}
 use Rattle.fsm_blocks.specs.Fshd.{fshdBytes, fshdSize}
 use Rattle.fsm_blocks.specs.Settings.{startingSet, headerFor, fsseFor, fsseUsed, blocksSize}
 use Rattle.fsm_blocks.proofs.LengthLaws.{size-some}
@@ -36,15 +36,6 @@ use Rattle.fsm_plan.proofs.BlocksLaws.{first-shows, then-answers, Accepted, acc
 use Rattle.fsm_writer.specs.Serializing.{ofRun, writtenFshd, writtenFsse}
 
 -- ---- the writers accept its blocks
-
-any-sorted : (test : FreeSection → Bool) (l : List FreeSection) → anyOf test (bySizeThenAddr l) ≡ anyOf test l
-unfolding anyOf
-any-sorted test = by-order (anyOf test) (λ s l m e. ap (λ (t : Bool). test s || t) e) (λ s t l. swap (test s) (test t) (anyOf test l))
-  where
-    swap : (x y z : Bool) → (x || (y || z)) ≡ (y || (x || z))
-    swap true true z = refl
-    swap true false z = refl
-    swap false y z = refl
 
 -- what a slot's sections and the addresses of its blocks are in an accepted plan
 pub record Writable (O fshd fsse : ℕ) (l : List FreeSection) : Type 0 where

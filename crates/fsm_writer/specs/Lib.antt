@@ -1,7 +1,6 @@
-pub mod Batches
-pub mod Counting
 pub mod RoundTrip
 pub mod Serializing
 pub mod Paged
 pub mod Spans
 pub mod Writing
+pub mod Sorting

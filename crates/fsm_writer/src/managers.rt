@@ -12,7 +12,9 @@ ghost use Rattle.fsm_sections.specs.Passes.{Numbers};
 ghost use Rattle.fsm_blocks.specs.Settings.{startingSet};
 ghost use Rattle.fsm_plan.specs.Managers.{manager, managerBytes};
 ghost use Rattle.fsm_plan.specs.Blocks.{measureOf, plannedBlocks, blocksOutcome};
+ghost use Rattle.fsm_writer.specs.Writing.{Narrow};
 ghost use Rattle.fsm_writer.specs.Paged.{managersBytes, writtenManagers};
+use crate::writer::SectionList;
 use crate::writer::write_fshd;
 use crate::writer::write_fsse;
 use error::Refusal;
@@ -41,7 +43,7 @@ fn put_blocks(
 )
     requires given { ⌜ Given s (now a) (now b) (now c) ⌝ }
     requires numbers { ⌜ Numbers (sectionsOf (chainsOf s (now a) (now b) (now c))) ⌝ }
-    requires width { ⌜ (1 ≤ «offset_size») × («offset_size» ≤ 8) ⌝ }
+    requires width { ⌜ (1 ≤ «offset_size») × («offset_size» ≤ 8) × Narrow «offset_size» (sectionsOf (chainsOf s (now a) (now b) (now c))) ⌝ }
     requires measure { ⌜ m ≡ measureOf «offset_size» (sectionsOf (chainsOf s (now a) (now b) (now c))) ⌝ }
     requires room { ⌜ (address + m .len ≤ top) × (m .len ≤ length (now out)) ⌝ }
     ensures { λ _. ⌜ now (out .exit) ≡ over 0
@@ -56,18 +58,13 @@ fn put_blocks(
     let used = m.len - head;
     let from = head as usize;
     write_fshd(out, o, m.space, m.count, address + head, used);
-    write_fsse(
-        a,
-        b,
-        c,
-        s,
-        &mut out[from..],
-        o as usize,
-        address,
-        class,
-        m.count as usize,
-        used as usize,
-    );
+    let list = SectionList {
+        fshd: address,
+        class: class,
+        count: m.count as usize,
+        len: used as usize,
+    };
+    write_fsse(a, b, c, s, &mut out[from..], o as usize, list);
 }
 
 // Writes the blocks of a plan at the front of `out`.

@@ -1,9 +1,9 @@
 -- Laws of a listing: what stands next in a run of pairs, and in the runs of slots. Assumes nothing.
 use mathlib.Core.Path.{_≡_, sym, ap, ap₂, _∙_, subst}
-use mathlib.Core.List.{List, [], _∷_, _++_}
+use mathlib.Core.List.{List, _++_}
 use mathlib.Core.Logic.{⊎-elim}
-use Prim.Native.Nat.{ℕ, zero, suc, _+_, _-_, _*_, _/_, _≤_, _<_, min}
-use native.Mathlib.Nat.{zero-min, min-zero, min-eq-left}
+use Prim.Native.Nat.{ℕ, _+_, _-_, _*_, _/_, _≤_, _<_, min}
+use native.Mathlib.Nat.{min-eq-left}
 use native.Mathlib.Numerals.{add-one}
 use native.Mathlib.Omega.{arith}
 use borrow.Rule.Slice.PartAt.{part-to-end}
@@ -14,20 +14,10 @@ use Rattle.error.proofs.TestLaws.{le-or-lt}
 use Rattle.pairs.proofs.PairLaws.{decode-drop, decode-end}
 use Rattle.fsm_sections.specs.declared.FreeSection.{FreeSection}
 use Rattle.fsm_sections.specs.Sections.{section, decode, sectionAt}
+use Rattle.fsm_sections.proofs.AnyLaws.{decode-present}
 use Rattle.text.specs.Text.{written}
 use Rattle.holes_text.specs.Listing.{rowText, slotText, slotsText, slotsOf}
 use Rattle.text.proofs.TextLaws.{Printing, piece, printed}
-
--- ---- pairs
-
--- no more pairs are read than there are
-decode-least : (n : ℕ) (xs : List ℕ) → decode n xs ≡ decode (min n (length xs / 2)) xs
-decode-least zero xs = ap (λ (k : ℕ). decode k xs) (sym (zero-min (length xs / 2)))
-decode-least (suc n) [] = ap (λ (k : ℕ). decode k []) (sym (min-zero (suc n)))
-decode-least (suc n) (a ∷ []) = ap (λ (k : ℕ). decode k (a ∷ [])) (sym (min-zero (suc n)))
-decode-least (suc n) (a ∷ s ∷ xs) =
-    let e : min (suc n) (suc (suc (length xs)) / 2) ≡ suc (min n (length xs / 2)) = omega arith in
-    ap (λ (l : List FreeSection). section a s ∷ l) (decode-least n xs) ∙ ap (λ (k : ℕ). decode k (a ∷ s ∷ xs)) (sym e)
 
 -- ---- the loop that writes a slot's lines: those of the first i sections are written
 
@@ -37,8 +27,7 @@ module _ (slot n : ℕ) (run : List ℕ) where
 
   pub lines-start : (count at : ℕ) (out : List ℕ) → at ≤ length out → n ≡ min count (length run / 2) → Printing (written at (slotText slot (decode count run)) out) at (linesFrom 0) out
   lines-start count at out h e =
-      let d : decode n run ≡ decode count run = ap (λ (k : ℕ). decode k run) e ∙ sym (decode-least count run) in
-      record { inside = h; same = ap (λ (l : List FreeSection). written at (slotText slot l) out) d }
+      record { inside = h; same = ap (λ (l : List FreeSection). written at (slotText slot l) out) (decode-present n count run e) }
 
   module _ {whole : With ℕ (List ℕ)} (room : 2 * n ≤ length run) (i to : ℕ) (out : List ℕ) (p : Printing whole to (linesFrom i) out) where
     pub lines-step : {r : ℕ} {m : List ℕ} → i < n → with r m ≡ written to (rowText slot (sectionAt run i)) out → Printing whole r (linesFrom (i + 1)) m

@@ -33,7 +33,8 @@ pub struct ImageRead {
 
 // Reads the at most 125 bytes of message at a place; there are none at or after the image's end.
 fn read_message(image: &[u8], place: u64, slots: &mut [u64]) -> Parsed
-    ensures { λ r. ⌜ left (parsedOutcome r) (now (slots .exit)) ≡ leaving (now (slots .entry)) (parsed (messageAt place (now (image .entry))) 8 8 (now (slots .entry))) ⌝ }
+    ensures { λ r. ⌜ left (parsedOutcome r) (now (slots .exit))
+        ≡ leaving (now (slots .entry)) (parsed (messageAt place (now (image .entry))) 8 8 (now (slots .entry))) ⌝ }
 {
     let len = image.len() as u64;
     let start = min(place, len);
@@ -80,7 +81,8 @@ fn refused(refusal: Refusal) -> ImageRead
 // Reads the sections of the slots into the run `out`, and counts each slot's.
 fn read_slots(image: &[u8], slots: &[u64], out: &mut [u64]) -> ImageRead
     requires { ⌜ length (now slots) ≤ 12 ⌝ }
-    ensures read { λ r. ⌜ left (imageOutcome r) (now (out .exit)) ≡ leaving (now (out .entry)) (readInto (now (out .entry)) (readSlots 8 0 (now (slots .entry)) (now (image .entry)))) ⌝ }
+    ensures read { λ r. ⌜ left (imageOutcome r) (now (out .exit))
+        ≡ leaving (now (out .entry)) (readInto (now (out .entry)) (readSlots 8 0 (now (slots .entry)) (now (image .entry)))) ⌝ }
     ensures counted { λ r. ⌜ r .counts ≡ countsIn (imageOutcome r) ⌝ }
 {
     let answer = read_persisted_sections(image, slots, BaseAddress(0), 8, out);

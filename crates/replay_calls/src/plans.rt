@@ -6,7 +6,6 @@ use crate::lines::put_numbers;
 use crate::lines::put_pairs;
 use crate::memory::numbers_memory;
 use crate::reply::Reply;
-use fields::convert::UNDEF;
 use fsm_plan::Counts;
 use fsm_plan::blocks::PagedManagerBlock;
 use fsm_plan::blocks::PagedManagerPlan;
@@ -61,20 +60,7 @@ fn place_after(run: &[u64], n: usize) -> usize
 
 fn put_slots(p: PagedManagerPlan, out: &mut [u8], at: usize) -> usize {
     let to = write_bytes(out, at, b"slots ");
-    let slots = [
-        p.slot0.fshd_addr,
-        UNDEF,
-        p.slot2.fshd_addr,
-        UNDEF,
-        UNDEF,
-        UNDEF,
-        p.slot6.fshd_addr,
-        UNDEF,
-        UNDEF,
-        UNDEF,
-        UNDEF,
-        UNDEF,
-    ];
+    let slots = p.slots();
     put_numbers(out, to, &slots)
 }
 

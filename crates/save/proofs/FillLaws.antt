@@ -27,7 +27,7 @@ use Rattle.fsm_plan.specs.declared.blocks.BlocksPlan.{BlocksPlan}
 use Rattle.fsm_plan.specs.declared.blocks.BlocksPlanned.{BlocksPlanned}
 use Rattle.fsm_plan.specs.declared.blocks.BlocksPlanned.the-variants as blocks
 use Rattle.fsm_plan.specs.Order.{repeats}
-use Rattle.fsm_plan.specs.Blocks.{blocksAt, plannedBlocks, blocksOutcome}
+use Rattle.fsm_plan.specs.Blocks.{blocksAt, plannedBlocks, blocksOutcome, slotsBy}
 use Rattle.fsm_plan.proofs.PlannedLaws.{length-blocks, plan-slots}
 use Rattle.fsm_writer.specs.Paged.{writtenManagers}
 use Rattle.fsm_writer.proofs.RowLaws.{over-after}
@@ -41,7 +41,7 @@ use Rattle.file_space_info.proofs.MessageLaws.{length-twelve}
 use Rattle.free_lists.specs.declared.calls.Which.the-variants.{Metadata, Raw, Unclassified}
 use Rattle.save_step.specs.declared.Save.{Save}
 use Rattle.save.specs.Saving.{asSections, large, blockLen, blockBytes, messageOf, plan, tooLarge, blocksOut}
-use Rattle.save.specs.Beginning.{countsIn, slotsBy, messageBy, begunAfter}
+use Rattle.save.specs.Beginning.{countsIn, messageBy, begunAfter}
 use Rattle.save.proofs.PlaceLaws.{not-longer}
 use Rattle.save.proofs.TieLaws.{M, later, wideTest, end-is, planned-is, written-is}
 

@@ -2,8 +2,7 @@
 --   countsIn      how many regions three lists have
 --   awayTests     refusals 8, 9, and 13 for the message and the free regions: those that no plan is needed for; earlyTests 5 before them
 --   begunAfter    a beginning where none of these holds: refusals 4, 13 for the blocks, 14; the record and the scratch
---   slotsBy       the twelve slots of the message by a plan
---   messageBy     the message by them
+--   messageBy     the message by a plan
 use Prim.Native.Nat.{ℕ, _+_}
 use mathlib.Core.Bool.{true, _&&_, _||_, not}
 use mathlib.Core.List.{List, [], _∷_}
@@ -12,11 +11,11 @@ use lib.ListN.{length, getD}
 use Rattle.error.specs.declared.Refusal.the-variants as refusal
 use Rattle.error.specs.Outcome.{Outcome, answer, Condition, when, firstOf}
 use Rattle.error.specs.Lent.{With, with}
-use Rattle.fields.specs.Ranges.{top}
 use Rattle.free_lists.specs.declared.FileLists.{FileLists}
 use Rattle.free_lists.specs.Lists.{Regions, sharedByte}
 use Rattle.fsm_plan.specs.declared.Counts.{Counts}
 use Rattle.fsm_plan.specs.declared.blocks.PagedManagerPlan.{PagedManagerPlan}
+use Rattle.fsm_plan.specs.Blocks.{slotsBy}
 use Rattle.file_space_info.specs.declared.FileSpaceStrategy.the-variants as strategy
 use Rattle.file_space_info.specs.Message.{messageLen, messageBytes}
 use Rattle.file_space_info.specs.Infos.{made}
@@ -52,10 +51,6 @@ begunAfter rs page start place image scratch =
     (answer (with (firstRecord rs page start place) (filled page start rs scratch)))
 
 -- ---- the message
-
-abbrev pub slotsBy : PagedManagerPlan → List ℕ
-slotsBy p =
-    p .slot0 .«fshd_addr» ∷ top ∷ p .slot2 .«fshd_addr» ∷ top ∷ top ∷ top ∷ p .slot6 .«fshd_addr» ∷ top ∷ top ∷ top ∷ top ∷ top ∷ []
 
 abbrev pub messageBy : ℕ → ℕ → PagedManagerPlan → List ℕ
 messageBy page start p = messageBytes 8 8 (made true strategy.Page 1 page start) (slotsBy p)

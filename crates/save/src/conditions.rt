@@ -10,12 +10,12 @@ ghost use Rattle.free_regions.specs.Regions.{region, meets};
 ghost use Rattle.free_space.specs.Runs.{regions, isList};
 ghost use Rattle.free_lists.specs.Lists.{listsIn, regionsIn, areLists};
 ghost use Rattle.save.specs.Saving.{inTheWay, messageIn, blocksOut, anyInTheWay};
-ghost use Rattle.save.specs.Beginning.{awayTests, earlyTests};
+ghost use Rattle.save.specs.Beginning.{earlyTests};
+use crate::Request;
 use crate::Target;
 use error::Checked;
 use error::Refusal;
 use file_space_info::MESSAGE_LEN;
-use free_lists::FileLists;
 use free_lists::check_lists;
 use free_space::list::FreeList;
 use numbers::min;
@@ -84,75 +84,55 @@ fn in_the_way(run: &[u64], list: FreeList, start: u64, place: u64) -> bool
 }
 
 // Whether some region of three lists does.
-fn any_in_the_way(
-    meta: &[u64],
-    raw: &[u64],
-    unclassified: &[u64],
-    lists: FileLists,
-    to: Target,
-) -> bool
-    requires lists { ⌜ areLists (listsIn (now meta) (now raw) (now unclassified) lists) ≡ true ⌝ }
-    requires message { ⌜ to .place + 125 ≤ top ⌝ }
-    ensures { λ r. ⌜ r ≡ anyInTheWay (to .start) (to .place) (regionsIn (listsIn (now (meta .entry)) (now (raw .entry)) (now (unclassified .entry)) lists)) ⌝ }
+fn any_in_the_way(meta: &[u64], raw: &[u64], unclassified: &[u64], q: Request) -> bool
+    requires lists { ⌜ areLists (listsIn (now meta) (now raw) (now unclassified) (q .lists)) ≡ true ⌝ }
+    requires message { ⌜ q .to .place + 125 ≤ top ⌝ }
+    ensures { λ r. ⌜ r ≡ anyInTheWay (q .to .start) (q .to .place)
+        (regionsIn (listsIn (now (meta .entry)) (now (raw .entry)) (now (unclassified .entry)) (q .lists))) ⌝ }
 {
-    if in_the_way(meta, lists.metadata, to.start, to.place) {
+    if in_the_way(meta, q.lists.metadata, q.to.start, q.to.place) {
         return true;
     }
-    if in_the_way(raw, lists.raw, to.start, to.place) {
+    if in_the_way(raw, q.lists.raw, q.to.start, q.to.place) {
         return true;
     }
-    in_the_way(unclassified, lists.unclassified, to.start, to.place)
+    in_the_way(unclassified, q.lists.unclassified, q.to.start, q.to.place)
 }
 
-// Refusals 8, 9 and 13. A message that leaves the image is 13 and has no bytes for 8 and 9 to test.
-fn test_away(
-    meta: &[u64],
-    raw: &[u64],
-    unclassified: &[u64],
-    lists: FileLists,
-    to: Target,
-    image: &[u8],
-) -> Checked
-    requires lists { ⌜ areLists (listsIn (now meta) (now raw) (now unclassified) lists) ≡ true ⌝ }
-    ensures { λ r. ⌜ checkedOutcome r ≡ firstOf
-        (awayTests (regionsIn (listsIn (now (meta .entry)) (now (raw .entry)) (now (unclassified .entry)) lists)) (to .start) (to .place)
-        (now (image .entry))) (answer tt) ⌝ }
-{
-    if !message_in(to.place, image) {
-        return Checked::Refused(Refusal::Place);
-    }
-    let at = to.place as usize;
-    let version = image[at];
-    if version != 1 {
-        return Checked::Refused(Refusal::MessageVersion(version));
-    }
-    let code = image[at + 1];
-    if 3 < code {
-        return Checked::Refused(Refusal::Strategy(code));
-    }
-    if any_in_the_way(meta, raw, unclassified, lists, to) {
-        return Checked::Refused(Refusal::Place);
-    }
-    Checked::Passed
-}
-
-// Refusal 5 and then those.
+// Refusals 5, 8, 9 and 13. A message that leaves the image is 13 and has no bytes for 8 and 9 to test.
 pub(crate) fn test_early(
     meta: &[u64],
     raw: &[u64],
     unclassified: &[u64],
-    lists: FileLists,
-    to: Target,
+    q: Request,
     image: &[u8],
 ) -> Checked
-    requires lists { ⌜ areLists (listsIn (now meta) (now raw) (now unclassified) lists) ≡ true ⌝ }
+    requires lists { ⌜ areLists (listsIn (now meta) (now raw) (now unclassified) (q .lists)) ≡ true ⌝ }
     ensures { λ r. ⌜ checkedOutcome r ≡ firstOf
-        (earlyTests (regionsIn (listsIn (now (meta .entry)) (now (raw .entry)) (now (unclassified .entry)) lists)) (to .start) (to .place)
+        (earlyTests (regionsIn (listsIn (now (meta .entry)) (now (raw .entry)) (now (unclassified .entry)) (q .lists))) (q .to .start) (q .to .place)
         (now (image .entry))) (answer tt) ⌝ }
 {
-    let shared = check_lists(meta, raw, unclassified, lists);
+    let shared = check_lists(meta, raw, unclassified, q.lists);
     match shared {
         Checked::Refused(r) => Checked::Refused(r),
-        Checked::Passed => test_away(meta, raw, unclassified, lists, to, image),
+        Checked::Passed => {
+            let place = q.to.place;
+            if !message_in(place, image) {
+                return Checked::Refused(Refusal::Place);
+            }
+            let at = place as usize;
+            let version = image[at];
+            if version != 1 {
+                return Checked::Refused(Refusal::MessageVersion(version));
+            }
+            let code = image[at + 1];
+            if 3 < code {
+                return Checked::Refused(Refusal::Strategy(code));
+            }
+            if any_in_the_way(meta, raw, unclassified, q) {
+                return Checked::Refused(Refusal::Place);
+            }
+            Checked::Passed
+        }
     }
 }

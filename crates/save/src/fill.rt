@@ -13,10 +13,9 @@ ghost use Rattle.save_step.specs.declared.Save.{Save};
 ghost use Rattle.save.specs.Saving.{tooLarge, messageIn, beginOutcome};
 ghost use Rattle.save.specs.Beginning.{countsIn, messageBy, begunAfter};
 use crate::Begin;
-use crate::Target;
+use crate::Request;
 use crate::conditions::block_room;
 use error::Refusal;
-use fields::convert::UNDEF;
 use file_space_info::DEFAULT_THRESHOLD;
 use file_space_info::FileSpaceInfo;
 use file_space_info::FileSpaceStrategy;
@@ -46,25 +45,11 @@ fn put_message(page: u64, start: u64, p: PagedManagerPlan, scratch: &mut [u8])
     requires { ⌜ (start ≤ p .«end_of_managers») × (p .«end_of_managers» - start + 125 ≤ length (now scratch)) ⌝ }
     ensures { λ _. ⌜ now (scratch .exit) ≡ over (p .«end_of_managers» - start) (messageBy page start p) (now (scratch .entry)) ⌝ }
 {
-    let slots = [
-        p.slot0.fshd_addr,
-        UNDEF,
-        p.slot2.fshd_addr,
-        UNDEF,
-        UNDEF,
-        UNDEF,
-        p.slot6.fshd_addr,
-        UNDEF,
-        UNDEF,
-        UNDEF,
-        UNDEF,
-        UNDEF,
-    ];
     let message = FileSpaceInfo::persistent_managers(
         FileSpaceStrategy::Page,
         DEFAULT_THRESHOLD,
         page,
-        slots,
+        p.slots(),
         start,
     );
     let info = message.info;
@@ -78,17 +63,16 @@ pub(crate) fn refuse_early(
     meta: &[u64],
     raw: &[u64],
     unclassified: &[u64],
-    lists: FileLists,
-    to: Target,
+    q: Request,
     early: Refusal,
 ) -> Refusal
-    requires { ⌜ (0 < to .page) × (areLists (listsIn (now meta) (now raw) (now unclassified) lists) ≡ true) ⌝ }
+    requires { ⌜ (0 < q .to .page) × (areLists (listsIn (now meta) (now raw) (now unclassified) (q .lists)) ≡ true) ⌝ }
     ensures { λ r. ⌜ _≡_ {A = Outcome Save} (refused r)
-        (firstOf (when (tooLarge (to .page) (to .start)
-        (regionsIn (listsIn (now (meta .entry)) (now (raw .entry)) (now (unclassified .entry)) lists))) Overflow ∷ []) (refused early)) ⌝ }
+        (firstOf (when (tooLarge (q .to .page) (q .to .start)
+        (regionsIn (listsIn (now (meta .entry)) (now (raw .entry)) (now (unclassified .entry)) (q .lists)))) Overflow ∷ []) (refused early)) ⌝ }
 {
-    let n = counts_of(lists);
-    let planned = plan_blocks(meta, raw, unclassified, n, to.page, to.start, 8);
+    let n = counts_of(q.lists);
+    let planned = plan_blocks(meta, raw, unclassified, n, q.to.page, q.to.start, 8);
     match planned {
         BlocksPlanned::Plan(_) => early,
         BlocksPlanned::Refused(r) => {
@@ -126,29 +110,28 @@ pub(crate) fn begin_after(
     meta: &[u64],
     raw: &[u64],
     unclassified: &[u64],
-    lists: FileLists,
-    to: Target,
+    q: Request,
     image: &[u8],
     scratch: &mut [u8],
 ) -> Begin
-    requires lists { ⌜ (0 < to .page) × (areLists (listsIn (now meta) (now raw) (now unclassified) lists) ≡ true) ⌝ }
-    requires apart { ⌜ sharedByte (regionsIn (listsIn (now meta) (now raw) (now unclassified) lists)) ≡ false ⌝ }
-    requires message { ⌜ messageIn (to .place) (now image) ≡ true ⌝ }
+    requires lists { ⌜ (0 < q .to .page) × (areLists (listsIn (now meta) (now raw) (now unclassified) (q .lists)) ≡ true) ⌝ }
+    requires apart { ⌜ sharedByte (regionsIn (listsIn (now meta) (now raw) (now unclassified) (q .lists))) ≡ false ⌝ }
+    requires message { ⌜ messageIn (q .to .place) (now image) ≡ true ⌝ }
     ensures { λ r. ⌜ left (beginOutcome r) (now (scratch .exit))
-        ≡ leaving (now (scratch .entry)) (begunAfter (regionsIn (listsIn (now (meta .entry)) (now (raw .entry)) (now (unclassified .entry)) lists))
-        (to .page) (to .start) (to .place) (now (image .entry)) (now (scratch .entry))) ⌝ }
+        ≡ leaving (now (scratch .entry)) (begunAfter (regionsIn (listsIn (now (meta .entry)) (now (raw .entry)) (now (unclassified .entry)) (q .lists)))
+        (q .to .page) (q .to .start) (q .to .place) (now (image .entry)) (now (scratch .entry))) ⌝ }
 {
-    let n = counts_of(lists);
+    let n = counts_of(q.lists);
     let given = scratch.len() as u64;
-    let room = block_room(to, image);
+    let room = block_room(q.to, image);
     let lent = min(room, saturating_sub(given, MESSAGE_LEN)) as usize;
     let planned = serialize_paged_managers(
         meta,
         raw,
         unclassified,
         n,
-        to.page,
-        to.start,
+        q.to.page,
+        q.to.start,
         8,
         &mut scratch[0..lent],
     );
@@ -164,14 +147,14 @@ pub(crate) fn begin_after(
             refuse_room(needed, given)
         }
         BlocksPlanned::Plan(p) => {
-            let len = p.managers.end_of_managers - to.start;
+            let len = p.managers.end_of_managers - q.to.start;
             if given < MESSAGE_LEN {
                 return refuse_room(len, given);
             }
-            put_message(to.page, to.start, p.managers, scratch);
+            put_message(q.to.page, q.to.start, p.managers, scratch);
             Begin::Begun(Save {
-                start: to.start,
-                place: to.place,
+                start: q.to.start,
+                place: q.to.place,
                 len: len,
                 done: 0,
             })

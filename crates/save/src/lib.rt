@@ -23,6 +23,12 @@ pub struct Target {
     pub place: u64,
 }
 
+// What a beginning is asked for: the lists to save, and where to.
+pub(crate) struct Request {
+    pub(crate) lists: FileLists,
+    pub(crate) to: Target,
+}
+
 // What the beginning of a save answers: its record.
 pub enum Begin {
     Begun(Save),
@@ -49,11 +55,13 @@ pub fn save_begin(
     if !are_lists(meta, raw, unclassified, lists) {
         return Begin::Refused(Refusal::NotAList);
     }
-    let early = test_early(meta, raw, unclassified, lists, to, image);
+    let q = Request {
+        lists: lists,
+        to: to,
+    };
+    let early = test_early(meta, raw, unclassified, q, image);
     match early {
-        Checked::Refused(r) => {
-            Begin::Refused(refuse_early(meta, raw, unclassified, lists, to, r))
-        }
-        Checked::Passed => begin_after(meta, raw, unclassified, lists, to, image, scratch),
+        Checked::Refused(r) => Begin::Refused(refuse_early(meta, raw, unclassified, q, r)),
+        Checked::Passed => begin_after(meta, raw, unclassified, q, image, scratch),
     }
 }

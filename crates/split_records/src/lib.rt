@@ -55,8 +55,10 @@ fn pieces_in(s: Split) -> usize
 
 // The next piece, where `done` bytes of section `section` are cut.
 fn next_piece(sections: &[u64], count: usize, page: u64, section: usize, done: u64) -> Cut
-    requires { ⌜ (0 < page) × (2 * count ≤ length (now sections)) × (endsAbove (decode count (now sections)) ≡ false) × (0 < length (piecesLeft page count (now sections) section done)) ⌝ }
-    ensures { λ r. ⌜ piecesLeft page count (now (sections .entry)) section done ≡ r .piece ∷ piecesLeft page count (now (sections .entry)) (r .section) (r .done) ⌝ }
+    requires { ⌜ (0 < page) × (2 * count ≤ length (now sections)) × (endsAbove (decode count (now sections)) ≡ false)
+        × (0 < length (piecesLeft page count (now sections) section done)) ⌝ }
+    ensures { λ r. ⌜ piecesLeft page count (now (sections .entry)) section done
+        ≡ r .piece ∷ piecesLeft page count (now (sections .entry)) (r .section) (r .done) ⌝ }
 {
     let mut i = section;
     let mut d = done;
@@ -77,7 +79,8 @@ fn next_piece(sections: &[u64], count: usize, page: u64, section: usize, done: u
 // Cuts each section at every page multiple and puts the pieces into the records `out`. An empty section has none. The prover
 // walks no function over a slice of structs: this one, proved by hand, stores and does nothing else.
 pub fn split_at_pages(sections: &[u64], count: usize, page: u64, out: &mut [FreeSection]) -> Split
-    ensures { λ r. ⌜ left (splitOutcome r) (now (out .exit)) ≡ leaving (now (out .entry)) (splitRecords (now (sections .entry)) count page (now (out .entry))) ⌝ }
+    ensures { λ r. ⌜ left (splitOutcome r) (now (out .exit))
+        ≡ leaving (now (out .entry)) (splitRecords (now (sections .entry)) count page (now (out .entry))) ⌝ }
 {
     let answer = planned(sections, count, page, out.len());
     let n = pieces_in(answer);

@@ -6,19 +6,10 @@ use Rattle.bench_abi.specs.Counts.{givenLeft}
 use Rattle.bench_abi.proofs.bench_alloc_whole_units.Statement.{statement}
 use Rattle.bench_abi.proofs.bench_alloc_whole_units.Tie as tie
 
-alloc-whole-units-requires : tie.Need-alloc-whole-units-requires
-alloc-whole-units-requires c κs = search needs
-
-given-count-requires : tie.Need-given-count-requires
-given-count-requires c κs = search needs
-
-same-length : tie.Need-same-length
-same-length c = search needs
-
 returns : tie.Need-returns
 returns c =
     let d = c .before .before .before .alloc-whole-units in
     ap (λ (n : ℕ). with n (d .last .1 .0)) (c .given-count .ensures) ∙ ap givenLeft (d .ensures)
 
 pub bench-alloc-whole-units-spec : {M : Type 1} → statement M
-bench-alloc-whole-units-spec = tie.close (tie.spec alloc-whole-units-requires given-count-requires same-length returns)
+bench-alloc-whole-units-spec = tie.close (tie.spec (search needs) (search needs) (search needs) returns)

@@ -6,19 +6,10 @@ use Rattle.bench_abi.specs.Counts.{keptLeft}
 use Rattle.bench_abi.proofs.bench_free.Statement.{statement}
 use Rattle.bench_abi.proofs.bench_free.Tie as tie
 
-free-requires : tie.Need-free-requires
-free-requires c κs = search needs
-
-kept-count-requires : tie.Need-kept-count-requires
-kept-count-requires c κs = search needs
-
-same-length : tie.Need-same-length
-same-length c = search needs
-
 returns : tie.Need-returns
 returns c =
     let d = c .before .before .before .free in
     ap (λ (n : ℕ). with n (d .last .1 .0)) (c .kept-count .ensures) ∙ ap keptLeft (d .ensures)
 
 pub bench-free-spec : {M : Type 1} → statement M
-bench-free-spec = tie.close (tie.spec free-requires kept-count-requires same-length returns)
+bench-free-spec = tie.close (tie.spec (search needs) (search needs) (search needs) returns)

@@ -6,19 +6,10 @@ use Rattle.bench_abi.specs.Counts.{givenLeft}
 use Rattle.bench_abi.proofs.bench_take_trailing.Statement.{statement}
 use Rattle.bench_abi.proofs.bench_take_trailing.Tie as tie
 
-take-trailing-requires : tie.Need-take-trailing-requires
-take-trailing-requires c κs = search needs
-
-given-count-requires : tie.Need-given-count-requires
-given-count-requires c κs = search needs
-
-same-length : tie.Need-same-length
-same-length c = search needs
-
 returns : tie.Need-returns
 returns c =
     let d = c .before .before .before .take-trailing in
     ap (λ (n : ℕ). with n (d .last .1 .0)) (c .given-count .ensures) ∙ ap givenLeft (d .ensures)
 
 pub bench-take-trailing-spec : {M : Type 1} → statement M
-bench-take-trailing-spec = tie.close (tie.spec take-trailing-requires given-count-requires same-length returns)
+bench-take-trailing-spec = tie.close (tie.spec (search needs) (search needs) (search needs) returns)

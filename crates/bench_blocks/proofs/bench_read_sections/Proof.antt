@@ -6,15 +6,6 @@ use Rattle.fields.specs.Ranges.{leftOrTop}
 use Rattle.bench_blocks.proofs.bench_read_sections.Statement.{statement}
 use Rattle.bench_blocks.proofs.bench_read_sections.Tie as tie
 
-read-persisted-sections-requires : tie.Need-read-persisted-sections-requires
-read-persisted-sections-requires c κs = search needs
-
-read-count-requires : tie.Need-read-count-requires
-read-count-requires c κs = search needs
-
-same-length : tie.Need-same-length
-same-length c = search needs
-
 returns : tie.Need-returns
 returns c =
     let d = c .before .before .before .read-persisted-sections in
@@ -22,4 +13,4 @@ returns c =
 
 pub bench-read-sections-spec : {M : Type 1} → statement M
 bench-read-sections-spec =
-    tie.close (tie.spec read-persisted-sections-requires read-count-requires same-length returns)
+    tie.close (tie.spec (search needs) (search needs) (search needs) returns)

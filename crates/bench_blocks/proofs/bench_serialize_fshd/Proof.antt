@@ -6,15 +6,6 @@ use Rattle.fields.specs.Ranges.{leftOrTop}
 use Rattle.bench_blocks.proofs.bench_serialize_fshd.Statement.{statement}
 use Rattle.bench_blocks.proofs.bench_serialize_fshd.Tie as tie
 
-serialize-fshd-requires : tie.Need-serialize-fshd-requires
-serialize-fshd-requires c κs = search needs
-
-byte-count-requires : tie.Need-byte-count-requires
-byte-count-requires c κs = search needs
-
-same-length : tie.Need-same-length
-same-length c = search needs
-
 returns : tie.Need-returns
 returns c =
     let d = c .before .before .before .serialize-fshd in
@@ -22,4 +13,4 @@ returns c =
 
 pub bench-serialize-fshd-spec : {M : Type 1} → statement M
 bench-serialize-fshd-spec =
-    tie.close (tie.spec serialize-fshd-requires byte-count-requires same-length returns)
+    tie.close (tie.spec (search needs) (search needs) (search needs) returns)

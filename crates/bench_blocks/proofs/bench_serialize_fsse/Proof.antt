@@ -6,15 +6,6 @@ use Rattle.fields.specs.Ranges.{leftOrTop}
 use Rattle.bench_blocks.proofs.bench_serialize_fsse.Statement.{statement}
 use Rattle.bench_blocks.proofs.bench_serialize_fsse.Tie as tie
 
-serialize-fsse-requires : tie.Need-serialize-fsse-requires
-serialize-fsse-requires c κs = search needs
-
-byte-count-requires : tie.Need-byte-count-requires
-byte-count-requires c κs = search needs
-
-same-length : tie.Need-same-length
-same-length c = search needs
-
 returns : tie.Need-returns
 returns c =
     let d = c .before .before .before .serialize-fsse in
@@ -22,4 +13,4 @@ returns c =
 
 pub bench-serialize-fsse-spec : {M : Type 1} → statement M
 bench-serialize-fsse-spec =
-    tie.close (tie.spec serialize-fsse-requires byte-count-requires same-length returns)
+    tie.close (tie.spec (search needs) (search needs) (search needs) returns)

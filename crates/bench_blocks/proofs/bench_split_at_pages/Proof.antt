@@ -6,15 +6,6 @@ use Rattle.fields.specs.Ranges.{leftOrTop}
 use Rattle.bench_blocks.proofs.bench_split_at_pages.Statement.{statement}
 use Rattle.bench_blocks.proofs.bench_split_at_pages.Tie as tie
 
-split-at-pages-requires : tie.Need-split-at-pages-requires
-split-at-pages-requires c κs = search needs
-
-piece-count-requires : tie.Need-piece-count-requires
-piece-count-requires c κs = search needs
-
-same-length : tie.Need-same-length
-same-length c = search needs
-
 returns : tie.Need-returns
 returns c =
     let d = c .before .before .before .split-at-pages in
@@ -22,4 +13,4 @@ returns c =
 
 pub bench-split-at-pages-spec : {M : Type 1} → statement M
 bench-split-at-pages-spec =
-    tie.close (tie.spec split-at-pages-requires piece-count-requires same-length returns)
+    tie.close (tie.spec (search needs) (search needs) (search needs) returns)

@@ -6,15 +6,6 @@ use Rattle.bench_save.specs.Lengths.{planLeft}
 use Rattle.bench_save.proofs.bench_plan_paged_managers.Statement.{statement}
 use Rattle.bench_save.proofs.bench_plan_paged_managers.Tie as tie
 
-plan-paged-managers-requires : tie.Need-plan-paged-managers-requires
-plan-paged-managers-requires c κs = search needs
-
-end-of-requires : tie.Need-end-of-requires
-end-of-requires c κs = search needs
-
-same-length : tie.Need-same-length
-same-length c = search needs
-
 returns : tie.Need-returns
 returns c =
     let d = c .before .before .before .plan-paged-managers in
@@ -22,4 +13,4 @@ returns c =
 
 pub bench-plan-paged-managers-spec : {M : Type 1} → statement M
 bench-plan-paged-managers-spec =
-    tie.close (tie.spec plan-paged-managers-requires end-of-requires same-length returns)
+    tie.close (tie.spec (search needs) (search needs) (search needs) returns)

@@ -10,18 +10,6 @@ use Rattle.bench_save.specs.Lengths.{saveLeft}
 use Rattle.bench_save.proofs.bench_save_begin.Statement.{statement}
 use Rattle.bench_save.proofs.bench_save_begin.Tie as tie
 
-lists-of-requires : tie.Need-lists-of-requires
-lists-of-requires c κs = search needs
-
-save-begin-requires : tie.Need-save-begin-requires
-save-begin-requires c κs = search needs
-
-len-of-requires : tie.Need-len-of-requires
-len-of-requires c κs = search needs
-
-same-length : tie.Need-same-length
-same-length c = search needs
-
 returns : tie.Need-returns
 returns c =
     let p = c .before .before .before .before .before in
@@ -34,4 +22,4 @@ returns c =
 
 pub bench-save-begin-spec : {M : Type 1} → statement M
 bench-save-begin-spec =
-    tie.close (tie.spec lists-of-requires save-begin-requires len-of-requires same-length returns)
+    tie.close (tie.spec (search needs) (search needs) (search needs) (search needs) returns)

@@ -5,15 +5,6 @@ use Rattle.capi.specs.Refused.{orZero}
 use Rattle.capi.proofs.fshd_len.Statement.{statement}
 use Rattle.capi.proofs.fshd_len.Tie as tie
 
-fshd-len-requires : tie.Need-fshd-len-requires
-fshd-len-requires c κs = search needs
-
-enum-known-n : tie.Need-enum-known-n
-enum-known-n c = search needs
-
-enum-told : tie.Need-enum-told
-enum-told c = search needs
-
 returns : tie.Need-returns
 returns c = sym (ap orZero (sym (c .before .before .before .fshd-len .ensures) ∙ ap numberOutcome (c .before .n .given .1)))
 
@@ -21,4 +12,4 @@ returns-2 : tie.Need-returns-2
 returns-2 c = sym (ap orZero (sym (c .before .before .fshd-len .ensures) ∙ ap numberOutcome (c .enum-told .given .1)))
 
 pub fshd-len-spec : {M : Type 1} → statement M
-fshd-len-spec = tie.close (tie.spec fshd-len-requires enum-known-n enum-told returns returns-2)
+fshd-len-spec = tie.close (tie.spec (search needs) (search needs) (search needs) returns returns-2)

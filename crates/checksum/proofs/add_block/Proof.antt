@@ -4,30 +4,6 @@ use borrow.Author.Needs.{needs}
 use Rattle.checksum.proofs.add_block.Statement.{statement}
 use Rattle.checksum.proofs.add_block.Tie as tie
 
-word-requires : tie.Need-word-requires
-word-requires c κs = search needs
-
-wrapping-add-u32-requires : tie.Need-wrapping-add-u32-requires
-wrapping-add-u32-requires c κs = search needs
-
-add-word : tie.Need-add-word
-add-word c = search needs
-
-word-requires-2 : tie.Need-word-requires-2
-word-requires-2 c κs = search needs
-
-wrapping-add-u32-requires-2 : tie.Need-wrapping-add-u32-requires-2
-wrapping-add-u32-requires-2 c κs = search needs
-
-add-word-2 : tie.Need-add-word-2
-add-word-2 c = search needs
-
-word-requires-3 : tie.Need-word-requires-3
-word-requires-3 c κs = search needs
-
-wrapping-add-u32-requires-3 : tie.Need-wrapping-add-u32-requires-3
-wrapping-add-u32-requires-3 c κs = search needs
-
 returns : tie.Need-returns
 unfolding blockAdded add32
 returns c =
@@ -38,12 +14,12 @@ pub add-block-spec : {M : Type 1} → statement M
 add-block-spec =
     tie.close
     (tie.spec
-    word-requires
-    wrapping-add-u32-requires
-    add-word
-    word-requires-2
-    wrapping-add-u32-requires-2
-    add-word-2
-    word-requires-3
-    wrapping-add-u32-requires-3
+    (search needs)
+    (search needs)
+    (search needs)
+    (search needs)
+    (search needs)
+    (search needs)
+    (search needs)
+    (search needs)
     returns)

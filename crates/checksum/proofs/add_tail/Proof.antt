@@ -4,24 +4,6 @@ use borrow.Author.Needs.{needs}
 use Rattle.checksum.proofs.add_tail.Statement.{statement}
 use Rattle.checksum.proofs.add_tail.Tie as tie
 
-part-word-requires : tie.Need-part-word-requires
-part-word-requires c κs = search needs
-
-wrapping-add-u32-requires : tie.Need-wrapping-add-u32-requires
-wrapping-add-u32-requires c κs = search needs
-
-part-word-requires-2 : tie.Need-part-word-requires-2
-part-word-requires-2 c κs = search needs
-
-wrapping-add-u32-requires-2 : tie.Need-wrapping-add-u32-requires-2
-wrapping-add-u32-requires-2 c κs = search needs
-
-part-word-requires-3 : tie.Need-part-word-requires-3
-part-word-requires-3 c κs = search needs
-
-wrapping-add-u32-requires-3 : tie.Need-wrapping-add-u32-requires-3
-wrapping-add-u32-requires-3 c κs = search needs
-
 returns : tie.Need-returns
 unfolding blockAdded add32
 returns c =
@@ -32,10 +14,10 @@ pub add-tail-spec : {M : Type 1} → statement M
 add-tail-spec =
     tie.close
     (tie.spec
-    part-word-requires
-    wrapping-add-u32-requires
-    part-word-requires-2
-    wrapping-add-u32-requires-2
-    part-word-requires-3
-    wrapping-add-u32-requires-3
+    (search needs)
+    (search needs)
+    (search needs)
+    (search needs)
+    (search needs)
+    (search needs)
     returns)

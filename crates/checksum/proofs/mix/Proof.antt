@@ -3,42 +3,6 @@ use borrow.Author.Needs.{needs}
 use Rattle.checksum.proofs.mix.Statement.{statement}
 use Rattle.checksum.proofs.mix.Tie as tie
 
-sub-xor-rot-requires : tie.Need-sub-xor-rot-requires
-sub-xor-rot-requires c κs = search needs
-
-wrapping-add-u32-requires : tie.Need-wrapping-add-u32-requires
-wrapping-add-u32-requires c κs = search needs
-
-sub-xor-rot-requires-2 : tie.Need-sub-xor-rot-requires-2
-sub-xor-rot-requires-2 c κs = search needs
-
-wrapping-add-u32-requires-2 : tie.Need-wrapping-add-u32-requires-2
-wrapping-add-u32-requires-2 c κs = search needs
-
-sub-xor-rot-requires-3 : tie.Need-sub-xor-rot-requires-3
-sub-xor-rot-requires-3 c κs = search needs
-
-wrapping-add-u32-requires-3 : tie.Need-wrapping-add-u32-requires-3
-wrapping-add-u32-requires-3 c κs = search needs
-
-sub-xor-rot-requires-4 : tie.Need-sub-xor-rot-requires-4
-sub-xor-rot-requires-4 c κs = search needs
-
-wrapping-add-u32-requires-4 : tie.Need-wrapping-add-u32-requires-4
-wrapping-add-u32-requires-4 c κs = search needs
-
-sub-xor-rot-requires-5 : tie.Need-sub-xor-rot-requires-5
-sub-xor-rot-requires-5 c κs = search needs
-
-wrapping-add-u32-requires-5 : tie.Need-wrapping-add-u32-requires-5
-wrapping-add-u32-requires-5 c κs = search needs
-
-sub-xor-rot-requires-6 : tie.Need-sub-xor-rot-requires-6
-sub-xor-rot-requires-6 c κs = search needs
-
-wrapping-add-u32-requires-6 : tie.Need-wrapping-add-u32-requires-6
-wrapping-add-u32-requires-6 c κs = search needs
-
 returns : tie.Need-returns
 unfolding mixed add32
 returns c =
@@ -61,16 +25,16 @@ pub mix-spec : {M : Type 1} → statement M
 mix-spec =
     tie.close
     (tie.spec
-    sub-xor-rot-requires
-    wrapping-add-u32-requires
-    sub-xor-rot-requires-2
-    wrapping-add-u32-requires-2
-    sub-xor-rot-requires-3
-    wrapping-add-u32-requires-3
-    sub-xor-rot-requires-4
-    wrapping-add-u32-requires-4
-    sub-xor-rot-requires-5
-    wrapping-add-u32-requires-5
-    sub-xor-rot-requires-6
-    wrapping-add-u32-requires-6
+    (search needs)
+    (search needs)
+    (search needs)
+    (search needs)
+    (search needs)
+    (search needs)
+    (search needs)
+    (search needs)
+    (search needs)
+    (search needs)
+    (search needs)
+    (search needs)
     returns)

@@ -5,15 +5,9 @@ use borrow.Author.Needs.{needs}
 use Rattle.checksum.proofs.sub_xor_rot.Statement.{statement}
 use Rattle.checksum.proofs.sub_xor_rot.Tie as tie
 
-wrapping-sub-u32-requires : tie.Need-wrapping-sub-u32-requires
-wrapping-sub-u32-requires c κs = search needs
-
-rot-requires : tie.Need-rot-requires
-rot-requires c κs = search needs
-
 returns : tie.Need-returns
 unfolding xor32
 returns c = ap₂ xor32 (sub-wraps _ _ _ (search needs) (search needs) (c .before .wrapping-sub-u32 .ensures)) (c .rot .ensures)
 
 pub sub-xor-rot-spec : {M : Type 1} → statement M
-sub-xor-rot-spec = tie.close (tie.spec wrapping-sub-u32-requires rot-requires returns)
+sub-xor-rot-spec = tie.close (tie.spec (search needs) (search needs) returns)

@@ -9,14 +9,8 @@ use Rattle.checksum.proofs.verify_trailing.Tie as tie
 returns : tie.Need-returns
 returns c = short (c .before .before .args .block .now) (c .if1 .taken)
 
-word-requires : tie.Need-word-requires
-word-requires c κs = search needs
-
 slice-aggregate-jenkins-lookup3 : tie.Need-slice-aggregate-jenkins-lookup3
 slice-aggregate-jenkins-lookup3 c = sym (length-take-le _ (c .before .before .before .before .args .block .now) (omega arith))
-
-jenkins-lookup3-requires : tie.Need-jenkins-lookup3-requires
-jenkins-lookup3-requires c κs = search needs
 
 returns-2 : tie.Need-returns-2
 returns-2 c =
@@ -33,8 +27,8 @@ verify-trailing-spec =
     tie.close
     (tie.spec
     returns
-    word-requires
+    (search needs)
     slice-aggregate-jenkins-lookup3
-    jenkins-lookup3-requires
+    (search needs)
     returns-2
     returns-3)

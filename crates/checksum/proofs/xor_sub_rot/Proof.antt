@@ -4,15 +4,9 @@ use borrow.Author.Needs.{needs}
 use Rattle.checksum.proofs.xor_sub_rot.Statement.{statement}
 use Rattle.checksum.proofs.xor_sub_rot.Tie as tie
 
-rot-requires : tie.Need-rot-requires
-rot-requires c κs = search needs
-
-wrapping-sub-u32-requires : tie.Need-wrapping-sub-u32-requires
-wrapping-sub-u32-requires c κs = search needs
-
 returns : tie.Need-returns
 unfolding xor32
 returns c = rw (← c .before .rot .ensures) (sub-wraps _ _ _ (search needs) (search needs) (c .wrapping-sub-u32 .ensures))
 
 pub xor-sub-rot-spec : {M : Type 1} → statement M
-xor-sub-rot-spec = tie.close (tie.spec rot-requires wrapping-sub-u32-requires returns)
+xor-sub-rot-spec = tie.close (tie.spec (search needs) (search needs) returns)

@@ -7,33 +7,6 @@ use Rattle.end_to_end.proofs.DemandedLaws.{demanded}
 use Rattle.end_to_end.proofs.call_save_read.Statement.{statement}
 use Rattle.end_to_end.proofs.call_save_read.Tie as tie
 
-make-calls-requires : tie.Need-make-calls-requires
-make-calls-requires c κs = search needs
-
-save-begin-requires : tie.Need-save-begin-requires
-save-begin-requires c κs = search needs
-
-step-and-read-requires : tie.Need-step-and-read-requires
-step-and-read-requires c κs = search needs
-
-same-length : tie.Need-same-length
-same-length c = search needs
-
-same-length-2 : tie.Need-same-length-2
-same-length-2 c = search needs
-
-same-length-3 : tie.Need-same-length-3
-same-length-3 c = search needs
-
-same-length-4 : tie.Need-same-length-4
-same-length-4 c = search needs
-
-same-length-5 : tie.Need-same-length-5
-same-length-5 c = search needs
-
-same-length-6 : tie.Need-same-length-6
-same-length-6 c = search needs
-
 returns : tie.Need-returns
 returns c =
     let read = c .before .before .before .before in
@@ -58,13 +31,13 @@ pub call-save-read-spec : {M : Type 1} → statement M
 call-save-read-spec =
     tie.close
     (tie.spec
-    make-calls-requires
-    save-begin-requires
-    step-and-read-requires
-    same-length
-    same-length-2
-    same-length-3
-    same-length-4
-    same-length-5
-    same-length-6
+    (search needs)
+    (search needs)
+    (search needs)
+    (search needs)
+    (search needs)
+    (search needs)
+    (search needs)
+    (search needs)
+    (search needs)
     returns)

@@ -4,32 +4,11 @@ use Rattle.end_to_end.proofs.CutLaws.{cut-refused, cut-stepped}
 use Rattle.end_to_end.proofs.step_and_read.Statement.{statement}
 use Rattle.end_to_end.proofs.step_and_read.Tie as tie
 
-enum-known-begin : tie.Need-enum-known-begin
-enum-known-begin c = search needs
-
-not-begun-requires : tie.Need-not-begun-requires
-not-begun-requires c κs = search needs
-
-enum-known-begin-2 : tie.Need-enum-known-begin-2
-enum-known-begin-2 c = search needs
-
-save-steps-requires : tie.Need-save-steps-requires
-save-steps-requires c κs = search needs
-
-read-image-requires : tie.Need-read-image-requires
-read-image-requires c κs = search needs
-
 returns : tie.Need-returns
 returns c =
     let told = c .before .before in
     let a = told .before .before .before .before .before .args in
     cut-refused (a .k) (a .place) (now (a .image)) (now (a .scratch)) (now (a .out)) (a .begin) _ (told .begin .given .1) _ (c .not-begun .ensures)
-
-same-length : tie.Need-same-length
-same-length c = search needs
-
-same-length-2 : tie.Need-same-length-2
-same-length-2 c = search needs
 
 returns-2 : tie.Need-returns-2
 returns-2 c =
@@ -45,12 +24,12 @@ pub step-and-read-spec : {M : Type 1} → statement M
 step-and-read-spec =
     tie.close
     (tie.spec
-    enum-known-begin
-    not-begun-requires
-    enum-known-begin-2
-    save-steps-requires
-    read-image-requires
+    (search needs)
+    (search needs)
+    (search needs)
+    (search needs)
+    (search needs)
     returns
-    same-length
-    same-length-2
+    (search needs)
+    (search needs)
     returns-2)

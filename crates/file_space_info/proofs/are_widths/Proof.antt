@@ -5,12 +5,6 @@ use borrow.Author.Needs.{needs}
 use Rattle.file_space_info.proofs.are_widths.Statement.{statement}
 use Rattle.file_space_info.proofs.are_widths.Tie as tie
 
-is-width-requires : tie.Need-is-width-requires
-is-width-requires c κs = search needs
-
-is-width-requires-2 : tie.Need-is-width-requires-2
-is-width-requires-2 c κs = search needs
-
 returns : tie.Need-returns
 returns c =
     let a = c .before .before .before .args in
@@ -22,4 +16,4 @@ returns-2 c =
     c .if1 .left ∙ ap (λ (t : Bool). t && validWidth (a .length-size)) (sym (c .if1 .left) ∙ c .before .is-width .ensures)
 
 pub are-widths-spec : {M : Type 1} → statement M
-are-widths-spec = tie.close (tie.spec is-width-requires is-width-requires-2 returns returns-2)
+are-widths-spec = tie.close (tie.spec (search needs) (search needs) returns returns-2)

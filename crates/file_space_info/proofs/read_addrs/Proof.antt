@@ -25,25 +25,10 @@ loop-holds c =
     let z : a .at ≡ a .at + 0 * a .width = omega arith in
     (omega arith, z, refl, sym (over-nil 0 (now (a .addrs))))
 
-read-uint-le-requires : tie.Need-read-uint-le-requires Inv-loop μ-loop
-read-uint-le-requires c κs = search needs
-
-mul-addrs : tie.Need-mul-addrs Inv-loop μ-loop
-mul-addrs c = omega arith
-
-slice-write-addrs : tie.Need-slice-write-addrs Inv-loop μ-loop
-slice-write-addrs c = omega arith
-
 add-pos : tie.Need-add-pos Inv-loop μ-loop
 add-pos c =
     let a = c .before .before .before .before .before .args in
     omega (arith, next-within (a .width) (a .n) (c .before .before .loop .i) (c .before .loop-test .taken))
-
-add-i : tie.Need-add-i Inv-loop μ-loop
-add-i c = omega arith
-
-loop-less : tie.Need-loop-less Inv-loop μ-loop
-loop-less c = omega arith
 
 loop-again : tie.Need-loop-again Inv-loop μ-loop
 loop-again c =
@@ -71,12 +56,12 @@ read-addrs-spec =
     Inv-loop
     μ-loop
     loop-holds
-    read-uint-le-requires
-    mul-addrs
-    slice-write-addrs
+    (search needs)
+    (λ c. omega arith)
+    (λ c. omega arith)
     add-pos
-    add-i
-    loop-less
+    (λ c. omega arith)
+    (λ c. omega arith)
     loop-again
     same-length
     returns)

@@ -11,9 +11,6 @@ use Rattle.file_space_info.proofs.ReadLaws.{sizes, read-width, read-sho
 use Rattle.file_space_info.proofs.read_fixed.Statement.{statement}
 use Rattle.file_space_info.proofs.read_fixed.Tie as tie
 
-are-widths-requires : tie.Need-are-widths-requires
-are-widths-requires c κs = search needs
-
 -- both sizes are within 1 to 8 where the code goes on
 valid : (c : tie.Else1) → (validWidth (c .before .before .before .args .offset-size) && validWidth (c .before .before .before .args .length-size)) ≡ true
 valid c = sym (c .before .are-widths .ensures) ∙ not-false _ (c .if1 .left)
@@ -23,33 +20,15 @@ returns c =
     let a = c .before .before .before .args in
     read-width (a .offset-size) (a .length-size) (now (a .bytes)) (sym (c .before .are-widths .ensures) ∙ not-true _ (c .if1 .taken))
 
-fixed-len-requires : tie.Need-fixed-len-requires
-fixed-len-requires c κs = search needs
-
 returns-2 : tie.Need-returns-2
 returns-2 c =
     let a = c .before .before .before .before .before .args in
     read-short (a .offset-size) (a .length-size) (now (a .bytes)) (valid (c .before .before)) _ (c .before .fixed-len .ensures) (omega arith)
 
-shared-slice-read-version : tie.Need-shared-slice-read-version
-shared-slice-read-version c = search needs
-
 returns-3 : tie.Need-returns-3
 returns-3 c =
     let a = c .before .before .before .before .before .before .before .args in
     read-version (a .offset-size) (a .length-size) (now (a .bytes)) (valid (c .before .before .before .before)) (omega arith) (λ e. omega arith)
-
-shared-slice-read-from-code : tie.Need-shared-slice-read-from-code
-shared-slice-read-from-code c = search needs
-
-from-code-requires : tie.Need-from-code-requires
-from-code-requires c κs = search needs
-
-enum-known-r : tie.Need-enum-known-r
-enum-known-r c = search needs
-
-enum-known-strategy : tie.Need-enum-known-strategy
-enum-known-strategy c = search needs
 
 fixed-fields-requires : tie.Need-fixed-fields-requires
 fixed-fields-requires c κs =
@@ -73,16 +52,16 @@ pub read-fixed-spec : {M : Type 1} → statement M
 read-fixed-spec =
     tie.close
     (tie.spec
-    are-widths-requires
+    (search needs)
     returns
-    fixed-len-requires
+    (search needs)
     returns-2
-    shared-slice-read-version
+    (search needs)
     returns-3
-    shared-slice-read-from-code
-    from-code-requires
-    enum-known-r
-    enum-known-strategy
+    (search needs)
+    (search needs)
+    (search needs)
+    (search needs)
     fixed-fields-requires
     returns-4
     returns-5)

@@ -26,27 +26,6 @@ loop-holds c =
     let a = c .before .before .args in
     (omega arith, refl, sym (over-nil 29 (now (a .out))))
 
-mul-write-uint-le : tie.Need-mul-write-uint-le Inv-loop μ-loop
-mul-write-uint-le c = omega arith
-
-add-write-uint-le : tie.Need-add-write-uint-le Inv-loop μ-loop
-add-write-uint-le c = omega arith
-
-mul-write-uint-le-2 : tie.Need-mul-write-uint-le-2 Inv-loop μ-loop
-mul-write-uint-le-2 c = omega arith
-
-shared-slice-read-write-uint-le : tie.Need-shared-slice-read-write-uint-le Inv-loop μ-loop
-shared-slice-read-write-uint-le c = omega arith
-
-write-uint-le-requires : tie.Need-write-uint-le-requires Inv-loop μ-loop
-write-uint-le-requires c κs = search needs
-
-add-i : tie.Need-add-i Inv-loop μ-loop
-add-i c = omega arith
-
-loop-less : tie.Need-loop-less Inv-loop μ-loop
-loop-less c = omega arith
-
 loop-again : tie.Need-loop-again Inv-loop μ-loop
 loop-again c =
     let a = c .before .before .before .before .before .before .before .before .before .args in
@@ -71,13 +50,13 @@ write-addrs-spec =
     Inv-loop
     μ-loop
     loop-holds
-    mul-write-uint-le
-    add-write-uint-le
-    mul-write-uint-le-2
-    shared-slice-read-write-uint-le
-    write-uint-le-requires
-    add-i
-    loop-less
+    (λ c. omega arith)
+    (λ c. omega arith)
+    (λ c. omega arith)
+    (λ c. omega arith)
+    (search needs)
+    (λ c. omega arith)
+    (λ c. omega arith)
     loop-again
     same-length
     returns)

@@ -10,42 +10,6 @@ use borrow.Author.Needs.{needs}
 use Rattle.file_space_info.proofs.write_fixed.Statement.{statement}
 use Rattle.file_space_info.proofs.write_fixed.Tie as tie
 
-write-uint-le-requires : tie.Need-write-uint-le-requires
-write-uint-le-requires c κs = search needs
-
-to-code-requires : tie.Need-to-code-requires
-to-code-requires c κs = search needs
-
-cast-write-uint-le : tie.Need-cast-write-uint-le
-cast-write-uint-le c = search needs
-
-write-uint-le-requires-2 : tie.Need-write-uint-le-requires-2
-write-uint-le-requires-2 c κs = search needs
-
-bit-of-requires : tie.Need-bit-of-requires
-bit-of-requires c κs = search needs
-
-write-uint-le-requires-3 : tie.Need-write-uint-le-requires-3
-write-uint-le-requires-3 c κs = search needs
-
-write-uint-le-requires-4 : tie.Need-write-uint-le-requires-4
-write-uint-le-requires-4 c κs = search needs
-
-write-uint-le-requires-5 : tie.Need-write-uint-le-requires-5
-write-uint-le-requires-5 c κs = search needs
-
-cast-write-uint-le-2 : tie.Need-cast-write-uint-le-2
-cast-write-uint-le-2 c = search needs
-
-write-uint-le-requires-6 : tie.Need-write-uint-le-requires-6
-write-uint-le-requires-6 c κs = search needs
-
-write-uint-le-requires-7 : tie.Need-write-uint-le-requires-7
-write-uint-le-requires-7 c κs = search needs
-
-same-length : tie.Need-same-length
-same-length c = search needs
-
 returns : tie.Need-returns
 unfolding layout
 returns c =
@@ -70,16 +34,16 @@ pub write-fixed-spec : {M : Type 1} → statement M
 write-fixed-spec =
     tie.close
     (tie.spec
-    write-uint-le-requires
-    to-code-requires
-    cast-write-uint-le
-    write-uint-le-requires-2
-    bit-of-requires
-    write-uint-le-requires-3
-    write-uint-le-requires-4
-    write-uint-le-requires-5
-    cast-write-uint-le-2
-    write-uint-le-requires-6
-    write-uint-le-requires-7
-    same-length
+    (search needs)
+    (search needs)
+    (search needs)
+    (search needs)
+    (search needs)
+    (search needs)
+    (search needs)
+    (search needs)
+    (search needs)
+    (search needs)
+    (search needs)
+    (search needs)
     returns)

@@ -3,9 +3,6 @@ use borrow.Author.Needs.{needs}
 use Rattle.free_lists.proofs.check_lists.Statement.{statement}
 use Rattle.free_lists.proofs.check_lists.Tie as tie
 
-are-lists-requires : tie.Need-are-lists-requires
-are-lists-requires c κs = search needs
-
 returns : tie.Need-returns
 returns c = apart-not _ _ _ _ (c .before .are-lists .ensures) (c .if1 .taken)
 
@@ -22,4 +19,4 @@ returns-3 c =
 
 pub check-lists-spec : {M : Type 1} → statement M
 check-lists-spec =
-    tie.close (tie.spec are-lists-requires returns share-any-requires returns-2 returns-3)
+    tie.close (tie.spec (search needs) returns share-any-requires returns-2 returns-3)

@@ -9,12 +9,6 @@ use Rattle.free_lists.proofs.height_of.Tie as tie
 returns : tie.Need-returns
 returns c = search needs
 
-sub-nth-region : tie.Need-sub-nth-region
-sub-nth-region c = search needs
-
-nth-region-requires : tie.Need-nth-region-requires
-nth-region-requires c κs = search needs
-
 add-result : tie.Need-add-result
 add-result c =
     let a = c .before .before .before .before .args in
@@ -29,4 +23,4 @@ returns-2 c =
     omega (arith, last-of (a .n - 1) _ (c .before .before .before .before .pre) e (c .before .nth-region .ensures) .high)
 
 pub height-of-spec : {M : Type 1} → statement M
-height-of-spec = tie.close (tie.spec returns sub-nth-region nth-region-requires add-result returns-2)
+height-of-spec = tie.close (tie.spec returns (search needs) (search needs) add-result returns-2)

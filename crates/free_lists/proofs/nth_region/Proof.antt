@@ -5,11 +5,8 @@ use Rattle.free_regions.specs.Regions.{region}
 use Rattle.free_lists.proofs.nth_region.Statement.{statement}
 use Rattle.free_lists.proofs.nth_region.Tie as tie
 
-pair-at-requires : tie.Need-pair-at-requires
-pair-at-requires c κs = search needs
-
 returns : tie.Need-returns
 returns c = ap (λ (p : Pair). region (p .addr) (p .len)) (c .pair-at .ensures)
 
 pub nth-region-spec : {M : Type 1} → statement M
-nth-region-spec = tie.close (tie.spec pair-at-requires returns)
+nth-region-spec = tie.close (tie.spec (search needs) returns)

@@ -18,23 +18,11 @@ loop-holds c = record { same = refl }
 returns : tie.Need-returns Inv-loop μ-loop
 returns c = let l = c .before .before in no-others (l .loop .inv) (l .before .before .before .pre .1) (c .if1 .taken)
 
-nth-region-requires : tie.Need-nth-region-requires Inv-loop μ-loop
-nth-region-requires c κs = search needs
-
-nth-region-requires-2 : tie.Need-nth-region-requires-2 Inv-loop μ-loop
-nth-region-requires-2 c κs = search needs
-
 add-if2 : tie.Need-add-if2 Inv-loop μ-loop
 add-if2 c =
     let l = c .before .before .before .before .before in
     let f = order-fits (l .before .before .before .pre .0) _ _ (c .before .before .nth-region .ensures) (c .before .before .before .before .loop-test .taken) in
     record { fits = omega (arith, f .within) }
-
-add-i : tie.Need-add-i Inv-loop μ-loop
-add-i c = search needs
-
-loop-less : tie.Need-loop-less Inv-loop μ-loop
-loop-less c = search needs
 
 loop-again : tie.Need-loop-again Inv-loop μ-loop
 loop-again c =
@@ -58,12 +46,6 @@ returns-2 c =
     both (l .before .loop .inv) (s .pre .0) (s .pre .1) _ _ (t .before .nth-region .ensures) (t .nth-region2 .ensures) (l .loop-test .taken) (t .before .before .if1 .left)
     (omega arith) (omega arith)
 
-add-j : tie.Need-add-j Inv-loop μ-loop
-add-j c = search needs
-
-loop-less-2 : tie.Need-loop-less-2 Inv-loop μ-loop
-loop-less-2 c = search needs
-
 loop-again-2 : tie.Need-loop-again-2 Inv-loop μ-loop
 loop-again-2 c =
     let t = c .before .before .before .before .before .before in
@@ -82,15 +64,15 @@ share-two-spec =
     μ-loop
     loop-holds
     returns
-    nth-region-requires
-    nth-region-requires-2
+    (search needs)
+    (search needs)
     add-if2
-    add-i
-    loop-less
+    (search needs)
+    (search needs)
     loop-again
     add-if3
     returns-2
-    add-j
-    loop-less-2
+    (search needs)
+    (search needs)
     loop-again-2
     returns-3)

@@ -3,15 +3,6 @@ use Rattle.free_lists.proofs.SharingLaws.{fine-order, start-is, start-r
 use Rattle.free_lists.proofs.trailing_run_start.Statement.{statement}
 use Rattle.free_lists.proofs.trailing_run_start.Tie as tie
 
-check-lists-requires : tie.Need-check-lists-requires
-check-lists-requires c κs = search needs
-
-enum-known-checked : tie.Need-enum-known-checked
-enum-known-checked c = search needs
-
-enum-told : tie.Need-enum-told
-enum-told c = search needs
-
 walk-down-requires : tie.Need-walk-down-requires
 walk-down-requires c κs = fine-order _ _ _ _ (c .before .before .check-lists .ensures) (c .enum-told .given .1)
 
@@ -25,9 +16,9 @@ pub trailing-run-start-spec : {M : Type 1} → statement M
 trailing-run-start-spec =
     tie.close
     (tie.spec
-    check-lists-requires
-    enum-known-checked
-    enum-told
+    (search needs)
+    (search needs)
+    (search needs)
     walk-down-requires
     returns
     returns-2)

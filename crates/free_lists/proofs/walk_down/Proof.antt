@@ -19,12 +19,6 @@ loop-holds c = record { order = c .before .before .before .pre; same = refl }
 highest-requires : tie.Need-highest-requires Inv-loop μ-loop
 highest-requires c κs = c .loop .inv .order
 
-enum-known-next : tie.Need-enum-known-next Inv-loop μ-loop
-enum-known-next c = search needs
-
-enum-told : tie.Need-enum-told Inv-loop μ-loop
-enum-told c = search needs
-
 returns : tie.Need-returns Inv-loop μ-loop
 returns c = walk-done (c .before .before .before .loop .inv) (subst (Onward _ _ _ _) (c .enum-told .given .1) (c .before .before .highest .ensures))
 
@@ -75,8 +69,8 @@ walk-down-spec =
     μ-loop
     loop-holds
     highest-requires
-    enum-known-next
-    enum-told
+    (search needs)
+    (search needs)
     returns
     add-if1
     returns-2

@@ -7,26 +7,14 @@ use Rattle.fsm_lengths.proofs.LengthLaws.{len-width, len-over, len-is}
 use Rattle.fsm_lengths.proofs.fsse_len.Statement.{statement}
 use Rattle.fsm_lengths.proofs.fsse_len.Tie as tie
 
-is-width-requires : tie.Need-is-width-requires
-is-width-requires c κs = search needs
-
 returns : tie.Need-returns
 returns c = let a = c .before .before .before .args in len-width (a .offset-size) (now (a .sizes)) (ap not (sym (c .before .is-width .ensures)) ∙ c .if1 .taken)
-
-sum-overflows-requires : tie.Need-sum-overflows-requires
-sum-overflows-requires c κs = search needs
 
 returns-2 : tie.Need-returns-2
 returns-2 c =
     let a = c .before .before .before .before .before .args in
     len-over (a .offset-size) (now (a .sizes)) (ap not (sym (c .before .before .before .is-width .ensures)) ∙ c .before .before .if1 .left)
     (sym (c .if2 .taken) ∙ c .before .sum-overflows .ensures)
-
-size-count-requires : tie.Need-size-count-requires
-size-count-requires c κs = search needs
-
-fsse-used-requires : tie.Need-fsse-used-requires
-fsse-used-requires c κs = search needs
 
 returns-3 : tie.Need-returns-3
 returns-3 c =
@@ -39,10 +27,10 @@ pub fsse-len-spec : {M : Type 1} → statement M
 fsse-len-spec =
     tie.close
     (tie.spec
-    is-width-requires
+    (search needs)
     returns
-    sum-overflows-requires
+    (search needs)
     returns-2
-    size-count-requires
-    fsse-used-requires
+    (search needs)
+    (search needs)
     returns-3)

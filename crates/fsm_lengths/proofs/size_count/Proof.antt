@@ -19,29 +19,8 @@ abbrev μ-loop : tie.MeasureT-loop
 loop-holds : tie.Need-loop-holds Inv-loop μ-loop
 loop-holds c = (omega arith, omega arith, omega arith)
 
-add-comes : tie.Need-add-comes Inv-loop μ-loop
-add-comes c = search needs
-
-mul-comes : tie.Need-mul-comes Inv-loop μ-loop
-mul-comes c = search needs
-
-shared-slice-read-comes : tie.Need-shared-slice-read-comes Inv-loop μ-loop
-shared-slice-read-comes c = search needs
-
-comes-requires : tie.Need-comes-requires Inv-loop μ-loop
-comes-requires c κs = omega arith
-
-last-one-requires : tie.Need-last-one-requires Inv-loop μ-loop
-last-one-requires c κs = search needs
-
 add-n : tie.Need-add-n Inv-loop μ-loop
 add-n c = omega (arith, c .last-one .ensures, one-at-most (c .before .comes .result))
-
-add-i : tie.Need-add-i Inv-loop μ-loop
-add-i c = search needs
-
-loop-less : tie.Need-loop-less Inv-loop μ-loop
-loop-less c = omega arith
 
 loop-again : tie.Need-loop-again Inv-loop μ-loop
 loop-again c =
@@ -62,13 +41,13 @@ size-count-spec =
     Inv-loop
     μ-loop
     loop-holds
-    add-comes
-    mul-comes
-    shared-slice-read-comes
-    comes-requires
-    last-one-requires
+    (search needs)
+    (search needs)
+    (search needs)
+    (λ c κs. omega arith)
+    (search needs)
     add-n
-    add-i
-    loop-less
+    (search needs)
+    (λ c. omega arith)
     loop-again
     returns)

@@ -8,18 +8,6 @@ use Rattle.holes_text.proofs.SizeLaws.{never-refused, always-written}
 use Rattle.holes.proofs.write_text.Statement.{statement}
 use Rattle.holes.proofs.write_text.Tie as tie
 
-holes-text-requires : tie.Need-holes-text-requires
-holes-text-requires c κs = search needs
-
-enum-known-n : tie.Need-enum-known-n
-enum-known-n c = search needs
-
-enum-told : tie.Need-enum-told
-enum-told c = search needs
-
-same-length : tie.Need-same-length
-same-length c = search needs
-
 returns : tie.Need-returns
 returns c =
     let w = c .before .before .before .before .before in
@@ -27,9 +15,6 @@ returns c =
     let a = b .args in
     always-written (now (a .image)) (now (a .out)) (b .pre)
     (sym (ap (λ (r : Written). left (writtenOutcome r) (w .holes-text .last .1 .0)) (c .before .n .given .1)) ∙ w .holes-text .ensures)
-
-same-length-2 : tie.Need-same-length-2
-same-length-2 c = search needs
 
 returns-2 : tie.Need-returns-2
 returns-2 c =
@@ -44,10 +29,10 @@ pub write-text-spec : {M : Type 1} → statement M
 write-text-spec =
     tie.close
     (tie.spec
-    holes-text-requires
-    enum-known-n
-    enum-told
-    same-length
+    (search needs)
+    (search needs)
+    (search needs)
+    (search needs)
     returns
-    same-length-2
+    (search needs)
     returns-2)

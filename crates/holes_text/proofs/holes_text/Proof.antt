@@ -10,15 +10,6 @@ use Rattle.holes_text.proofs.SizeLaws.{written-refused, written-whole}
 use Rattle.holes_text.proofs.holes_text.Statement.{statement}
 use Rattle.holes_text.proofs.holes_text.Tie as tie
 
-text-memory-requires : tie.Need-text-memory-requires
-text-memory-requires c κs = search needs
-
-slice-aggregate-print : tie.Need-slice-aggregate-print
-slice-aggregate-print c = search needs
-
-print-requires : tie.Need-print-requires
-print-requires c κs = search needs
-
 returns : tie.Need-returns
 returns c =
     let p = c .before .before in
@@ -39,12 +30,6 @@ array-share-prefix-text c = inside (c .before .before .before)
 slice-aggregate-write-bytes : tie.Need-slice-aggregate-write-bytes
 slice-aggregate-write-bytes c = sym (length-take-le _ _ (inside (c .before .before .before .before)))
 
-write-bytes-requires : tie.Need-write-bytes-requires
-write-bytes-requires c κs = search needs
-
-same-length : tie.Need-same-length
-same-length c = search needs
-
 returns-2 : tie.Need-returns-2
 returns-2 c =
     let w = c .before .before in
@@ -58,12 +43,12 @@ pub holes-text-spec : {M : Type 1} → statement M
 holes-text-spec =
     tie.close
     (tie.spec
-    text-memory-requires
-    slice-aggregate-print
-    print-requires
+    (search needs)
+    (search needs)
+    (search needs)
     returns
     array-share-prefix-text
     slice-aggregate-write-bytes
-    write-bytes-requires
-    same-length
+    (search needs)
+    (search needs)
     returns-2)

@@ -8,21 +8,6 @@ use Rattle.host_records.specs.Shown.{shown}
 use Rattle.host_records.proofs.shown_number.Statement.{statement}
 use Rattle.host_records.proofs.shown_number.Tie as tie
 
-enum-known-s : tie.Need-enum-known-s
-enum-known-s c = search needs
-
-enum-known-s-2 : tie.Need-enum-known-s-2
-enum-known-s-2 c = search needs
-
-number-requires : tie.Need-number-requires
-number-requires c κs = search needs
-
-cast-result : tie.Need-cast-result
-cast-result c = search needs
-
-sub-result : tie.Need-sub-result
-sub-result c = search needs
-
 returns : tie.Need-returns
 returns c = search needs
 
@@ -32,4 +17,4 @@ returns-2 c = ap (λ (k : ℕ). top - k) (c .number .ensures) ∙ sym (ap (λ (s
 pub shown-number-spec : {M : Type 1} → statement M
 shown-number-spec =
     tie.close
-    (tie.spec enum-known-s enum-known-s-2 number-requires cast-result sub-result returns returns-2)
+    (tie.spec (search needs) (search needs) (search needs) (search needs) (search needs) returns returns-2)

@@ -8,28 +8,10 @@ use borrow.Author.Needs.{needs}
 use Rattle.image.proofs.read_image.Statement.{statement}
 use Rattle.image.proofs.read_image.Tie as tie
 
-refused-requires : tie.Need-refused-requires
-refused-requires c κs = search needs
-
 returns : tie.Need-returns
 returns c =
     let a = c .before .before .before .before .args in
     refused-as _ _ _ (c .refused .ensures) (image-odd (a .place) (now (a .image)) (now (a .out)) (c .before .if1 .taken))
-
-slice-aggregate-read-message : tie.Need-slice-aggregate-read-message
-slice-aggregate-read-message c = search needs
-
-read-message-requires : tie.Need-read-message-requires
-read-message-requires c κs = search needs
-
-enum-known-message : tie.Need-enum-known-message
-enum-known-message c = search needs
-
-refused-requires-2 : tie.Need-refused-requires-2
-refused-requires-2 c κs = search needs
-
-enum-known-message-2 : tie.Need-enum-known-message-2
-enum-known-message-2 c = search needs
 
 -- the message was read into the slots
 message : (c : tie.After-known-told2)
@@ -58,9 +40,6 @@ returns-2 c =
     (image-refused (a .place) (now (a .image)) (now (a .out)) (p .before .before .if1 .left) (c .before .before .message .given .0 .0)
     (message-refused (messageAt (a .place) (now (a .image))) (message-few (a .place) (now (a .image))) _ _ (p .read-message .ensures) _ (c .before .before .message .given .1)))
 
-same-length : tie.Need-same-length
-same-length c = search needs
-
 returns-3 : tie.Need-returns-3
 returns-3 c =
     let t = c .before .before .before .before .before in
@@ -73,16 +52,16 @@ pub read-image-spec : {M : Type 1} → statement M
 read-image-spec =
     tie.close
     (tie.spec
-    refused-requires
+    (search needs)
     returns
-    slice-aggregate-read-message
-    read-message-requires
-    enum-known-message
-    refused-requires-2
-    enum-known-message-2
+    (search needs)
+    (search needs)
+    (search needs)
+    (search needs)
+    (search needs)
     array-share-prefix-slots
     slice-aggregate-read-slots
     read-slots-requires
     returns-2
-    same-length
+    (search needs)
     returns-3)

@@ -6,33 +6,12 @@ use borrow.Author.Needs.{needs}
 use Rattle.image.proofs.read_slots.Statement.{statement}
 use Rattle.image.proofs.read_slots.Tie as tie
 
-read-persisted-sections-requires : tie.Need-read-persisted-sections-requires
-read-persisted-sections-requires c κs = search needs
-
-enum-known-answer : tie.Need-enum-known-answer
-enum-known-answer c = search needs
-
-refused-requires : tie.Need-refused-requires
-refused-requires c κs = search needs
-
-enum-told : tie.Need-enum-told
-enum-told c = search needs
-
-slot-counts-requires : tie.Need-slot-counts-requires
-slot-counts-requires c κs = search needs
-
-same-length : tie.Need-same-length
-same-length c = search needs
-
 returns : tie.Need-returns
 returns c =
     let p = c .before .before .before .before .before .before in
     let a = p .before .before .before .before .before .args in
     refused-as _ _ _ (c .refused .ensures)
     (slots-refused (now (a .out)) (now (a .slots)) (now (a .image)) _ _ (p .read-persisted-sections .ensures) _ (c .before .before .answer .given .1))
-
-same-length-2 : tie.Need-same-length-2
-same-length-2 c = search needs
 
 returns-2 : tie.Need-returns-2
 returns-2 c =
@@ -50,12 +29,12 @@ pub read-slots-spec : {M : Type 1} → statement M
 read-slots-spec =
     tie.close
     (tie.spec
-    read-persisted-sections-requires
-    enum-known-answer
-    refused-requires
-    enum-told
-    slot-counts-requires
-    same-length
+    (search needs)
+    (search needs)
+    (search needs)
+    (search needs)
+    (search needs)
+    (search needs)
     returns
-    same-length-2
+    (search needs)
     returns-2)

@@ -4,15 +4,6 @@ use borrow.Author.Needs.{needs}
 use Rattle.image.proofs.sections_in.Statement.{statement}
 use Rattle.image.proofs.sections_in.Tie as tie
 
-manager-count-requires : tie.Need-manager-count-requires
-manager-count-requires c κs = search needs
-
-enum-known-sections : tie.Need-enum-known-sections
-enum-known-sections c = search needs
-
-enum-told : tie.Need-enum-told
-enum-told c = search needs
-
 returns : tie.Need-returns
 returns c =
     let p = c .before .before .before in
@@ -25,4 +16,4 @@ returns-2 c =
 
 pub sections-in-spec : {M : Type 1} → statement M
 sections-in-spec =
-    tie.close (tie.spec manager-count-requires enum-known-sections enum-told returns returns-2)
+    tie.close (tie.spec (search needs) (search needs) (search needs) returns returns-2)

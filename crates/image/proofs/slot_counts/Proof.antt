@@ -15,27 +15,6 @@ abbrev μ-loop : tie.MeasureT-loop
 loop-holds : tie.Need-loop-holds Inv-loop μ-loop
 loop-holds c = let a = c .before .before .args in counts-start (now (a .image)) (now (a .slots))
 
-mul-sections-in : tie.Need-mul-sections-in Inv-loop μ-loop
-mul-sections-in c = search needs
-
-shared-slice-read-sections-in : tie.Need-shared-slice-read-sections-in Inv-loop μ-loop
-shared-slice-read-sections-in c = search needs
-
-sections-in-requires : tie.Need-sections-in-requires Inv-loop μ-loop
-sections-in-requires c κs = search needs
-
-mul-counts : tie.Need-mul-counts Inv-loop μ-loop
-mul-counts c = search needs
-
-array-write-counts : tie.Need-array-write-counts Inv-loop μ-loop
-array-write-counts c = search needs
-
-add-i : tie.Need-add-i Inv-loop μ-loop
-add-i c = search needs
-
-loop-less : tie.Need-loop-less Inv-loop μ-loop
-loop-less c = search needs
-
 loop-again : tie.Need-loop-again Inv-loop μ-loop
 loop-again c =
     let p = c .before .before in
@@ -56,12 +35,12 @@ slot-counts-spec =
     Inv-loop
     μ-loop
     loop-holds
-    mul-sections-in
-    shared-slice-read-sections-in
-    sections-in-requires
-    mul-counts
-    array-write-counts
-    add-i
-    loop-less
+    (search needs)
+    (search needs)
+    (search needs)
+    (search needs)
+    (search needs)
+    (search needs)
+    (search needs)
     loop-again
     returns)

@@ -7,21 +7,6 @@ use borrow.Author.Needs.{needs}
 use Rattle.numbers.proofs.remainder.Statement.{statement}
 use Rattle.numbers.proofs.remainder.Tie as tie
 
-shift-of-requires : tie.Need-shift-of-requires
-shift-of-requires c κs = search needs
-
-cast-result : tie.Need-cast-result
-cast-result c = search needs
-
-shr-result : tie.Need-shr-result
-shr-result c = search needs
-
-cast-result-2 : tie.Need-cast-result-2
-cast-result-2 c = search needs
-
-shl-result : tie.Need-shl-result
-shl-result c = search needs
-
 sub-result : tie.Need-sub-result
 sub-result c = let a = c .before .before .args in below (a .n) (a .by) _ (c .before .shift-of .ensures (c .if1 .taken)) (omega arith)
 
@@ -31,23 +16,17 @@ returns c = let a = c .before .before .args in after-multiple (a .n) (a .by) _ (
 returns-2 : tie.Need-returns-2
 returns-2 c = let a = c .before .before .before .args in sym (ap (λ (m : ℕ). a .n % m) (c .if2 .taken) ∙ mod-zero (a .n))
 
-rem-result : tie.Need-rem-result
-rem-result c = search needs
-
-returns-3 : tie.Need-returns-3
-returns-3 c = search needs
-
 pub remainder-spec : {M : Type 1} → statement M
 remainder-spec =
     tie.close
     (tie.spec
-    shift-of-requires
-    cast-result
-    shr-result
-    cast-result-2
-    shl-result
+    (search needs)
+    (search needs)
+    (search needs)
+    (search needs)
+    (search needs)
     sub-result
     returns
     returns-2
-    rem-result
-    returns-3)
+    (search needs)
+    (search needs))

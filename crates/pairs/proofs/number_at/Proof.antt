@@ -8,14 +8,5 @@ use Rattle.pairs.proofs.number_at.Tie as tie
 returns : tie.Need-returns
 returns c = sym (List·getD-eq-default (now (c .before .args .run)) 0 (c .if1 .taken))
 
-mul-result : tie.Need-mul-result
-mul-result c = search needs
-
-shared-slice-read-result : tie.Need-shared-slice-read-result
-shared-slice-read-result c = search needs
-
-returns-2 : tie.Need-returns-2
-returns-2 c = search needs
-
 pub number-at-spec : {M : Type 1} → statement M
-number-at-spec = tie.close (tie.spec returns mul-result shared-slice-read-result returns-2)
+number-at-spec = tie.close (tie.spec returns (search needs) (search needs) (search needs))

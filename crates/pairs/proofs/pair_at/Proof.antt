@@ -17,46 +17,22 @@ returns c =
     let a = c .before .before .args in
     half (now (a .run)) (a .i) 0 (sym (List·getD-eq-default (now (a .run)) 0 (omega (arith, c .if1 .taken)))) (omega (arith, c .if1 .taken))
 
-mul-at : tie.Need-mul-at
-mul-at c = search needs
-
-number-at-requires : tie.Need-number-at-requires
-number-at-requires c κs = search needs
-
 returns-2 : tie.Need-returns-2
 returns-2 c =
     let a = c .before .before .before .before .args in
     half (now (a .run)) (a .i) _ (c .number-at .ensures) (omega (arith, c .before .if2 .taken))
-
-mul-t5 : tie.Need-mul-t5
-mul-t5 c = search needs
-
-shared-slice-read-t9 : tie.Need-shared-slice-read-t9
-shared-slice-read-t9 c = search needs
-
-add-t10 : tie.Need-add-t10
-add-t10 c = search needs
-
-mul-t11 : tie.Need-mul-t11
-mul-t11 c = search needs
-
-shared-slice-read-t13 : tie.Need-shared-slice-read-t13
-shared-slice-read-t13 c = search needs
-
-returns-3 : tie.Need-returns-3
-returns-3 c = search needs
 
 pub pair-at-spec : {M : Type 1} → statement M
 pair-at-spec =
     tie.close
     (tie.spec
     returns
-    mul-at
-    number-at-requires
+    (search needs)
+    (search needs)
     returns-2
-    mul-t5
-    shared-slice-read-t9
-    add-t10
-    mul-t11
-    shared-slice-read-t13
-    returns-3)
+    (search needs)
+    (search needs)
+    (search needs)
+    (search needs)
+    (search needs)
+    (search needs))

@@ -10,9 +10,6 @@ returns : tie.Need-returns
 returns c = let a = c .before .before .before .before .before .before .before .args in
     begin-page (listsIn (now (a .meta)) (now (a .raw)) (now (a .unclassified)) (a .lists)) (a .to .page) (a .to .start) (a .to .place) (now (a .image)) (now (a .scratch)) (c .if1 .taken)
 
-are-lists-requires : tie.Need-are-lists-requires
-are-lists-requires c κs = search needs
-
 returns-2 : tie.Need-returns-2
 returns-2 c = let a = c .before .before .before .before .before .before .before .before .before .args in
     begin-lists (listsIn (now (a .meta)) (now (a .raw)) (now (a .unclassified)) (a .lists)) (a .to .page) (a .to .start) (a .to .place) (now (a .image)) (now (a .scratch)) (c .before .before .if1 .left) _ (c .before .are-lists .ensures) (c .if2 .taken)
@@ -21,15 +18,9 @@ test-early-requires : tie.Need-test-early-requires
 test-early-requires c κs = let a = c .before .before .before .before .before .before .before .before .before .args in
     begin-asks (listsIn (now (a .meta)) (now (a .raw)) (now (a .unclassified)) (a .lists)) (a .to .page) (a .to .start) (a .to .place) (now (a .image)) (now (a .scratch)) (c .before .before .if1 .left) _ (c .before .are-lists .ensures) (c .if2 .left) .1
 
-enum-known-early : tie.Need-enum-known-early
-enum-known-early c = search needs
-
 refuse-early-requires : tie.Need-refuse-early-requires
 refuse-early-requires c κs = let a = c .before .before .before .before .before .before .before .before .before .before .before .before .before .args in
     begin-asks (listsIn (now (a .meta)) (now (a .raw)) (now (a .unclassified)) (a .lists)) (a .to .page) (a .to .start) (a .to .place) (now (a .image)) (now (a .scratch)) (c .before .before .before .before .before .before .if1 .left) _ (c .before .before .before .before .before .are-lists .ensures) (c .before .before .before .before .if2 .left)
-
-enum-told : tie.Need-enum-told
-enum-told c = search needs
 
 begin-after-requires : tie.Need-begin-after-requires
 begin-after-requires c κs = let a = c .before .before .before .before .before .before .before .before .before .before .before .before .before .args in
@@ -38,9 +29,6 @@ begin-after-requires c κs = let a = c .before .before .before .before .before .
 returns-3 : tie.Need-returns-3
 returns-3 c = let a = c .before .before .before .before .before .before .before .before .before .before .before .before .before .before .args in
     begin-early (listsIn (now (a .meta)) (now (a .raw)) (now (a .unclassified)) (a .lists)) (a .to .page) (a .to .start) (a .to .place) (now (a .image)) (now (a .scratch)) (c .before .before .before .before .before .before .before .if1 .left) _ (c .before .before .before .before .before .before .are-lists .ensures) (c .before .before .before .before .before .if2 .left) _ (c .before .before .before .before .test-early .ensures) _ (c .before .before .early .given .1) (c .refuse-early .result) (c .refuse-early .ensures)
-
-same-length : tie.Need-same-length
-same-length c = search needs
 
 returns-4 : tie.Need-returns-4
 returns-4 c = let a = c .before .before .before .before .before .before .before .before .before .before .before .before .before .before .before .before .args in
@@ -51,13 +39,13 @@ save-begin-spec =
     tie.close
     (tie.spec
     returns
-    are-lists-requires
+    (search needs)
     returns-2
     test-early-requires
-    enum-known-early
+    (search needs)
     refuse-early-requires
-    enum-told
+    (search needs)
     begin-after-requires
     returns-3
-    same-length
+    (search needs)
     returns-4)

@@ -3,16 +3,10 @@ use Rattle.save_step.proofs.StepLaws.{leaves-message, leaves-scratch, l
 use Rattle.save_step.proofs.leaves_lent.Statement.{statement}
 use Rattle.save_step.proofs.leaves_lent.Tie as tie
 
-passes-requires : tie.Need-passes-requires
-passes-requires c κs = search needs
-
 returns : tie.Need-returns
 returns c =
     let a = c .before .before .args in
     leaves-message (a .s) (a .image) (a .scratch) _ (c .before .passes .ensures) (c .if1 .taken)
-
-passes-requires-2 : tie.Need-passes-requires-2
-passes-requires-2 c κs = search needs
 
 returns-2 : tie.Need-returns-2
 returns-2 c =
@@ -26,9 +20,6 @@ returns-3 c =
     let a = d .before .before .before .args in
     leaves-none (a .s) (a .image) (a .scratch) _ (d .before .before .passes .ensures) (d .before .if1 .left) _ (d .passes2 .ensures) (c .before .if2 .left) (c .if3 .taken)
 
-passes-requires-3 : tie.Need-passes-requires-3
-passes-requires-3 c κs = search needs
-
 returns-4 : tie.Need-returns-4
 returns-4 c =
     let d = c .before .before .before in
@@ -39,10 +30,10 @@ pub leaves-lent-spec : {M : Type 1} → statement M
 leaves-lent-spec =
     tie.close
     (tie.spec
-    passes-requires
+    (search needs)
     returns
-    passes-requires-2
+    (search needs)
     returns-2
     returns-3
-    passes-requires-3
+    (search needs)
     returns-4)

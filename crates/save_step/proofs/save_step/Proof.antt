@@ -10,16 +10,10 @@ use Rattle.save_step.proofs.StepLaws.{inside, inside-more, next-in, ste
 use Rattle.save_step.proofs.save_step.Statement.{statement}
 use Rattle.save_step.proofs.save_step.Tie as tie
 
-is-finished-requires : tie.Need-is-finished-requires
-is-finished-requires c κs = search needs
-
 returns : tie.Need-returns
 returns c =
     let a = c .before .before .before .before .args in
     step-finished (a .s) (now (a .image)) (now (a .scratch)) (sym (c .before .is-finished .ensures) ∙ c .if1 .taken)
-
-leaves-lent-requires : tie.Need-leaves-lent-requires
-leaves-lent-requires c κs = search needs
 
 returns-2 : tie.Need-returns-2
 returns-2 c =
@@ -57,9 +51,6 @@ slice-write-image c =
     let a = begun (c .before .before) .args in
     rw (c .before .next-store .ensures) (next-in (a .s) (now (a .scratch)) (length (now (a .image))) (stays (c .before .before)) (number (c .before .before)))
 
-same-length : tie.Need-same-length
-same-length c = search needs
-
 returns-3 : tie.Need-returns-3
 returns-3 c =
     let a = begun (c .before .before) .args in
@@ -69,12 +60,12 @@ pub save-step-spec : {M : Type 1} → statement M
 save-step-spec =
     tie.close
     (tie.spec
-    is-finished-requires
+    (search needs)
     returns
-    leaves-lent-requires
+    (search needs)
     returns-2
     next-store-requires
     add-done
     slice-write-image
-    same-length
+    (search needs)
     returns-3)

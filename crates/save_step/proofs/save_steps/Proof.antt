@@ -35,27 +35,12 @@ loop-holds : tie.Need-loop-holds Inv-loop μ-loop
 unfolding steps
 loop-holds c = (search needs, refl, refl)
 
-save-step-requires : tie.Need-save-step-requires Inv-loop μ-loop
-save-step-requires c κs = search needs
-
-enum-known-next : tie.Need-enum-known-next Inv-loop μ-loop
-enum-known-next c = search needs
-
-same-length : tie.Need-same-length Inv-loop μ-loop
-same-length c = search needs
-
 returns : tie.Need-returns Inv-loop μ-loop
 returns c =
     let e = c .before .before .before in
     let l = e .before .before .before .loop in
     let a = e .before .before .before .before .before .before .args in
     steps-stop (l .c) (l .image) (now (a .scratch)) (saving (a .s) (now (a .image))) (l .i) (l .inv .2) _ (stepOutcome (e .save-step .result)) (stops (e .save-step .result) (c .match .keys2)) (e .save-step .ensures) (a .k) (l .inv .0)
-
-add-i : tie.Need-add-i Inv-loop μ-loop
-add-i c = search needs
-
-loop-less : tie.Need-loop-less Inv-loop μ-loop
-loop-less c = search needs
 
 loop-again : tie.Need-loop-again Inv-loop μ-loop
 loop-again c =
@@ -67,9 +52,6 @@ loop-again c =
       search needs,
       steps-step (l .c) (l .image) (now (a .scratch)) (saving (a .s) (now (a .image))) (l .i) (l .inv .2) _ (stepOutcome (e .save-step .result)) (n .0 .0) (ap stepOutcome (n .1)) (e .save-step .ensures),
     )
-
-same-length-2 : tie.Need-same-length-2 Inv-loop μ-loop
-same-length-2 c = search needs
 
 returns-2 : tie.Need-returns-2 Inv-loop μ-loop
 returns-2 c =
@@ -85,12 +67,12 @@ save-steps-spec =
     Inv-loop
     μ-loop
     loop-holds
-    save-step-requires
-    enum-known-next
-    same-length
+    (search needs)
+    (search needs)
+    (search needs)
     returns
-    add-i
-    loop-less
+    (search needs)
+    (search needs)
     loop-again
-    same-length-2
+    (search needs)
     returns-2)

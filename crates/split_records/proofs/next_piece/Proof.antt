@@ -20,24 +20,6 @@ abbrev μ-loop : tie.MeasureT-loop
 loop-holds : tie.Need-loop-holds Inv-loop μ-loop
 loop-holds c = let s = c .before in let a = s .args in (within (a .page) (a .count) (now (a .sections)) (s .pre .1) (a .section) (a .done) (s .pre .3), refl)
 
-mul-if1 : tie.Need-mul-if1 Inv-loop μ-loop
-mul-if1 c = search needs
-
-add-if1 : tie.Need-add-if1 Inv-loop μ-loop
-add-if1 c = search needs
-
-mul-if1-2 : tie.Need-mul-if1-2 Inv-loop μ-loop
-mul-if1-2 c = search needs
-
-shared-slice-read-if1 : tie.Need-shared-slice-read-if1 Inv-loop μ-loop
-shared-slice-read-if1 c = search needs
-
-add-i : tie.Need-add-i Inv-loop μ-loop
-add-i c = search needs
-
-loop-less : tie.Need-loop-less Inv-loop μ-loop
-loop-less c = search needs
-
 loop-again : tie.Need-loop-again Inv-loop μ-loop
 loop-again c =
     let l = c .before .before .loop in
@@ -55,15 +37,6 @@ ends c =
     let a = s .args in
     fits-here (a .count) (now (a .sections)) (s .pre .1) (s .pre .2) (l .i) (l .inv .0)
 
-mul-a : tie.Need-mul-a Inv-loop μ-loop
-mul-a c = search needs
-
-mul-a-2 : tie.Need-mul-a-2 Inv-loop μ-loop
-mul-a-2 c = search needs
-
-shared-slice-read-a : tie.Need-shared-slice-read-a Inv-loop μ-loop
-shared-slice-read-a c = search needs
-
 add-a : tie.Need-add-a Inv-loop μ-loop
 add-a c =
     let l = c .before .before .before .loop in
@@ -71,33 +44,12 @@ add-a c =
     let h : r .addr + l .d < 2 ^ 64 = omega (arith, ends (c .before), c .before .if1 .left) in
     record { fits = h }
 
-mul-min : tie.Need-mul-min Inv-loop μ-loop
-mul-min c = search needs
-
-add-min : tie.Need-add-min Inv-loop μ-loop
-add-min c = search needs
-
-mul-min-2 : tie.Need-mul-min-2 Inv-loop μ-loop
-mul-min-2 c = search needs
-
-shared-slice-read-min : tie.Need-shared-slice-read-min Inv-loop μ-loop
-shared-slice-read-min c = search needs
-
-sub-min : tie.Need-sub-min Inv-loop μ-loop
-sub-min c = search needs
-
-rem-min : tie.Need-rem-min Inv-loop μ-loop
-rem-min c = search needs
-
 sub-min-2 : tie.Need-sub-min-2 Inv-loop μ-loop
 sub-min-2 c =
     let l = c .before .before .before .before .loop in
     let s = c .before .before .before .before .before .before in
     let a = s .args in
     le-of-lt (mod-lt (sectionAt (now (a .sections)) (l .i) .addr + l .d) (s .pre .0))
-
-min-requires : tie.Need-min-requires Inv-loop μ-loop
-min-requires c κs = search needs
 
 add-t20 : tie.Need-add-t20 Inv-loop μ-loop
 add-t20 c =
@@ -121,24 +73,24 @@ next-piece-spec =
     Inv-loop
     μ-loop
     loop-holds
-    mul-if1
-    add-if1
-    mul-if1-2
-    shared-slice-read-if1
-    add-i
-    loop-less
+    (search needs)
+    (search needs)
+    (search needs)
+    (search needs)
+    (search needs)
+    (search needs)
     loop-again
-    mul-a
-    mul-a-2
-    shared-slice-read-a
+    (search needs)
+    (search needs)
+    (search needs)
     add-a
-    mul-min
-    add-min
-    mul-min-2
-    shared-slice-read-min
-    sub-min
-    rem-min
+    (search needs)
+    (search needs)
+    (search needs)
+    (search needs)
+    (search needs)
+    (search needs)
     sub-min-2
-    min-requires
+    (search needs)
     add-t20
     returns)

@@ -7,15 +7,6 @@ use borrow.Author.Needs.{needs}
 use Rattle.split_records.proofs.planned.Statement.{statement}
 use Rattle.split_records.proofs.planned.Tie as tie
 
-split-count-requires : tie.Need-split-count-requires
-split-count-requires c κs = search needs
-
-enum-known-r : tie.Need-enum-known-r
-enum-known-r c = search needs
-
-enum-known-needed : tie.Need-enum-known-needed
-enum-known-needed c = search needs
-
 -- what the count tells where it gives a number
 told : (c : tie.After-known-told2) → let a = c .before .before .before .before .before .args in Splits (now (a .sections)) (a .count) (a .page) (c .before .needed .given .0 .0)
 told c =
@@ -38,4 +29,4 @@ returns-3 c =
     planned-some (now (s .args .sections)) (s .args .count) (s .args .page) (s .args .room) _ (told (c .before)) (c .if1 .left) (s .pre)
 
 pub planned-spec : {M : Type 1} → statement M
-planned-spec = tie.close (tie.spec split-count-requires enum-known-r enum-known-needed returns returns-2 returns-3)
+planned-spec = tie.close (tie.spec (search needs) (search needs) (search needs) returns returns-2 returns-3)

@@ -6,36 +6,6 @@ use borrow.Author.Needs.{needs}
 use Rattle.end_to_end.proofs.anew.call_save_anew.Statement.{statement}
 use Rattle.end_to_end.proofs.anew.call_save_anew.Tie as tie
 
-make-calls-requires : tie.Need-make-calls-requires
-make-calls-requires c κs = search needs
-
-begin-and-step-requires : tie.Need-begin-and-step-requires
-begin-and-step-requires c κs = search needs
-
-enum-known-first : tie.Need-enum-known-first
-enum-known-first c = search needs
-
-enum-known-first-2 : tie.Need-enum-known-first-2
-enum-known-first-2 c = search needs
-
-begin-and-step-requires-2 : tie.Need-begin-and-step-requires-2
-begin-and-step-requires-2 c κs = search needs
-
-same-length : tie.Need-same-length
-same-length c = search needs
-
-same-length-2 : tie.Need-same-length-2
-same-length-2 c = search needs
-
-same-length-3 : tie.Need-same-length-3
-same-length-3 c = search needs
-
-same-length-4 : tie.Need-same-length-4
-same-length-4 c = search needs
-
-same-length-5 : tie.Need-same-length-5
-same-length-5 c = search needs
-
 returns : tie.Need-returns
 returns c =
     let cut = c .before .before .before .before .before .before .before in
@@ -48,24 +18,6 @@ returns c =
           (omega (arith, given .good)) (omega (arith, given .good)) (omega (arith, given .good)) _ (made .make-calls .ensures)
           (cut .begin-and-step .result) _ _ (cut .begin-and-step .ensures) _ (c .before .first .given .1),
     )
-
-same-length-6 : tie.Need-same-length-6
-same-length-6 c = search needs
-
-same-length-7 : tie.Need-same-length-7
-same-length-7 c = search needs
-
-same-length-8 : tie.Need-same-length-8
-same-length-8 c = search needs
-
-same-length-9 : tie.Need-same-length-9
-same-length-9 c = search needs
-
-same-length-10 : tie.Need-same-length-10
-same-length-10 c = search needs
-
-same-length-11 : tie.Need-same-length-11
-same-length-11 c = search needs
 
 returns-2 : tie.Need-returns-2
 returns-2 c =
@@ -87,21 +39,21 @@ pub call-save-anew-spec : {M : Type 1} → statement M
 call-save-anew-spec =
     tie.close
     (tie.spec
-    make-calls-requires
-    begin-and-step-requires
-    enum-known-first
-    enum-known-first-2
-    begin-and-step-requires-2
-    same-length
-    same-length-2
-    same-length-3
-    same-length-4
-    same-length-5
+    (search needs)
+    (search needs)
+    (search needs)
+    (search needs)
+    (search needs)
+    (search needs)
+    (search needs)
+    (search needs)
+    (search needs)
+    (search needs)
     returns
-    same-length-6
-    same-length-7
-    same-length-8
-    same-length-9
-    same-length-10
-    same-length-11
+    (search needs)
+    (search needs)
+    (search needs)
+    (search needs)
+    (search needs)
+    (search needs)
     returns-2)

@@ -4,14 +4,8 @@ use Rattle.fields.proofs.RangeLaws.{enough-wraps, enough-short, enough-
 use Rattle.fields.proofs.bytes.ensure_len.Statement.{statement}
 use Rattle.fields.proofs.bytes.ensure_len.Tie as tie
 
-sub-if1 : tie.Need-sub-if1
-sub-if1 c = search needs
-
 returns : tie.Need-returns
 returns c = enough-wraps _ _ _ (omega arith) (omega arith)
-
-add-end : tie.Need-add-end
-add-end c = search needs
 
 returns-2 : tie.Need-returns-2
 returns-2 c = enough-short _ _ _ (omega arith) (omega arith)
@@ -20,4 +14,4 @@ returns-3 : tie.Need-returns-3
 returns-3 c = enough-is _ _ _ (omega arith)
 
 pub ensure-len-spec : {M : Type 1} → statement M
-ensure-len-spec = tie.close (tie.spec sub-if1 returns add-end returns-2 returns-3)
+ensure-len-spec = tie.close (tie.spec (search needs) returns (search needs) returns-2 returns-3)

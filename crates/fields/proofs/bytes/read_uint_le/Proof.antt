@@ -18,12 +18,6 @@ Inv-loop bytes at width n v₀ i₀ v i = (i ≤ n) × (v ≡ leValue (drop i (t
 abbrev μ-loop : tie.MeasureT-loop
 μ-loop bytes at width n v₀ i₀ v i = i
 
-min-requires : tie.Need-min-requires Inv-loop μ-loop
-min-requires c κs = search needs
-
-places-requires : tie.Need-places-requires Inv-loop μ-loop
-places-requires c κs = search needs
-
 loop-holds : tie.Need-loop-holds Inv-loop μ-loop
 unfolding leValue
 loop-holds c =
@@ -31,21 +25,12 @@ loop-holds c =
     let n = c .places .result in
     (le-refl n, sym (ap leValue (past-end n (now (a .bytes)) (a .at))), omega (arith, one-le-pow (n - n) 256 (lit≤ tt)))
 
-sub-i : tie.Need-sub-i Inv-loop μ-loop
-sub-i c = omega arith
-
 mul-v : tie.Need-mul-v Inv-loop μ-loop
 mul-v c =
     let l = c .before .loop in
     let n = c .before .before .places .result in
     let s : n ≤ 8 = omega arith in
     omega (arith, room [] 0 n (l .i) (l .v) (c .loop-test .taken) (l .inv .0) s (l .inv .2))
-
-add-wide : tie.Need-add-wide Inv-loop μ-loop
-add-wide c = omega arith
-
-shared-slice-read-wide : tie.Need-shared-slice-read-wide Inv-loop μ-loop
-shared-slice-read-wide c = omega arith
 
 wide-requires : tie.Need-wide-requires Inv-loop μ-loop
 wide-requires c κs = tt
@@ -56,9 +41,6 @@ add-v c =
     let n = c .before .before .before .before .places .result in
     let s : n ≤ 8 = omega arith in
     omega (arith, room [] 0 n (l .i) (l .v) (c .before .before .loop-test .taken) (l .inv .0) s (l .inv .2))
-
-loop-less : tie.Need-loop-less Inv-loop μ-loop
-loop-less c = omega arith
 
 loop-again : tie.Need-loop-again Inv-loop μ-loop
 loop-again c =
@@ -91,15 +73,15 @@ read-uint-le-spec =
     (tie.spec
     Inv-loop
     μ-loop
-    min-requires
-    places-requires
+    (search needs)
+    (search needs)
     loop-holds
-    sub-i
+    (λ c. omega arith)
     mul-v
-    add-wide
-    shared-slice-read-wide
+    (λ c. omega arith)
+    (λ c. omega arith)
     wide-requires
     add-v
-    loop-less
+    (λ c. omega arith)
     loop-again
     returns)

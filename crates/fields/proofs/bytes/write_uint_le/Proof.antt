@@ -19,9 +19,6 @@ Inv-loop out₀ at value width n rest₀ i₀ out rest i = (i ≤ n) × (rest �
 abbrev μ-loop : tie.MeasureT-loop
 μ-loop out₀ at value width n rest₀ i₀ out rest i = n - i
 
-places-requires : tie.Need-places-requires Inv-loop μ-loop
-places-requires c κs = search needs
-
 -- the stores keep the length
 kept : (at i w v : ℕ) (d : List ℕ) {out : List ℕ} → out ≡ over at (take i (leBytes w v)) d → length out ≡ length d
 kept at i w v d e = ap length e ∙ length-over at (take i (leBytes w v)) d
@@ -31,23 +28,11 @@ loop-holds c =
     let a = c .before .before .args in
     (zero-le, sym (div-one (a .value)), sym (over-nil (a .at) (now (a .out))))
 
-cast-out : tie.Need-cast-out Inv-loop μ-loop
-cast-out c = omega arith
-
-add-out : tie.Need-add-out Inv-loop μ-loop
-add-out c = omega arith
-
 slice-write-out : tie.Need-slice-write-out Inv-loop μ-loop
 slice-write-out c =
     let a = c .before .before .before .before .args in
     let l = c .before .loop in
     omega (arith, kept (a .at) (l .i) (a .width) (a .value) (now (a .out)) (l .inv .2))
-
-add-i : tie.Need-add-i Inv-loop μ-loop
-add-i c = omega arith
-
-loop-less : tie.Need-loop-less Inv-loop μ-loop
-loop-less c = omega arith
 
 loop-again : tie.Need-loop-again Inv-loop μ-loop
 loop-again c =
@@ -75,13 +60,13 @@ write-uint-le-spec =
     (tie.spec
     Inv-loop
     μ-loop
-    places-requires
+    (search needs)
     loop-holds
-    cast-out
-    add-out
+    (λ c. omega arith)
+    (λ c. omega arith)
     slice-write-out
-    add-i
-    loop-less
+    (λ c. omega arith)
+    (λ c. omega arith)
     loop-again
     same-length
     returns)

@@ -9,9 +9,6 @@ use Rattle.fields.proofs.convert.align_up.Tie as tie
 returns : tie.Need-returns
 returns c = aligned-page _ _ (c .if1 .taken)
 
-rem-rest : tie.Need-rem-rest
-rem-rest c = search needs
-
 returns-2 : tie.Need-returns-2
 returns-2 c = aligned-at _ _ (c .before .if1 .left) (c .if2 .taken) (omega arith)
 
@@ -21,18 +18,12 @@ sub-pad c =
     let p : 0 < a .page = omega arith in
     omega (arith, mod-lt (a .value) p)
 
-sub-if3 : tie.Need-sub-if3
-sub-if3 c = search needs
-
 returns-3 : tie.Need-returns-3
 returns-3 c = aligned-over _ _ (c .before .before .if1 .left) (c .before .if2 .left) (omega arith)
-
-add-t7 : tie.Need-add-t7
-add-t7 c = search needs
 
 returns-4 : tie.Need-returns-4
 returns-4 c = aligned-is _ _ (c .before .before .if1 .left) (c .before .if2 .left) (omega arith)
 
 pub align-up-spec : {M : Type 1} → statement M
 align-up-spec =
-    tie.close (tie.spec returns rem-rest returns-2 sub-pad sub-if3 returns-3 add-t7 returns-4)
+    tie.close (tie.spec returns (search needs) returns-2 sub-pad (search needs) returns-3 (search needs) returns-4)

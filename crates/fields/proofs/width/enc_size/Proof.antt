@@ -10,12 +10,6 @@ use Rattle.fields.proofs.width.enc_size.Tie as tie
 sub-bits : tie.Need-sub-bits
 sub-bits c = leading-le 64 (c .args .value)
 
-add-bytes : tie.Need-add-bytes
-add-bytes c = search needs
-
-cast-bytes : tie.Need-cast-bytes
-cast-bytes c = search needs
-
 returns : tie.Need-returns
 returns c = one-byte (c .before .args .value) (c .before .fits .value .fits) (c .if1 .taken)
 
@@ -27,4 +21,4 @@ returns-2 : tie.Need-returns-2
 returns-2 c = bytes-of (c .before .args .value) _ (c .before .fits .value .fits) (some c) refl
 
 pub enc-size-spec : {M : Type 1} → statement M
-enc-size-spec = tie.close (tie.spec sub-bits add-bytes cast-bytes returns returns-2)
+enc-size-spec = tie.close (tie.spec sub-bits (search needs) (search needs) returns returns-2)

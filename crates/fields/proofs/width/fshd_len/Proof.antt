@@ -13,12 +13,9 @@ returns-2 : tie.Need-returns-2
 unfolding fshdLen
 returns-2 c = refuses _ _ _ (width-high _ (c .if2 .taken))
 
-add-t6 : tie.Need-add-t6
-add-t6 c = search needs
-
 returns-3 : tie.Need-returns-3
 unfolding fshdLen
 returns-3 c = passes _ _ _ (width-in _ (c .before .if1 .left) (c .if2 .left))
 
 pub fshd-len-spec : {M : Type 1} → statement M
-fshd-len-spec = tie.close (tie.spec returns returns-2 add-t6 returns-3)
+fshd-len-spec = tie.close (tie.spec returns returns-2 (search needs) returns-3)

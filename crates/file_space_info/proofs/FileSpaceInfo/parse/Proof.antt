@@ -8,15 +8,6 @@ use borrow.Author.Needs.{needs}
 use Rattle.file_space_info.proofs.FileSpaceInfo.parse.Statement.{statement}
 use Rattle.file_space_info.proofs.FileSpaceInfo.parse.Tie as tie
 
-read-fixed-requires : tie.Need-read-fixed-requires
-read-fixed-requires c κs = search needs
-
-enum-known-fixed : tie.Need-enum-known-fixed
-enum-known-fixed c = search needs
-
-enum-known-fixed-2 : tie.Need-enum-known-fixed-2
-enum-known-fixed-2 c = search needs
-
 -- the fixed part is accepted where the code goes on
 told : (c : tie.After-known-told2)
     → let a = c .before .before .before .before .before .before .args in answer (c .before .fixed2 .given .0 .0) ≡ fixedRead (a .offset-size) (a .length-size) (now (a .bytes))
@@ -33,9 +24,6 @@ returns c =
     let a = t .before .before .before .before .before .before .args in
     parsed-over (a .offset-size) (a .length-size) (now (a .bytes)) (now (a .addrs)) (t .before .fixed2 .given .0 .0) (told t) (c .before .present-addrs .result) (c .before .present-addrs .ensures) (omega arith)
 
-fixed-len-requires : tie.Need-fixed-len-requires
-fixed-len-requires c κs = search needs
-
 read-addrs-requires : tie.Need-read-addrs-requires
 read-addrs-requires c κs =
     let t = c .before .before .before .before in
@@ -51,9 +39,6 @@ returns-2 c =
     parsed-refused (a .offset-size) (a .length-size) (now (a .bytes)) (now (a .addrs)) (c .before .fixed .given .0 .0)
     (sym (ap fixedOutcome (c .before .fixed .given .1)) ∙ c .before .before .before .read-fixed .ensures)
 
-same-length : tie.Need-same-length
-same-length c = search needs
-
 returns-3 : tie.Need-returns-3
 returns-3 c =
     let t = c .before .before .before .before .before .before .before in
@@ -66,13 +51,13 @@ pub parse-spec : {M : Type 1} → statement M
 parse-spec =
     tie.close
     (tie.spec
-    read-fixed-requires
-    enum-known-fixed
-    enum-known-fixed-2
+    (search needs)
+    (search needs)
+    (search needs)
     present-addrs-requires
     returns
-    fixed-len-requires
+    (search needs)
     read-addrs-requires
     returns-2
-    same-length
+    (search needs)
     returns-3)

@@ -12,23 +12,11 @@ use borrow.Author.Needs.{needs}
 use Rattle.file_space_info.proofs.FileSpaceInfo.serialize.Statement.{statement}
 use Rattle.file_space_info.proofs.FileSpaceInfo.serialize.Tie as tie
 
-message-len-requires : tie.Need-message-len-requires
-message-len-requires c κs = search needs
-
 returns : tie.Need-returns
 returns c =
     let a = c .before .before .before .before .args in
     let n = c .before .message-len in
     serialized-over (a .self) (now (a .addrs)) (now (a .out)) (n .result) (n .ensures) (omega arith)
-
-write-fixed-requires : tie.Need-write-fixed-requires
-write-fixed-requires c κs = search needs
-
-write-addrs-requires : tie.Need-write-addrs-requires
-write-addrs-requires c κs = search needs
-
-same-length : tie.Need-same-length
-same-length c = search needs
 
 returns-2 : tie.Need-returns-2
 returns-2 c =
@@ -40,9 +28,6 @@ returns-2 c =
     ∙ ap (λ (l : List ℕ). over 29 (layout (addressRow 8 (now (a .addrs)))) l) (f .write-fixed .ensures)
     ∙ both-written (a .self) (now (a .addrs)) (now (a .out)) (c .before .before .before .before .if2 .taken))
     ∙ serialized-is (a .self) (now (a .addrs)) (now (a .out)) (n .result) (n .ensures) (omega arith)
-
-same-length-2 : tie.Need-same-length-2
-same-length-2 c = search needs
 
 returns-3 : tie.Need-returns-3
 returns-3 c =
@@ -56,11 +41,11 @@ pub serialize-spec : {M : Type 1} → statement M
 serialize-spec =
     tie.close
     (tie.spec
-    message-len-requires
+    (search needs)
     returns
-    write-fixed-requires
-    write-addrs-requires
-    same-length
+    (search needs)
+    (search needs)
+    (search needs)
     returns-2
-    same-length-2
+    (search needs)
     returns-3)

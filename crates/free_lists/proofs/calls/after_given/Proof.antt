@@ -2,15 +2,6 @@ use borrow.Author.Needs.{needs}
 use Rattle.free_lists.proofs.calls.after_given.Statement.{statement}
 use Rattle.free_lists.proofs.calls.after_given.Tie as tie
 
-enum-known-g : tie.Need-enum-known-g
-enum-known-g c = search needs
-
-enum-told : tie.Need-enum-told
-enum-told c = search needs
-
-enum-known-g-2 : tie.Need-enum-known-g-2
-enum-known-g-2 c = search needs
-
 returns : tie.Need-returns
 returns c = (rw (c .before .g .given .1), rw (c .before .g .given .1))
 
@@ -22,4 +13,4 @@ returns-3 c = (rw (c .before .g2 .given .1), rw (c .before .g2 .given .1))
 
 pub after-given-spec : {M : Type 1} → statement M
 after-given-spec =
-    tie.close (tie.spec enum-known-g enum-told enum-known-g-2 returns returns-2 returns-3)
+    tie.close (tie.spec (search needs) (search needs) (search needs) returns returns-2 returns-3)

@@ -2,12 +2,6 @@ use borrow.Author.Needs.{needs}
 use Rattle.free_lists.proofs.calls.after_kept.Statement.{statement}
 use Rattle.free_lists.proofs.calls.after_kept.Tie as tie
 
-enum-known-k : tie.Need-enum-known-k
-enum-known-k c = search needs
-
-enum-known-k-2 : tie.Need-enum-known-k-2
-enum-known-k-2 c = search needs
-
 returns : tie.Need-returns
 returns c = search needs
 
@@ -15,4 +9,4 @@ returns-2 : tie.Need-returns-2
 returns-2 c = (rw (c .before .k2 .given .1), rw (c .before .k2 .given .1))
 
 pub after-kept-spec : {M : Type 1} → statement M
-after-kept-spec = tie.close (tie.spec enum-known-k enum-known-k-2 returns returns-2)
+after-kept-spec = tie.close (tie.spec (search needs) (search needs) returns returns-2)

@@ -7,15 +7,6 @@ use borrow.Author.Needs.{needs}
 use Rattle.free_regions.proofs.FreeRegion.aligned_interior.Statement.{statement}
 use Rattle.free_regions.proofs.FreeRegion.aligned_interior.Tie as tie
 
-end-requires : tie.Need-end-requires
-end-requires c κs = search needs
-
-enum-known-stop : tie.Need-enum-known-stop
-enum-known-stop c = search needs
-
-enum-told : tie.Need-enum-told
-enum-told c = search needs
-
 returns : tie.Need-returns
 returns c = interior-over _ _ (end-over _ (c .before .before .end .ensures) _ (c .enum-told .given .1))
 
@@ -24,9 +15,6 @@ returns-2 c =
     let e = end-is (c .before .before .before .before .before .args .self) (c .before .before .before .before .end .ensures) _ (c .before .before .stop .given .1) in
     interior-zero _ _ (e .1) (c .if1 .taken)
 
-rem-last : tie.Need-rem-last
-rem-last c = search needs
-
 sub-last : tie.Need-sub-last
 sub-last c = mod-le _ _
 
@@ -34,12 +22,6 @@ returns-3 : tie.Need-returns-3
 returns-3 c =
     let e = end-is (c .before .before .before .before .before .before .args .self) (c .before .before .before .before .before .end .ensures) _ (c .before .before .before .stop .given .1) in
     interior-low _ _ (e .1) _ (e .0) (c .before .if1 .left) (c .if2 .taken)
-
-rem-rest : tie.Need-rem-rest
-rem-rest c = search needs
-
-sub-t12 : tie.Need-sub-t12
-sub-t12 c = search needs
 
 returns-4 : tie.Need-returns-4
 returns-4 c =
@@ -63,9 +45,6 @@ returns-5 c =
     let e = end-is (c .before .before .before .before .before .before .before .before .args .self) (c .before .before .before .before .before .before .before .end .ensures) _ (c .before .before .before .before .before .stop .given .1) in
     interior-high _ _ (e .1) _ (e .0) (c .before .before .before .if1 .left) (c .before .if3 .left) (omega arith)
 
-sub-t11 : tie.Need-sub-t11
-sub-t11 c = search needs
-
 returns-6 : tie.Need-returns-6
 returns-6 c =
     let e = end-is (c .before .before .before .before .before .before .before .before .args .self) (c .before .before .before .before .before .before .before .end .ensures) _ (c .before .before .before .before .before .stop .given .1) in
@@ -75,19 +54,19 @@ pub aligned-interior-spec : {M : Type 1} → statement M
 aligned-interior-spec =
     tie.close
     (tie.spec
-    end-requires
-    enum-known-stop
-    enum-told
+    (search needs)
+    (search needs)
+    (search needs)
     returns
     returns-2
-    rem-last
+    (search needs)
     sub-last
     returns-3
-    rem-rest
-    sub-t12
+    (search needs)
+    (search needs)
     returns-4
     sub-start
     add-start
     returns-5
-    sub-t11
+    (search needs)
     returns-6)

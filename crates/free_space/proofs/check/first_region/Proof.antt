@@ -11,9 +11,6 @@ use Rattle.free_space.proofs.CheckLaws.{list-no-room, list-room, first-
 use Rattle.free_space.proofs.check.first_region.Statement.{statement}
 use Rattle.free_space.proofs.check.first_region.Tie as tie
 
-is-run-requires : tie.Need-is-run-requires
-is-run-requires c κs = search needs
-
 returns : tie.Need-returns
 returns c =
     let a = c .before .before .before .args in
@@ -34,9 +31,6 @@ region-at-requires c κs =
     let h = c .before .before .is-run in
     let room = run-room (now (a .run)) (a .list .count) (sym (h .ensures) ∙ not-false (h .result) (c .before .if1 .left)) in
     omega arith
-
-stands-requires : tie.Need-stands-requires
-stands-requires c κs = search needs
 
 returns-3 : tie.Need-returns-3
 returns-3 c =
@@ -73,10 +67,10 @@ pub first-region-spec : {M : Type 1} → statement M
 first-region-spec =
     tie.close
     (tie.spec
-    is-run-requires
+    (search needs)
     returns
     returns-2
     region-at-requires
-    stands-requires
+    (search needs)
     returns-3
     returns-4)

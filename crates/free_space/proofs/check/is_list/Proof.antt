@@ -6,18 +6,6 @@ use Rattle.free_space.specs.Splices.{Begins}
 use Rattle.free_space.proofs.check.is_list.Statement.{statement}
 use Rattle.free_space.proofs.check.is_list.Tie as tie
 
-first-region-requires : tie.Need-first-region-requires
-first-region-requires c κs = search needs
-
-enum-told : tie.Need-enum-told
-enum-told c = search needs
-
-enum-told-2 : tie.Need-enum-told-2
-enum-told-2 c = search needs
-
-enum-known-h : tie.Need-enum-known-h
-enum-known-h c = search needs
-
 add-rest-follows : tie.Need-add-rest-follows
 add-rest-follows c =
     let a = c .before .before .before .before .before .before .args in
@@ -50,10 +38,10 @@ pub is-list-spec : {M : Type 1} → statement M
 is-list-spec =
     tie.close
     (tie.spec
-    first-region-requires
-    enum-told
-    enum-told-2
-    enum-known-h
+    (search needs)
+    (search needs)
+    (search needs)
+    (search needs)
     add-rest-follows
     rest-follows-requires
     returns

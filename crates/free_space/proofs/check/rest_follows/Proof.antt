@@ -19,12 +19,6 @@ abbrev μ-loop : tie.MeasureT-loop
 loop-holds : tie.Need-loop-holds Inv-loop μ-loop
 loop-holds c = refl
 
-region-at-requires : tie.Need-region-at-requires Inv-loop μ-loop
-region-at-requires c κs = search needs
-
-follows-requires : tie.Need-follows-requires Inv-loop μ-loop
-follows-requires c κs = search needs
-
 returns : tie.Need-returns Inv-loop μ-loop
 returns c =
     let a = c .before .before .before .before .before .before .args in
@@ -42,12 +36,6 @@ add-prev c =
     let g = c .before .before .before .region-at in
     let f = pass-fits (a .count) (l .i) (l .prev) (now (a .run)) (omega arith) (omega arith) (g .result) (g .ensures) (t .result) (t .ensures) (c .before .if1 .left) in
     omega arith
-
-add-i : tie.Need-add-i Inv-loop μ-loop
-add-i c = search needs
-
-loop-less : tie.Need-loop-less Inv-loop μ-loop
-loop-less c = search needs
 
 loop-again : tie.Need-loop-again Inv-loop μ-loop
 loop-again c =
@@ -71,11 +59,11 @@ rest-follows-spec =
     Inv-loop
     μ-loop
     loop-holds
-    region-at-requires
-    follows-requires
+    (search needs)
+    (search needs)
     returns
     add-prev
-    add-i
-    loop-less
+    (search needs)
+    (search needs)
     loop-again
     returns-2)

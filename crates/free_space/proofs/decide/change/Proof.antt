@@ -10,14 +10,8 @@ use Rattle.free_space.proofs.SpliceLaws.{fitted-full, fitted-is}
 use Rattle.free_space.proofs.decide.change.Statement.{statement}
 use Rattle.free_space.proofs.decide.change.Tie as tie
 
-patch-len-requires : tie.Need-patch-len-requires
-patch-len-requires c κs = search needs
-
 add-needed : tie.Need-add-needed
 add-needed c = omega (arith, c .patch-len .ensures .1)
-
-sub-needed : tie.Need-sub-needed
-sub-needed c = search needs
 
 add-needed-2 : tie.Need-add-needed-2
 add-needed-2 c = omega (arith, c .before .patch-len .ensures .1)
@@ -41,4 +35,4 @@ returns-2 c =
 
 pub change-spec : {M : Type 1} → statement M
 change-spec =
-    tie.close (tie.spec patch-len-requires add-needed sub-needed add-needed-2 returns returns-2)
+    tie.close (tie.spec (search needs) add-needed (search needs) add-needed-2 returns returns-2)

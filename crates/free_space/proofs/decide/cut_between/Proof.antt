@@ -46,9 +46,6 @@ add-edges c =
     let h : a .hi - 1 < a .list .count = omega (arith, p .high .order, p .high .within) in
     omega (arith, read-fits (now (a .run)) (a .list) (a .hi - 1) (g .result) (p .list) h (g .ensures) .within)
 
-edges-requires : tie.Need-edges-requires
-edges-requires c κs = search needs
-
 change-requires : tie.Need-change-requires
 change-requires c κs =
     let a = c .before .before .before .before .before .before .args in
@@ -81,6 +78,6 @@ cut-between-spec =
     sub-region-at
     region-at-requires-2
     add-edges
-    edges-requires
+    (search needs)
     change-requires
     returns-2)

@@ -10,26 +10,11 @@ use Rattle.free_space.proofs.AnswerLaws.{serve-at, alloc-bad, alloc-zer
 use Rattle.free_space.proofs.decide.decide_alloc.Statement.{statement}
 use Rattle.free_space.proofs.decide.decide_alloc.Tie as tie
 
-if-list-requires : tie.Need-if-list-requires
-if-list-requires c κs = search needs
-
 returns : tie.Need-returns
 returns c =
     let a = c .before .before .before .args in
     let xs = now (a .run) in
     (ap (givenBy xs (a .list)) (c .if-list .ensures .0) ∙ alloc-zero xs (a .list) (a .len) (c .before .if1 .taken), c .if-list .ensures .1)
-
-best-fit-requires : tie.Need-best-fit-requires
-best-fit-requires c κs = search needs
-
-enum-told : tie.Need-enum-told
-enum-told c = search needs
-
-enum-told-2 : tie.Need-enum-told-2
-enum-told-2 c = search needs
-
-enum-known-s : tie.Need-enum-known-s
-enum-known-s c = search needs
 
 region-at-requires : tie.Need-region-at-requires
 region-at-requires c κs =
@@ -73,12 +58,12 @@ pub decide-alloc-spec : {M : Type 1} → statement M
 decide-alloc-spec =
     tie.close
     (tie.spec
-    if-list-requires
+    (search needs)
     returns
-    best-fit-requires
-    enum-told
-    enum-told-2
-    enum-known-s
+    (search needs)
+    (search needs)
+    (search needs)
+    (search needs)
     region-at-requires
     take-part-requires
     returns-2

@@ -11,21 +11,6 @@ use Rattle.free_space.proofs.AnswerLaws.{free-bad, free-over, free-zero
 use Rattle.free_space.proofs.decide.decide_free.Statement.{statement}
 use Rattle.free_space.proofs.decide.decide_free.Tie as tie
 
-meeting-requires : tie.Need-meeting-requires
-meeting-requires c κs = search needs
-
-enum-told : tie.Need-enum-told
-enum-told c = search needs
-
-enum-told-2 : tie.Need-enum-told-2
-enum-told-2 c = search needs
-
-enum-told-3 : tie.Need-enum-told-3
-enum-told-3 c = search needs
-
-enum-known-m : tie.Need-enum-known-m
-enum-known-m c = search needs
-
 returns : tie.Need-returns
 returns c =
     let a = c .before .before .before .before .before .before .args in
@@ -79,11 +64,11 @@ pub decide-free-spec : {M : Type 1} → statement M
 decide-free-spec =
     tie.close
     (tie.spec
-    meeting-requires
-    enum-told
-    enum-told-2
-    enum-told-3
-    enum-known-m
+    (search needs)
+    (search needs)
+    (search needs)
+    (search needs)
+    (search needs)
     returns
     put-between-requires
     returns-2

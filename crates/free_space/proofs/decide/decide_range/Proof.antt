@@ -7,21 +7,6 @@ use Rattle.free_space.proofs.AnswerLaws.{range-bad, range-over, range-z
 use Rattle.free_space.proofs.decide.decide_range.Statement.{statement}
 use Rattle.free_space.proofs.decide.decide_range.Tie as tie
 
-meeting-requires : tie.Need-meeting-requires
-meeting-requires c κs = search needs
-
-enum-told : tie.Need-enum-told
-enum-told c = search needs
-
-enum-told-2 : tie.Need-enum-told-2
-enum-told-2 c = search needs
-
-enum-told-3 : tie.Need-enum-told-3
-enum-told-3 c = search needs
-
-enum-known-m : tie.Need-enum-known-m
-enum-known-m c = search needs
-
 add-cut-between : tie.Need-add-cut-between
 add-cut-between c =
     let a = c .before .before .before .before .before .args in
@@ -65,11 +50,11 @@ pub decide-range-spec : {M : Type 1} → statement M
 decide-range-spec =
     tie.close
     (tie.spec
-    meeting-requires
-    enum-told
-    enum-told-2
-    enum-told-3
-    enum-known-m
+    (search needs)
+    (search needs)
+    (search needs)
+    (search needs)
+    (search needs)
     add-cut-between
     cut-between-requires
     returns

@@ -13,9 +13,6 @@ use Rattle.free_space.proofs.AnswerLaws.{trailing-bad, trailing-none, t
 use Rattle.free_space.proofs.decide.decide_trailing.Statement.{statement}
 use Rattle.free_space.proofs.decide.decide_trailing.Tie as tie
 
-is-list-requires : tie.Need-is-list-requires
-is-list-requires c κs = search needs
-
 returns : tie.Need-returns
 returns c =
     let a = c .before .before .before .args in
@@ -27,9 +24,6 @@ returns-2 c =
     let a = c .before .before .before .before .args in
     let t = c .before .before .is-list in
     (trailing-none (now (a .run)) (a .list) (a .eof) (sym (t .ensures) ∙ not-false (t .result) (c .before .if1 .left)) (c .if2 .taken), tt)
-
-sub-region-at : tie.Need-sub-region-at
-sub-region-at c = search needs
 
 region-at-requires : tie.Need-region-at-requires
 region-at-requires c κs =
@@ -54,9 +48,6 @@ returns-3 c =
     let g = c .before .before .region-at in
     let ok = sym (t .ensures) ∙ not-false (t .result) (c .before .before .before .before .if1 .left) in
     (trailing-other (now (a .run)) (a .list) (a .eof) ok (c .before .before .before .if2 .left) (g .result) (g .ensures) (c .if3 .taken), tt)
-
-sub-change : tie.Need-sub-change
-sub-change c = search needs
 
 change-requires : tie.Need-change-requires
 change-requires c κs =
@@ -84,13 +75,13 @@ pub decide-trailing-spec : {M : Type 1} → statement M
 decide-trailing-spec =
     tie.close
     (tie.spec
-    is-list-requires
+    (search needs)
     returns
     returns-2
-    sub-region-at
+    (search needs)
     region-at-requires
     add-if3
     returns-3
-    sub-change
+    (search needs)
     change-requires
     returns-4)

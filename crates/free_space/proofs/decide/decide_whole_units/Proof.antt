@@ -10,12 +10,6 @@ use Rattle.free_space.proofs.AnswerLaws.{serve-at, units-bad, units-par
 use Rattle.free_space.proofs.decide.decide_whole_units.Statement.{statement}
 use Rattle.free_space.proofs.decide.decide_whole_units.Tie as tie
 
-is-part-requires : tie.Need-is-part-requires
-is-part-requires c κs = search needs
-
-if-list-requires : tie.Need-if-list-requires
-if-list-requires c κs = search needs
-
 returns : tie.Need-returns
 returns c =
     let a = c .before .before .before .before .args in
@@ -23,9 +17,6 @@ returns c =
       ap (givenBy xs (a .list)) (c .if-list .ensures .0) ∙ units-part xs (a .list) (a .len) (a .unit) (sym (c .before .before .is-part .ensures) ∙ c .before .if1 .taken),
       c .if-list .ensures .1,
     )
-
-if-list-requires-2 : tie.Need-if-list-requires-2
-if-list-requires-2 c κs = search needs
 
 returns-2 : tie.Need-returns-2
 returns-2 c =
@@ -35,18 +26,6 @@ returns-2 c =
           ∙ units-zero xs (a .list) (a .len) (a .unit) (sym (c .before .before .before .is-part .ensures) ∙ c .before .before .if1 .left) (c .before .if2 .taken),
       c .if-list2 .ensures .1,
     )
-
-best-fit-requires : tie.Need-best-fit-requires
-best-fit-requires c κs = search needs
-
-enum-told : tie.Need-enum-told
-enum-told c = search needs
-
-enum-told-2 : tie.Need-enum-told-2
-enum-told-2 c = search needs
-
-enum-known-s : tie.Need-enum-known-s
-enum-known-s c = search needs
 
 region-at-requires : tie.Need-region-at-requires
 region-at-requires c κs =
@@ -93,15 +72,15 @@ pub decide-whole-units-spec : {M : Type 1} → statement M
 decide-whole-units-spec =
     tie.close
     (tie.spec
-    is-part-requires
-    if-list-requires
+    (search needs)
+    (search needs)
     returns
-    if-list-requires-2
+    (search needs)
     returns-2
-    best-fit-requires
-    enum-told
-    enum-told-2
-    enum-known-s
+    (search needs)
+    (search needs)
+    (search needs)
+    (search needs)
     region-at-requires
     take-units-requires
     returns-3

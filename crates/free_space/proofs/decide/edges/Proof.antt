@@ -3,12 +3,6 @@ use Rattle.free_space.proofs.SpliceLaws.{edges-none, edges-back, edges-
 use Rattle.free_space.proofs.decide.edges.Statement.{statement}
 use Rattle.free_space.proofs.decide.edges.Tie as tie
 
-saturating-sub-requires : tie.Need-saturating-sub-requires
-saturating-sub-requires c κs = search needs
-
-saturating-sub-requires-2 : tie.Need-saturating-sub-requires-2
-saturating-sub-requires-2 c κs = search needs
-
 returns : tie.Need-returns
 returns c =
     let a = c .before .before .before .before .before .before .args in
@@ -31,4 +25,4 @@ returns-4 c =
 
 pub edges-spec : {M : Type 1} → statement M
 edges-spec =
-    tie.close (tie.spec saturating-sub-requires saturating-sub-requires-2 returns returns-2 returns-3 returns-4)
+    tie.close (tie.spec (search needs) (search needs) returns returns-2 returns-3 returns-4)

@@ -5,9 +5,6 @@ use Rattle.free_space.specs.Decisions.{ifList}
 use Rattle.free_space.proofs.decide.if_list.Statement.{statement}
 use Rattle.free_space.proofs.decide.if_list.Tie as tie
 
-is-list-requires : tie.Need-is-list-requires
-is-list-requires c κs = search needs
-
 returns : tie.Need-returns
 returns c = (ap (λ (t : Bool). ifList t (c .before .before .before .args .d)) (sym (c .if1 .taken) ∙ c .before .is-list .ensures), c .before .before .before .pre)
 
@@ -15,4 +12,4 @@ returns-2 : tie.Need-returns-2
 returns-2 c = (ap (λ (t : Bool). ifList t (c .before .before .before .args .d)) (sym (c .if1 .left) ∙ c .before .is-list .ensures), tt)
 
 pub if-list-spec : {M : Type 1} → statement M
-if-list-spec = tie.close (tie.spec is-list-requires returns returns-2)
+if-list-spec = tie.close (tie.spec (search needs) returns returns-2)

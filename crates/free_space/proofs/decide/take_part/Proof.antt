@@ -12,9 +12,6 @@ use Rattle.free_space.proofs.AnswerLaws.{without-is}
 use Rattle.free_space.proofs.decide.take_part.Statement.{statement}
 use Rattle.free_space.proofs.decide.take_part.Tie as tie
 
-add-change : tie.Need-add-change
-add-change c = search needs
-
 add-edges : tie.Need-add-edges
 add-edges c =
     let a = c .before .args in
@@ -28,9 +25,6 @@ add-edges-2 c =
     let pre = c .before .before .pre in
     let f = read-fits (now (a .run)) (a .list) (a .i) (a .r) (pre .0) (pre .1) (pre .2) in
     omega arith
-
-edges-requires : tie.Need-edges-requires
-edges-requires c κs = search needs
 
 change-requires : tie.Need-change-requires
 change-requires c κs =
@@ -52,4 +46,4 @@ returns c =
 
 pub take-part-spec : {M : Type 1} → statement M
 take-part-spec =
-    tie.close (tie.spec add-change add-edges add-edges-2 edges-requires change-requires returns)
+    tie.close (tie.spec (search needs) add-edges add-edges-2 (search needs) change-requires returns)

@@ -21,26 +21,11 @@ Inv-loop run len what count b₀ prev₀ i₀ b prev i =
 abbrev μ-loop : tie.MeasureT-loop
 μ-loop run len what count b₀ prev₀ i₀ b prev i = count - i
 
-none-yet-requires : tie.Need-none-yet-requires Inv-loop μ-loop
-none-yet-requires c κs = search needs
-
 measured-requires : tie.Need-measured-requires Inv-loop μ-loop
 measured-requires c κs = c .before .before .pre .0 .within
 
-better-of-requires : tie.Need-better-of-requires Inv-loop μ-loop
-better-of-requires c κs = search needs
-
-add-prev : tie.Need-add-prev Inv-loop μ-loop
-add-prev c = search needs
-
 loop-holds : tie.Need-loop-holds Inv-loop μ-loop
 loop-holds c = (refl, refl)
-
-region-at-requires : tie.Need-region-at-requires Inv-loop μ-loop
-region-at-requires c κs = search needs
-
-follows-requires : tie.Need-follows-requires Inv-loop μ-loop
-follows-requires c κs = search needs
 
 returns : tie.Need-returns Inv-loop μ-loop
 returns c =
@@ -60,9 +45,6 @@ measured-requires-2 c κs =
     let g = c .before .before .region-at in
     pass-fits (a .list .count) (l .i) (l .prev) (now (a .run)) (omega arith) (c .before .before .before .before .before .before .before .before .before .before .pre .0 .room) (g .result) (g .ensures) (t .result) (t .ensures) (c .if1 .left) .within
 
-better-of-requires-2 : tie.Need-better-of-requires-2 Inv-loop μ-loop
-better-of-requires-2 c κs = search needs
-
 add-prev-2 : tie.Need-add-prev-2 Inv-loop μ-loop
 add-prev-2 c =
     let a = c .before .before .before .before .before .before .before .before .before .before .before .before .before .args in
@@ -74,9 +56,6 @@ add-prev-2 c =
 
 add-i : tie.Need-add-i Inv-loop μ-loop
 add-i c = omega (arith, c .before .before .before .before .before .before .loop-test .taken, c .before .before .before .before .before .before .before .before .before .before .before .before .before .pre .0 .room, c .before .before .before .before .before .before .before .before .before .before .before .before .before .good)
-
-loop-less : tie.Need-loop-less Inv-loop μ-loop
-loop-less c = search needs
 
 loop-again : tie.Need-loop-again Inv-loop μ-loop
 loop-again c =
@@ -94,9 +73,6 @@ loop-again c =
           ∙ fit-step (measureOf (a .what)) (a .len) (l .i) n xs (l .b) (b .result) (g .result) (omega arith) room (g .ensures)
           (b .ensures ∙ ap (λ (s : ℕ). lower (soFar (a .len) (l .b)) (oneAt (a .len) (l .i) s)) (w .ensures)),
     )
-
-found-requires : tie.Need-found-requires Inv-loop μ-loop
-found-requires c κs = search needs
 
 returns-2 : tie.Need-returns-2 Inv-loop μ-loop
 returns-2 c =
@@ -120,19 +96,19 @@ best-after-spec =
     (tie.spec
     Inv-loop
     μ-loop
-    none-yet-requires
+    (search needs)
     measured-requires
-    better-of-requires
-    add-prev
+    (search needs)
+    (search needs)
     loop-holds
-    region-at-requires
-    follows-requires
+    (search needs)
+    (search needs)
     returns
     measured-requires-2
-    better-of-requires-2
+    (search needs)
     add-prev-2
     add-i
-    loop-less
+    (search needs)
     loop-again
-    found-requires
+    (search needs)
     returns-2)

@@ -10,18 +10,6 @@ use Rattle.free_space.specs.Splices.{Begins}
 use Rattle.free_space.proofs.fit.best_fit.Statement.{statement}
 use Rattle.free_space.proofs.fit.best_fit.Tie as tie
 
-first-region-requires : tie.Need-first-region-requires
-first-region-requires c κs = search needs
-
-enum-told : tie.Need-enum-told
-enum-told c = search needs
-
-enum-told-2 : tie.Need-enum-told-2
-enum-told-2 c = search needs
-
-enum-known-h : tie.Need-enum-known-h
-enum-known-h c = search needs
-
 -- what is known by the answer of the first region's test
 begins : (c : tie.After-first-region) (h : Head) → c .first-region .result ≡ h → let a = c .before .before .args in Begins (now (a .run)) (a .list) h
 begins c h e = let a = c .before .before .args in subst (Begins (now (a .run)) (a .list)) e (c .first-region .ensures)
@@ -45,10 +33,10 @@ pub best-fit-spec : {M : Type 1} → statement M
 best-fit-spec =
     tie.close
     (tie.spec
-    first-region-requires
-    enum-told
-    enum-told-2
-    enum-known-h
+    (search needs)
+    (search needs)
+    (search needs)
+    (search needs)
     best-after-requires
     returns
     returns-2

@@ -4,9 +4,6 @@ use Rattle.free_space.proofs.FitLaws.{better-new, better-old}
 use Rattle.free_space.proofs.fit.better_of.Statement.{statement}
 use Rattle.free_space.proofs.fit.better_of.Tie as tie
 
-wrapping-sub-u64-requires : tie.Need-wrapping-sub-u64-requires
-wrapping-sub-u64-requires c κs = search needs
-
 returns : tie.Need-returns
 returns c =
     let a = c .before .before .before .args in
@@ -20,4 +17,4 @@ returns-2 c =
     better-old (a .len) (a .i) (a .span) (s .result) (a .b) (omega arith) (omega arith) (omega arith) (omega arith) (s .ensures) (omega arith)
 
 pub better-of-spec : {M : Type 1} → statement M
-better-of-spec = tie.close (tie.spec wrapping-sub-u64-requires returns returns-2)
+better-of-spec = tie.close (tie.spec (search needs) returns returns-2)

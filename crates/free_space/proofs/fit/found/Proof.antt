@@ -4,9 +4,6 @@ use Rattle.free_space.proofs.FitLaws.{found-at, found-none}
 use Rattle.free_space.proofs.fit.found.Statement.{statement}
 use Rattle.free_space.proofs.fit.found.Tie as tie
 
-sub-if1 : tie.Need-sub-if1
-sub-if1 c = search needs
-
 returns : tie.Need-returns
 returns c = let a = c .before .before .args in found-at (a .len) (a .b) (omega arith)
 
@@ -14,4 +11,4 @@ returns-2 : tie.Need-returns-2
 returns-2 c = let a = c .before .before .args in found-none (a .len) (a .b) (omega arith)
 
 pub found-spec : {M : Type 1} → statement M
-found-spec = tie.close (tie.spec sub-if1 returns returns-2)
+found-spec = tie.close (tie.spec (search needs) returns returns-2)

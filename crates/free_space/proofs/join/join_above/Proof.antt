@@ -15,21 +15,12 @@ region-at-requires c κs =
     let pre = c .before .before .before .pre in
     omega (arith, listed (now (a .run)) (a .list) (pre .0) .room)
 
-add-if2 : tie.Need-add-if2
-add-if2 c = search needs
-
-add-region-to : tie.Need-add-region-to
-add-region-to c = search needs
-
 add-region-to-2 : tie.Need-add-region-to-2
 add-region-to-2 c =
     let a = c .before .before .before .before .before .before .before .before .before .args in
     let pre = c .before .before .before .before .before .before .before .before .before .pre in
     let g = c .before .before .before .before .before .region-at in
     omega (arith, read-fits (now (a .run)) (a .list) (a .i) (g .result) (pre .0) (c .before .before .before .before .before .before .if1 .taken) (g .ensures) .within)
-
-region-to-requires : tie.Need-region-to-requires
-region-to-requires c κs = search needs
 
 returns : tie.Need-returns
 returns c =
@@ -60,10 +51,10 @@ join-above-spec =
     tie.close
     (tie.spec
     region-at-requires
-    add-if2
-    add-region-to
+    (search needs)
+    (search needs)
     add-region-to-2
-    region-to-requires
+    (search needs)
     returns
     returns-2
     returns-3)

@@ -10,9 +10,6 @@ use Rattle.free_space.proofs.join.join_below.Statement.{statement}
 use Rattle.free_space.proofs.join.join_below.Tie as tie
 use Rattle.free_space.proofs.ListLaws.{listed}
 
-sub-region-at : tie.Need-sub-region-at
-sub-region-at c = search needs
-
 region-at-requires : tie.Need-region-at-requires
 region-at-requires c κs =
     let a = c .before .before .args in
@@ -26,15 +23,6 @@ add-if2 c =
     let g = c .before .region-at in
     let h : a .i - 1 < a .list .count = omega (arith, p .high .within) in
     omega (arith, read-fits (now (a .run)) (a .list) (a .i - 1) (g .result) (p .list) h (g .ensures) .within)
-
-sub-region-to : tie.Need-sub-region-to
-sub-region-to c = search needs
-
-add-region-to : tie.Need-add-region-to
-add-region-to c = search needs
-
-region-to-requires : tie.Need-region-to-requires
-region-to-requires c κs = search needs
 
 returns : tie.Need-returns
 returns c =
@@ -64,12 +52,12 @@ pub join-below-spec : {M : Type 1} → statement M
 join-below-spec =
     tie.close
     (tie.spec
-    sub-region-at
+    (search needs)
     region-at-requires
     add-if2
-    sub-region-to
-    add-region-to
-    region-to-requires
+    (search needs)
+    (search needs)
+    (search needs)
     returns
     returns-2
     returns-3)

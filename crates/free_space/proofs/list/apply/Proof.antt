@@ -10,24 +10,6 @@ use Rattle.free_space.proofs.list.apply.Tie as tie
 use Rattle.pairs.proofs.PairLaws.{length-spliced}
 use Rattle.free_space.proofs.DecodeLaws.{region-form}
 
-patch-len-requires : tie.Need-patch-len-requires
-patch-len-requires c κs = search needs
-
-replace-requires : tie.Need-replace-requires
-replace-requires c κs = search needs
-
-add-t11 : tie.Need-add-t11
-add-t11 c = search needs
-
-sub-t12 : tie.Need-sub-t12
-sub-t12 c = search needs
-
-add-t13 : tie.Need-add-t13
-add-t13 c = search needs
-
-same-length : tie.Need-same-length
-same-length c = search needs
-
 returns : tie.Need-returns
 returns c =
     let a = c .before .before .before .before .before .before .args in
@@ -42,4 +24,4 @@ returns c =
 pub apply-spec : {M : Type 1} → statement M
 apply-spec =
     tie.close
-    (tie.spec patch-len-requires replace-requires add-t11 sub-t12 add-t13 same-length returns)
+    (tie.spec (search needs) (search needs) (search needs) (search needs) (search needs) (search needs) returns)

@@ -11,15 +11,6 @@ use borrow.Author.Needs.{needs}
 use Rattle.free_space.proofs.list.give.Statement.{statement}
 use Rattle.free_space.proofs.list.give.Tie as tie
 
-enum-known-d : tie.Need-enum-known-d
-enum-known-d c = search needs
-
-enum-told : tie.Need-enum-told
-enum-told c = search needs
-
-enum-known-d-2 : tie.Need-enum-known-d-2
-enum-known-d-2 c = search needs
-
 apply-requires : tie.Need-apply-requires
 apply-requires c κs =
     let a = c .before .before .before .before .before .args in
@@ -37,9 +28,6 @@ returns-2 c =
     let xs = now (a .run) in
     ap (λ (d : Decision). leaving xs (givenBy xs (a .list) d)) (sym (c .enum-told .given .1))
 
-same-length : tie.Need-same-length
-same-length c = search needs
-
 returns-3 : tie.Need-returns-3
 returns-3 c =
     let a = c .before .before .before .before .before .before .before .before .args in
@@ -53,11 +41,11 @@ pub give-spec : {M : Type 1} → statement M
 give-spec =
     tie.close
     (tie.spec
-    enum-known-d
-    enum-told
-    enum-known-d-2
+    (search needs)
+    (search needs)
+    (search needs)
     apply-requires
     returns
     returns-2
-    same-length
+    (search needs)
     returns-3)

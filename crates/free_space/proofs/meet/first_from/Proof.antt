@@ -35,12 +35,6 @@ returns c =
       from = λ h. omega (arith, c .if2 .taken, ap (λ (q : FreeRegion). q .addr) (g .ensures));
     }
 
-add-i : tie.Need-add-i Inv-loop μ-loop
-add-i c = search needs
-
-loop-less : tie.Need-loop-less Inv-loop μ-loop
-loop-less c = search needs
-
 loop-again : tie.Need-loop-again Inv-loop μ-loop
 loop-again c =
     let a = c .before .before .before .before .before .before .before .args in
@@ -65,7 +59,7 @@ first-from-spec =
     loop-holds
     region-at-requires
     returns
-    add-i
-    loop-less
+    (search needs)
+    (search needs)
     loop-again
     returns-2)

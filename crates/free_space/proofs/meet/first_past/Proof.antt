@@ -21,12 +21,6 @@ abbrev μ-loop : tie.MeasureT-loop
 loop-holds : tie.Need-loop-holds Inv-loop μ-loop
 loop-holds c = (omega arith, omega arith, λ h. absurd (omega arith), λ h. absurd (omega arith))
 
-sub-mid : tie.Need-sub-mid Inv-loop μ-loop
-sub-mid c = search needs
-
-add-mid : tie.Need-add-mid Inv-loop μ-loop
-add-mid c = search needs
-
 region-at-requires : tie.Need-region-at-requires Inv-loop μ-loop
 region-at-requires c κs =
     let a = c .before .before .before .args in
@@ -42,12 +36,6 @@ add-if1 c =
     let h : mid < a .list .count = omega (arith, l .inv .1) in
     omega (arith, read-fits (now (a .run)) (a .list) mid (g .result) (c .before .before .before .before .before .pre) h (g .ensures) .within)
 
-add-low : tie.Need-add-low Inv-loop μ-loop
-add-low c = search needs
-
-loop-less : tie.Need-loop-less Inv-loop μ-loop
-loop-less c = search needs
-
 loop-again : tie.Need-loop-again Inv-loop μ-loop
 loop-again c =
     let a = c .before .before .before .before .before .before .args in
@@ -55,9 +43,6 @@ loop-again c =
     let mid = l .low + (l .high - l .low) / 2 in
     let g = c .before .before .region-at in
     (omega arith, l .inv .1, λ h. omega (arith, c .if1 .taken, ap end (region-before (now (a .run)) mid (mid + 1) (g .result) (omega arith) (g .ensures))), l .inv .3)
-
-loop-less-2 : tie.Need-loop-less-2 Inv-loop μ-loop
-loop-less-2 c = search needs
 
 loop-again-2 : tie.Need-loop-again-2 Inv-loop μ-loop
 loop-again-2 c =
@@ -80,13 +65,13 @@ first-past-spec =
     Inv-loop
     μ-loop
     loop-holds
-    sub-mid
-    add-mid
+    (search needs)
+    (search needs)
     region-at-requires
     add-if1
-    add-low
-    loop-less
+    (search needs)
+    (search needs)
     loop-again
-    loop-less-2
+    (search needs)
     loop-again-2
     returns)

@@ -5,14 +5,8 @@ use borrow.Author.Tests.{not-true, not-false}
 use Rattle.free_space.proofs.meet.meeting.Statement.{statement}
 use Rattle.free_space.proofs.meet.meeting.Tie as tie
 
-is-list-requires : tie.Need-is-list-requires
-is-list-requires c κs = search needs
-
 returns : tie.Need-returns
 returns c = let t = c .before .is-list in sym (t .ensures) ∙ not-true (t .result) (c .if1 .taken)
-
-sub-if2 : tie.Need-sub-if2
-sub-if2 c = search needs
 
 returns-2 : tie.Need-returns-2
 returns-2 c = let t = c .before .before .is-list in (sym (t .ensures) ∙ not-false (t .result) (c .before .if1 .left), omega arith)
@@ -22,9 +16,6 @@ returns-3 c = let t = c .before .before .before .is-list in (sym (t .ensures) �
 
 first-past-requires : tie.Need-first-past-requires
 first-past-requires c κs = let t = c .before .before .before .is-list in sym (t .ensures) ∙ not-false (t .result) (c .before .before .if1 .left)
-
-add-first-from : tie.Need-add-first-from
-add-first-from c = search needs
 
 first-from-requires : tie.Need-first-from-requires
 first-from-requires c κs =
@@ -43,12 +34,12 @@ pub meeting-spec : {M : Type 1} → statement M
 meeting-spec =
     tie.close
     (tie.spec
-    is-list-requires
+    (search needs)
     returns
-    sub-if2
+    (search needs)
     returns-2
     returns-3
     first-past-requires
-    add-first-from
+    (search needs)
     first-from-requires
     returns-4)

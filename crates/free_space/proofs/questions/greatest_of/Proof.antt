@@ -19,9 +19,6 @@ abbrev μ-loop : tie.MeasureT-loop
 has : (s : tie.Else1 Inv-loop μ-loop) → Room (now (s .before .before .before .args .run)) (s .before .before .before .args .list .count)
 has s = room _ _ (held (s .before .is-run .ensures) (s .if1 .left))
 
-is-run-requires : tie.Need-is-run-requires Inv-loop μ-loop
-is-run-requires c κs = search needs
-
 returns : tie.Need-returns Inv-loop μ-loop
 returns c = pass-no-room (c .before .before .before .args .what) _ _ (denied (c .before .is-run .ensures) (c .if1 .taken))
 
@@ -30,9 +27,6 @@ returns-2 c = pass-empty (c .before .before .before .before .args .what) _ _ (ha
 
 region-at-requires : tie.Need-region-at-requires Inv-loop μ-loop
 region-at-requires c κs = omega (arith, has (c .before) .fits)
-
-stands-requires : tie.Need-stands-requires Inv-loop μ-loop
-stands-requires c κs = search needs
 
 returns-3 : tie.Need-returns-3 Inv-loop μ-loop
 returns-3 c =
@@ -58,9 +52,6 @@ loop-holds c =
 region-at-requires-2 : tie.Need-region-at-requires-2 Inv-loop μ-loop
 region-at-requires-2 c κs = omega (arith, c .before .loop .inv .room .fits)
 
-follows-requires : tie.Need-follows-requires Inv-loop μ-loop
-follows-requires c κs = search needs
-
 returns-4 : tie.Need-returns-4 Inv-loop μ-loop
 returns-4 c =
     let l = c .before .before .before in
@@ -77,12 +68,6 @@ add-end-2 c =
     let f = fit _ (r .before .region-at2 .result) (held (r .follows .ensures) (c .before .before .if4 .left)) in
     record { fits = omega (arith, f .within) }
 
-add-i : tie.Need-add-i Inv-loop μ-loop
-add-i c = search needs
-
-loop-less : tie.Need-loop-less Inv-loop μ-loop
-loop-less c = search needs
-
 -- k is the greatest measure with the region that was read
 iteration : (s : tie.After-struct-known2 Inv-loop μ-loop) (k : ℕ) → let l = s .before .before .before .before .before .before in
     let a = l .before .before .before .before .before .before .before .before .before .before .args in
@@ -98,9 +83,6 @@ iteration s k e =
 loop-again : tie.Need-loop-again Inv-loop μ-loop
 loop-again c = iteration (c .before) _ (omega arith)
 
-loop-less-2 : tie.Need-loop-less-2 Inv-loop μ-loop
-loop-less-2 c = search needs
-
 loop-again-2 : tie.Need-loop-again-2 Inv-loop μ-loop
 loop-again-2 c = iteration (c .before) _ (omega arith)
 
@@ -115,23 +97,23 @@ greatest-of-spec =
     (tie.spec
     Inv-loop
     μ-loop
-    is-run-requires
+    (search needs)
     returns
     returns-2
     region-at-requires
-    stands-requires
+    (search needs)
     returns-3
     measured-requires
     add-end
     loop-holds
     region-at-requires-2
-    follows-requires
+    (search needs)
     returns-4
     measured-requires-2
     add-end-2
-    add-i
-    loop-less
+    (search needs)
+    (search needs)
     loop-again
-    loop-less-2
+    (search needs)
     loop-again-2
     returns-5)

@@ -19,17 +19,8 @@ abbrev μ-loop : tie.MeasureT-loop
 loop-holds : tie.Need-loop-holds Inv-loop μ-loop
 loop-holds c = (search needs, search needs, fill-start _ _ _)
 
-mul-run : tie.Need-mul-run Inv-loop μ-loop
-mul-run c = search needs
-
 slice-write-run : tie.Need-slice-write-run Inv-loop μ-loop
 slice-write-run c = let l = c .before .loop in let a = c .before .before .args in omega (arith, simp length-over at (ap length (l .inv .2)))
-
-add-j : tie.Need-add-j Inv-loop μ-loop
-add-j c = search needs
-
-loop-less : tie.Need-loop-less Inv-loop μ-loop
-loop-less c = search needs
 
 loop-again : tie.Need-loop-again Inv-loop μ-loop
 loop-again c = let l = c .before .loop in let a = c .before .before .args in
@@ -50,10 +41,10 @@ clear-spec =
     Inv-loop
     μ-loop
     loop-holds
-    mul-run
+    (search needs)
     slice-write-run
-    add-j
-    loop-less
+    (search needs)
+    (search needs)
     loop-again
     same-length
     returns)

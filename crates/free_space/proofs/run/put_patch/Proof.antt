@@ -13,23 +13,11 @@ use Rattle.free_space.specs.Splices.{patch}
 use Rattle.free_space.proofs.run.put_patch.Statement.{statement}
 use Rattle.free_space.proofs.run.put_patch.Tie as tie
 
-enum-told : tie.Need-enum-told
-enum-told c = search needs
-
-enum-known-p : tie.Need-enum-known-p
-enum-known-p c = search needs
-
 put-region-requires : tie.Need-put-region-requires
 put-region-requires c κs = omega (arith, ap (λ (q : Patch). length (patch q)) (c .before .before .p .given .1))
 
-enum-known-p-2 : tie.Need-enum-known-p-2
-enum-known-p-2 c = search needs
-
 put-region-requires-2 : tie.Need-put-region-requires-2
 put-region-requires-2 c κs = omega (arith, ap (λ (q : Patch). length (patch q)) (c .before .before .p2 .given .1))
-
-add-put-region : tie.Need-add-put-region
-add-put-region c = search needs
 
 put-region-requires-3 : tie.Need-put-region-requires-3
 put-region-requires-3 c κs = omega (arith, c .before .before .before .put-region2 .kept .0, ap (λ (q : Patch). length (patch q)) (c .before .before .before .before .before .before .p2 .given .1))
@@ -39,16 +27,10 @@ returns c =
     let a = c .before .before .before .args in
     sym (ap (λ (q : Patch). over (a .at) (flat (patch q)) (now (a .run))) (c .enum-told .given .1) ∙ over-nil (a .at) (now (a .run)))
 
-same-length : tie.Need-same-length
-same-length c = search needs
-
 returns-2 : tie.Need-returns-2
 returns-2 c =
     let a = c .before .before .before .before .before .before .before .before .args in
     c .before .before .put-region .ensures ∙ ap (λ (q : Patch). over (a .at) (flat (patch q)) (now (a .run))) (sym (c .before .before .before .before .before .p .given .1))
-
-same-length-2 : tie.Need-same-length-2
-same-length-2 c = search needs
 
 returns-3 : tie.Need-returns-3
 returns-3 c =
@@ -63,15 +45,15 @@ pub put-patch-spec : {M : Type 1} → statement M
 put-patch-spec =
     tie.close
     (tie.spec
-    enum-told
-    enum-known-p
+    (search needs)
+    (search needs)
     put-region-requires
-    enum-known-p-2
+    (search needs)
     put-region-requires-2
-    add-put-region
+    (search needs)
     put-region-requires-3
     returns
-    same-length
+    (search needs)
     returns-2
-    same-length-2
+    (search needs)
     returns-3)

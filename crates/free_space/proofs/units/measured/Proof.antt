@@ -5,15 +5,6 @@ use Rattle.free_space.specs.Passes.{measureOf}
 use Rattle.free_space.proofs.units.measured.Statement.{statement}
 use Rattle.free_space.proofs.units.measured.Tie as tie
 
-enum-told : tie.Need-enum-told
-enum-told c = search needs
-
-enum-known-what : tie.Need-enum-known-what
-enum-known-what c = search needs
-
-whole-units-requires : tie.Need-whole-units-requires
-whole-units-requires c κs = search needs
-
 returns : tie.Need-returns
 returns c = search needs
 
@@ -25,4 +16,4 @@ returns-2 c =
 
 pub measured-spec : {M : Type 1} → statement M
 measured-spec =
-    tie.close (tie.spec enum-told enum-known-what whole-units-requires returns returns-2)
+    tie.close (tie.spec (search needs) (search needs) (search needs) returns returns-2)

@@ -3,18 +3,6 @@ use Rattle.free_regions.proofs.InteriorLaws.{interior-tells}
 use Rattle.free_space.proofs.units.whole_units.Statement.{statement}
 use Rattle.free_space.proofs.units.whole_units.Tie as tie
 
-aligned-interior-requires : tie.Need-aligned-interior-requires
-aligned-interior-requires c κs = search needs
-
-enum-known-inside : tie.Need-enum-known-inside
-enum-known-inside c = search needs
-
-enum-told : tie.Need-enum-told
-enum-told c = search needs
-
-enum-told-2 : tie.Need-enum-told-2
-enum-told-2 c = search needs
-
 returns : tie.Need-returns
 returns c =
     let s = c .before .before .before in
@@ -30,10 +18,10 @@ pub whole-units-spec : {M : Type 1} → statement M
 whole-units-spec =
     tie.close
     (tie.spec
-    aligned-interior-requires
-    enum-known-inside
-    enum-told
-    enum-told-2
+    (search needs)
+    (search needs)
+    (search needs)
+    (search needs)
     returns
     returns-2
     returns-3)

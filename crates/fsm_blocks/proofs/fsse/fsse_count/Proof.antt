@@ -9,19 +9,10 @@ use borrow.Author.Needs.{needs}
 use Rattle.fsm_blocks.proofs.fsse.fsse_count.Statement.{statement}
 use Rattle.fsm_blocks.proofs.fsse.fsse_count.Tie as tie
 
-add-if1 : tie.Need-add-if1
-add-if1 c = search needs
-
-add-t11 : tie.Need-add-t11
-add-t11 c = search needs
-
 returns : tie.Need-returns
 returns c =
     let a = c .before .before .args in
     refused-count (Short (9 + a .offset-size) (length (now (a .bytes)))) (fsse-short (a .offset-size) _ _ _ (now (a .bytes)) (c .if1 .taken))
-
-is-signed-requires : tie.Need-is-signed-requires
-is-signed-requires c κs = search needs
 
 returns-2 : tie.Need-returns-2
 returns-2 c =
@@ -33,21 +24,6 @@ returns-3 c =
     let a = c .before .before .before .before .before .args in
     refused-count InvalidManager
     (fsse-bits (a .offset-size) _ _ _ (now (a .bytes)) (c .before .before .before .if1 .left) (ap not (sym (c .before .before .is-signed .ensures)) ∙ c .before .if2 .left) (c .if3 .taken))
-
-add-start : tie.Need-add-start
-add-start c = search needs
-
-sub-end : tie.Need-sub-end
-sub-end c = search needs
-
-sub-groups-count : tie.Need-sub-groups-count
-sub-groups-count c = search needs
-
-part-groups-count-start : tie.Need-part-groups-count-start
-part-groups-count-start c = search needs
-
-part-groups-count-end : tie.Need-part-groups-count-end
-part-groups-count-end c = search needs
 
 widths-of-requires : tie.Need-widths-of-requires
 widths-of-requires c κs = few-bits _ (c .before .if3 .left)
@@ -66,17 +42,17 @@ pub fsse-count-spec : {M : Type 1} → statement M
 fsse-count-spec =
     tie.close
     (tie.spec
-    add-if1
-    add-t11
+    (search needs)
+    (search needs)
     returns
-    is-signed-requires
+    (search needs)
     returns-2
     returns-3
-    add-start
-    sub-end
-    sub-groups-count
-    part-groups-count-start
-    part-groups-count-end
+    (search needs)
+    (search needs)
+    (search needs)
+    (search needs)
+    (search needs)
     widths-of-requires
     groups-count-requires
     returns-4)

@@ -8,9 +8,6 @@ use borrow.Author.Needs.{needs}
 use Rattle.fsm_blocks.proofs.fsse.parse_fsse.Statement.{statement}
 use Rattle.fsm_blocks.proofs.fsse.parse_fsse.Tie as tie
 
-is-width-requires : tie.Need-is-width-requires
-is-width-requires c κs = search needs
-
 returns : tie.Need-returns
 returns c =
     let a = c .before .before .before .before .args in
@@ -23,15 +20,6 @@ returns-2 c =
 
 fsse-count-requires : tie.Need-fsse-count-requires
 fsse-count-requires c κs = ap not (sym (c .before .before .is-width .ensures)) ∙ c .before .if1 .left
-
-enum-known-sections : tie.Need-enum-known-sections
-enum-known-sections c = search needs
-
-enum-told : tie.Need-enum-told
-enum-told c = search needs
-
-answer-of-requires : tie.Need-answer-of-requires
-answer-of-requires c κs = search needs
 
 returns-3 : tie.Need-returns-3
 returns-3 c =
@@ -57,9 +45,6 @@ put-fsse-requires c κs =
     let e = total-is (a .header) (a .offset-size) (now (a .bytes)) (now (a .out)) w (p .if2 .left) _ (q .before .sections .given .1) (q .before .before .before .fsse-count .ensures) s in
     (w, (read-ok (a .header) (a .offset-size) (now (a .bytes)) (now (a .out)) w (p .if2 .left) _ (q .before .sections .given .1) (q .before .before .before .fsse-count .ensures) s, omega arith))
 
-same-length : tie.Need-same-length
-same-length c = search needs
-
 returns-5 : tie.Need-returns-5
 returns-5 c =
     let q = c .before .before .before .before .before in
@@ -73,15 +58,15 @@ pub parse-fsse-spec : {M : Type 1} → statement M
 parse-fsse-spec =
     tie.close
     (tie.spec
-    is-width-requires
+    (search needs)
     returns
     returns-2
     fsse-count-requires
-    enum-known-sections
-    enum-told
-    answer-of-requires
+    (search needs)
+    (search needs)
+    (search needs)
     returns-3
     returns-4
     put-fsse-requires
-    same-length
+    (search needs)
     returns-5)

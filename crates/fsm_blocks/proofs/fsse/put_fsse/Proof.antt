@@ -14,9 +14,6 @@ use borrow.Author.Needs.{needs}
 use Rattle.fsm_blocks.proofs.fsse.put_fsse.Statement.{statement}
 use Rattle.fsm_blocks.proofs.fsse.put_fsse.Tie as tie
 
-add-start : tie.Need-add-start
-add-start c = search needs
-
 -- an accepted list is long enough
 long : (c : tie.After-slice-known) → 9 + c .before .before .args .offset-size ≤ length (now (c .before .before .args .bytes))
 long c = let p = c .before .before in long-of (p .args .offset-size) _ _ _ (now (p .args .bytes)) (p .pre .1 .0)
@@ -30,9 +27,6 @@ sub-put-groups c = omega (arith, long c)
 part-put-groups-start : tie.Need-part-put-groups-start
 part-put-groups-start c = let h = long c in search needs
 
-part-put-groups-end : tie.Need-part-put-groups-end
-part-put-groups-end c = search needs
-
 widths-of-requires : tie.Need-widths-of-requires
 widths-of-requires c κs = let p = c .before .before .before in bits-few (p .args .offset-size) _ _ _ (now (p .args .bytes)) (p .pre .1 .0)
 
@@ -41,9 +35,6 @@ put-groups-requires c κs =
     let p = c .before .before .before .before .before in
     let w = c .before .widths-of .ensures in
     (w .narrow, (subst Accepted (sym (groups-put (p .args .header) (p .args .offset-size) (now (p .args .bytes)) _ (w .same) (p .pre .1 .0))) (p .pre .1 .0), p .pre .1 .1))
-
-same-length : tie.Need-same-length
-same-length c = search needs
 
 returns : tie.Need-returns
 returns c =
@@ -57,12 +48,12 @@ pub put-fsse-spec : {M : Type 1} → statement M
 put-fsse-spec =
     tie.close
     (tie.spec
-    add-start
+    (search needs)
     sub-end
     sub-put-groups
     part-put-groups-start
-    part-put-groups-end
+    (search needs)
     widths-of-requires
     put-groups-requires
-    same-length
+    (search needs)
     returns)

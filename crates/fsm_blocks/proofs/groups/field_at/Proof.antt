@@ -10,43 +10,13 @@ use borrow.Author.Needs.{needs}
 use Rattle.fsm_blocks.proofs.groups.field_at.Statement.{statement}
 use Rattle.fsm_blocks.proofs.groups.field_at.Tie as tie
 
-eight-at-requires : tie.Need-eight-at-requires
-eight-at-requires c κs = search needs
-
 returns : tie.Need-returns
 returns c = let s = c .before .before .before in c .eight-at .ensures ∙ ap (λ (n : ℕ). leAt (s .args .at) n (now (s .args .bytes))) (sym (c .before .if1 .taken))
-
-shared-slice-read-wide : tie.Need-shared-slice-read-wide
-shared-slice-read-wide c = search needs
-
-wide-requires : tie.Need-wide-requires
-wide-requires c κs = search needs
 
 returns-2 : tie.Need-returns-2
 returns-2 c =
     let s = c .before .before .before .before .before in
     c .wide .ensures .0 ∙ sym (leAt-one (s .args .at) (now (s .args .bytes))) ∙ ap (λ (n : ℕ). leAt (s .args .at) n (now (s .args .bytes))) (sym (c .before .before .if2 .taken))
-
-shared-slice-read-wide-2 : tie.Need-shared-slice-read-wide-2
-shared-slice-read-wide-2 c = search needs
-
-wide-requires-2 : tie.Need-wide-requires-2
-wide-requires-2 c κs = search needs
-
-add-wide : tie.Need-add-wide
-add-wide c = search needs
-
-shared-slice-read-wide-3 : tie.Need-shared-slice-read-wide-3
-shared-slice-read-wide-3 c = search needs
-
-wide-requires-3 : tie.Need-wide-requires-3
-wide-requires-3 c κs = search needs
-
-mul-result : tie.Need-mul-result
-mul-result c = search needs
-
-add-result : tie.Need-add-result
-add-result c = search needs
 
 returns-3 : tie.Need-returns-3
 returns-3 c =
@@ -57,9 +27,6 @@ returns-3 c =
     omega (arith, leAt-two (s .args .at) (now (s .args .bytes)) h, c .before .before .wide2 .ensures .0, c .wide3 .ensures .0) in
     e ∙ ap (λ (n : ℕ). leAt (s .args .at) n (now (s .args .bytes))) (sym (w))
 
-read-uint-le-requires : tie.Need-read-uint-le-requires
-read-uint-le-requires c κs = search needs
-
 returns-4 : tie.Need-returns-4
 returns-4 c = let s = c .before .before .before .before .before in c .read-uint-le .ensures ∙ as-read (s .args .at) (s .args .width) (now (s .args .bytes)) (s .pre .0)
 
@@ -67,18 +34,18 @@ pub field-at-spec : {M : Type 1} → statement M
 field-at-spec =
     tie.close
     (tie.spec
-    eight-at-requires
+    (search needs)
     returns
-    shared-slice-read-wide
-    wide-requires
+    (search needs)
+    (search needs)
     returns-2
-    shared-slice-read-wide-2
-    wide-requires-2
-    add-wide
-    shared-slice-read-wide-3
-    wide-requires-3
-    mul-result
-    add-result
+    (search needs)
+    (search needs)
+    (search needs)
+    (search needs)
+    (search needs)
+    (search needs)
+    (search needs)
     returns-3
-    read-uint-le-requires
+    (search needs)
     returns-4)

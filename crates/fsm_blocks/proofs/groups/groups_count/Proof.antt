@@ -20,20 +20,11 @@ abbrev μ-loop : tie.MeasureT-loop
 loop-holds : tie.Need-loop-holds Inv-loop μ-loop
 loop-holds c = let a = c .before .args in scan-start (now (a .groups)) (widthsIn (a .w)) (a .total)
 
-sub-room : tie.Need-sub-room Inv-loop μ-loop
-sub-room c = search needs
-
-add-if1 : tie.Need-add-if1 Inv-loop μ-loop
-add-if1 c = search needs
-
 returns : tie.Need-returns Inv-loop μ-loop
 returns c =
     let a = c .before .before .before .before .before in
     let l = c .before .before .before .loop in
     no-head (now (a .args .groups)) (widthsIn (a .args .w)) (a .args .total) (l .at) (l .left) (l .inv) (head-some (a .args .w) (a .pre)) (c .before .before .loop-test .taken) (c .if1 .taken)
-
-field-at-requires : tie.Need-field-at-requires Inv-loop μ-loop
-field-at-requires c κs = search needs
 
 returns-2 : tie.Need-returns-2 Inv-loop μ-loop
 returns-2 c =
@@ -42,18 +33,6 @@ returns-2 c =
     beyond (now (a .args .groups)) (widthsIn (a .args .w)) (a .args .total) (l .at) (l .left) (l .inv) (head-some (a .args .w) (a .pre)) (c .before .before .before .before .loop-test .taken)
     (c .before .before .if1 .left) _ (c .before .field-at .ensures) (c .if2 .taken)
 
-add-rest : tie.Need-add-rest Inv-loop μ-loop
-add-rest c = search needs
-
-sub-rest : tie.Need-sub-rest Inv-loop μ-loop
-sub-rest c = search needs
-
-add-entry : tie.Need-add-entry Inv-loop μ-loop
-add-entry c = search needs
-
-passes-requires : tie.Need-passes-requires Inv-loop μ-loop
-passes-requires c κs = search needs
-
 returns-3 : tie.Need-returns-3 Inv-loop μ-loop
 returns-3 c =
     let f = c .before .before .before .before .before in
@@ -61,12 +40,6 @@ returns-3 c =
     let l = f .before .before .before .before .loop in
     past (now (a .args .groups)) (widthsIn (a .args .w)) (a .args .total) (l .at) (l .left) (l .inv) (head-some (a .args .w) (a .pre)) (f .before .before .before .loop-test .taken)
     (f .before .if1 .left) _ (f .field-at .ensures) (ltb-true _ _ (sym (c .before .passes .ensures) ∙ c .if3 .taken))
-
-add-at : tie.Need-add-at Inv-loop μ-loop
-add-at c = search needs
-
-add-at-2 : tie.Need-add-at-2 Inv-loop μ-loop
-add-at-2 c = search needs
 
 -- the entries do not pass the end
 fits : (c : tie.After-struct-known4 Inv-loop μ-loop)
@@ -80,9 +53,6 @@ mul-at c = omega (arith, fits c)
 
 add-at-3 : tie.Need-add-at-3 Inv-loop μ-loop
 add-at-3 c = omega (arith, fits c)
-
-loop-less : tie.Need-loop-less Inv-loop μ-loop
-loop-less c = search needs
 
 loop-again : tie.Need-loop-again Inv-loop μ-loop
 loop-again c =
@@ -102,20 +72,20 @@ groups-count-spec =
     Inv-loop
     μ-loop
     loop-holds
-    sub-room
-    add-if1
+    (search needs)
+    (search needs)
     returns
-    field-at-requires
+    (search needs)
     returns-2
-    add-rest
-    sub-rest
-    add-entry
-    passes-requires
+    (search needs)
+    (search needs)
+    (search needs)
+    (search needs)
     returns-3
-    add-at
-    add-at-2
+    (search needs)
+    (search needs)
     mul-at
     add-at-3
-    loop-less
+    (search needs)
     loop-again
     returns-4)

@@ -30,23 +30,8 @@ entry c =
 field-at-requires : tie.Need-field-at-requires Inv-loop μ-loop
 field-at-requires c κs = let h = entry c in (c .before .before .before .before .pre .0, omega arith)
 
-put-pair-requires : tie.Need-put-pair-requires Inv-loop μ-loop
-put-pair-requires c κs = search needs
-
-add-p : tie.Need-add-p Inv-loop μ-loop
-add-p c = search needs
-
 add-p-2 : tie.Need-add-p-2 Inv-loop μ-loop
 add-p-2 c = omega (arith, entry (c .before .before .before .before .before))
-
-add-k : tie.Need-add-k Inv-loop μ-loop
-add-k c = search needs
-
-sub-left : tie.Need-sub-left Inv-loop μ-loop
-sub-left c = search needs
-
-loop-less : tie.Need-loop-less Inv-loop μ-loop
-loop-less c = search needs
 
 loop-again : tie.Need-loop-again Inv-loop μ-loop
 loop-again c =
@@ -73,12 +58,12 @@ put-entries-spec =
     μ-loop
     loop-holds
     field-at-requires
-    put-pair-requires
-    add-p
+    (search needs)
+    (search needs)
     add-p-2
-    add-k
-    sub-left
-    loop-less
+    (search needs)
+    (search needs)
+    (search needs)
     loop-again
     same-length
     returns)

@@ -56,12 +56,6 @@ add-field-at c = omega (arith, head (c .before .before))
 field-at-requires-2 : tie.Need-field-at-requires-2 Inv-loop μ-loop
 field-at-requires-2 c κs = omega (arith, head (c .before .before))
 
-add-first : tie.Need-add-first Inv-loop μ-loop
-add-first c = search needs
-
-add-first-2 : tie.Need-add-first-2 Inv-loop μ-loop
-add-first-2 c = search needs
-
 put-entries-requires : tie.Need-put-entries-requires Inv-loop μ-loop
 put-entries-requires c κs =
     let f = c .before .before .before .before in
@@ -69,9 +63,6 @@ put-entries-requires c κs =
     let l = f .before .before .loop in
     let room : l .k + 2 * f .field-at .result ≤ length (l .out) = omega (arith, few f, l .inv .room) in
     (a .pre .0 .addresses-few, omega (arith, head (f .before), entries f), room)
-
-add-at : tie.Need-add-at Inv-loop μ-loop
-add-at c = search needs
 
 mul-at : tie.Need-mul-at Inv-loop μ-loop
 mul-at c = omega (arith, entries (c .before .before .before .before .before .before .before .before))
@@ -119,10 +110,10 @@ put-groups-spec =
     field-at-requires
     add-field-at
     field-at-requires-2
-    add-first
-    add-first-2
+    (search needs)
+    (search needs)
     put-entries-requires
-    add-at
+    (search needs)
     mul-at
     add-at-2
     mul-k

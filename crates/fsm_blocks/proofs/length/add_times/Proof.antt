@@ -6,12 +6,6 @@ use borrow.Author.Needs.{needs}
 use Rattle.fsm_blocks.proofs.length.add_times.Statement.{statement}
 use Rattle.fsm_blocks.proofs.length.add_times.Tie as tie
 
-sub-if1 : tie.Need-sub-if1
-sub-if1 c = search needs
-
-div-if1 : tie.Need-div-if1
-div-if1 c = search needs
-
 returns : tie.Need-returns
 returns c = let a = c .before .args in times-over (a .from) (a .n) (a .w) (c .before .pre) (omega arith) (c .if1 .taken)
 
@@ -25,4 +19,4 @@ returns-2 : tie.Need-returns-2
 returns-2 c = let a = c .before .args in great-enough _ _ refl (times-low (a .from) (a .n) (a .w) (c .before .pre) (omega arith) (c .if1 .left))
 
 pub add-times-spec : {M : Type 1} → statement M
-add-times-spec = tie.close (tie.spec sub-if1 div-if1 returns mul-t4 add-t5 returns-2)
+add-times-spec = tie.close (tie.spec (search needs) (search needs) returns mul-t4 add-t5 returns-2)

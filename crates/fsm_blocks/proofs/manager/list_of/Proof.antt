@@ -8,15 +8,6 @@ use Rattle.fsm_blocks.proofs.manager.list_of.Tie as tie
 returns : tie.Need-returns
 returns c = let a = c .before .before .args in (named-none (a .base .0) (a .header) (now (a .bytes)) (c .if1 .taken), tt)
 
-absolute-requires : tie.Need-absolute-requires
-absolute-requires c κs = search needs
-
-enum-known-start : tie.Need-enum-known-start
-enum-known-start c = search needs
-
-enum-told : tie.Need-enum-told
-enum-told c = search needs
-
 returns-2 : tie.Need-returns-2
 returns-2 c =
     let a = c .before .before .before .before .before .args in
@@ -47,9 +38,9 @@ list-of-spec =
     tie.close
     (tie.spec
     returns
-    absolute-requires
-    enum-known-start
-    enum-told
+    (search needs)
+    (search needs)
+    (search needs)
     returns-2
     returns-3
     returns-4

@@ -8,15 +8,6 @@ use Rattle.fsm_blocks.proofs.manager.locate.Tie as tie
 returns : tie.Need-returns
 returns c = let a = c .before .before .args in (manager-none (a .offset-size) (a .base .0) (a .slot) (now (a .bytes)) (c .if1 .taken), tt)
 
-absolute-requires : tie.Need-absolute-requires
-absolute-requires c κs = search needs
-
-enum-known-start : tie.Need-enum-known-start
-enum-known-start c = search needs
-
-enum-told : tie.Need-enum-told
-enum-told c = search needs
-
 returns-2 : tie.Need-returns-2
 returns-2 c =
     let a = c .before .before .before .before .before .args in
@@ -28,27 +19,6 @@ returns-3 c =
     let a = p .before .before .before .before .before .args in
     (manager-past (a .offset-size) (a .base .0) (a .slot) (now (a .bytes)) (p .before .before .before .if1 .left) _ (sum-is (a .slot) (a .base .0) (p .before .before .absolute .ensures) _ (p .start .given .1)) (c .if2 .taken), tt)
 
-sub-parse : tie.Need-sub-parse
-sub-parse c = search needs
-
-part-parse-start : tie.Need-part-parse-start
-part-parse-start c = search needs
-
-part-parse-end : tie.Need-part-parse-end
-part-parse-end c = search needs
-
-parse-requires : tie.Need-parse-requires
-parse-requires c κs = search needs
-
-enum-known-answer : tie.Need-enum-known-answer
-enum-known-answer c = search needs
-
-enum-told-2 : tie.Need-enum-told-2
-enum-told-2 c = search needs
-
-refusal-in-requires : tie.Need-refusal-in-requires
-refusal-in-requires c κs = search needs
-
 returns-4 : tie.Need-returns-4
 returns-4 c =
     let f = c .before .before .before in
@@ -59,9 +29,6 @@ returns-4 c =
           (s .pre) (f .parse .ensures) _ _ (c .before .enum-told2 .given .1) (c .refusal-in .ensures),
       tt,
     )
-
-list-of-requires : tie.Need-list-of-requires
-list-of-requires c κs = search needs
 
 returns-5 : tie.Need-returns-5
 returns-5 c =
@@ -80,18 +47,18 @@ locate-spec =
     tie.close
     (tie.spec
     returns
-    absolute-requires
-    enum-known-start
-    enum-told
+    (search needs)
+    (search needs)
+    (search needs)
     returns-2
     returns-3
-    sub-parse
-    part-parse-start
-    part-parse-end
-    parse-requires
-    enum-known-answer
-    enum-told-2
-    refusal-in-requires
+    (search needs)
+    (search needs)
+    (search needs)
+    (search needs)
+    (search needs)
+    (search needs)
+    (search needs)
     returns-4
-    list-of-requires
+    (search needs)
     returns-5)

@@ -9,23 +9,11 @@ use borrow.Author.Needs.{needs}
 use Rattle.fsm_blocks.proofs.manager.manager_count.Statement.{statement}
 use Rattle.fsm_blocks.proofs.manager.manager_count.Tie as tie
 
-is-width-requires : tie.Need-is-width-requires
-is-width-requires c κs = search needs
-
 returns : tie.Need-returns
 returns c = count-width (c .before .before .before .args .offset-size) (c .before .before .before .args .base .0) (c .before .before .before .args .slot) (now (c .before .before .before .args .bytes)) (ap not (sym (c .before .is-width .ensures)) ∙ c .if1 .taken)
 
 locate-requires : tie.Need-locate-requires
 locate-requires c κs = ap not (sym (c .before .is-width .ensures)) ∙ c .if1 .left
-
-enum-told : tie.Need-enum-told
-enum-told c = search needs
-
-enum-known-found : tie.Need-enum-known-found
-enum-known-found c = search needs
-
-enum-known-found-2 : tie.Need-enum-known-found-2
-enum-known-found-2 c = search needs
 
 -- the list that was found lies within the bytes
 inside : (c : tie.After-known-told2)
@@ -34,12 +22,6 @@ inside c = inside-at _ _ _ _ (c .before .before .before .locate .ensures .1) (c 
 
 add-end : tie.Need-add-end
 add-end c = omega (arith, inside c)
-
-sub-fsse-count : tie.Need-sub-fsse-count
-sub-fsse-count c = search needs
-
-part-fsse-count-start : tie.Need-part-fsse-count-start
-part-fsse-count-start c = search needs
 
 part-fsse-count-end : tie.Need-part-fsse-count-end
 part-fsse-count-end c = let h = inside c in search needs
@@ -67,15 +49,15 @@ pub manager-count-spec : {M : Type 1} → statement M
 manager-count-spec =
     tie.close
     (tie.spec
-    is-width-requires
+    (search needs)
     returns
     locate-requires
-    enum-told
-    enum-known-found
-    enum-known-found-2
+    (search needs)
+    (search needs)
+    (search needs)
     add-end
-    sub-fsse-count
-    part-fsse-count-start
+    (search needs)
+    (search needs)
     part-fsse-count-end
     fsse-count-requires
     returns-2

@@ -19,15 +19,6 @@ use Rattle.fsm_blocks.proofs.manager.put_manager.Tie as tie
 locate-requires : tie.Need-locate-requires
 locate-requires c κs = c .before .before .pre .0
 
-enum-told : tie.Need-enum-told
-enum-told c = search needs
-
-enum-told-2 : tie.Need-enum-told-2
-enum-told-2 c = search needs
-
-enum-known-found : tie.Need-enum-known-found
-enum-known-found c = search needs
-
 -- the list that was found lies within the bytes, and its sections are the manager's
 inside : (c : tie.After-known-told)
     → c .before .found .given .0 .0 + c .before .found .given .0 .1 .0 .«fsse_used» ≤ length (now (c .before .before .before .before .before .before .args .bytes))
@@ -50,12 +41,6 @@ total c =
 
 add-end : tie.Need-add-end
 add-end c = omega (arith, inside c)
-
-sub-put-fsse : tie.Need-sub-put-fsse
-sub-put-fsse c = search needs
-
-part-put-fsse-start : tie.Need-part-put-fsse-start
-part-put-fsse-start c = search needs
 
 part-put-fsse-end : tie.Need-part-put-fsse-end
 part-put-fsse-end c = let h = inside c in search needs
@@ -85,9 +70,6 @@ returns-2 c =
     let a = p .before .before .before in
     put-refused (a .args .offset-size) (a .args .base .0) (a .args .slot) (now (a .args .bytes)) _ (p .locate .ensures .0) _ (c .enum-told2 .given .1) (a .pre .1 .0) (a .args .from) (now (a .args .out))
 
-same-length : tie.Need-same-length
-same-length c = search needs
-
 returns-3 : tie.Need-returns-3
 returns-3 c =
     let f = c .before .before .before .before .before in
@@ -101,17 +83,17 @@ put-manager-spec =
     tie.close
     (tie.spec
     locate-requires
-    enum-told
-    enum-told-2
-    enum-known-found
+    (search needs)
+    (search needs)
+    (search needs)
     add-end
-    sub-put-fsse
-    part-put-fsse-start
+    (search needs)
+    (search needs)
     part-put-fsse-end
     put-fsse-requires
     mul-result
     add-result
     returns
     returns-2
-    same-length
+    (search needs)
     returns-3)

@@ -15,12 +15,6 @@ abbrev μ-loop : tie.MeasureT-loop
 loop-holds : tie.Need-loop-holds Inv-loop μ-loop
 loop-holds c = let a = c .before .before .before in store-start (a .args .offset-size) (a .args .base .0) (now (a .args .bytes)) (now (a .args .slots)) (now (a .args .out)) (a .pre .1 .0) (a .pre .1 .1)
 
-mul-put-manager : tie.Need-mul-put-manager Inv-loop μ-loop
-mul-put-manager c = search needs
-
-shared-slice-read-put-manager : tie.Need-shared-slice-read-put-manager Inv-loop μ-loop
-shared-slice-read-put-manager c = search needs
-
 put-manager-requires : tie.Need-put-manager-requires Inv-loop μ-loop
 put-manager-requires c κs =
     let p = c .before .before in
@@ -29,12 +23,6 @@ put-manager-requires c κs =
       a .pre .0,
       (slot-accepted (a .args .offset-size) (a .args .base .0) (now (a .args .bytes)) (now (a .args .slots)) (now (a .args .out)) (l .out) (l .k) (l .i) (l .inv) (p .loop-test .taken), slot-room (a .args .offset-size) (a .args .base .0) (now (a .args .bytes)) (now (a .args .slots)) (now (a .args .out)) (l .out) (l .k) (l .i) (l .inv) (p .loop-test .taken)),
     )
-
-add-i : tie.Need-add-i Inv-loop μ-loop
-add-i c = search needs
-
-loop-less : tie.Need-loop-less Inv-loop μ-loop
-loop-less c = search needs
 
 loop-again : tie.Need-loop-again Inv-loop μ-loop
 loop-again c =
@@ -60,11 +48,11 @@ put-slots-spec =
     Inv-loop
     μ-loop
     loop-holds
-    mul-put-manager
-    shared-slice-read-put-manager
+    (search needs)
+    (search needs)
     put-manager-requires
-    add-i
-    loop-less
+    (search needs)
+    (search needs)
     loop-again
     same-length
     returns)

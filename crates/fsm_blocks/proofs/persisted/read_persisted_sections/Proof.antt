@@ -7,9 +7,6 @@ use borrow.Author.Needs.{needs}
 use Rattle.fsm_blocks.proofs.persisted.read_persisted_sections.Statement.{statement}
 use Rattle.fsm_blocks.proofs.persisted.read_persisted_sections.Tie as tie
 
-is-width-requires : tie.Need-is-width-requires
-is-width-requires c κs = search needs
-
 returns : tie.Need-returns
 returns c =
     let a = c .before .before .before .before .before .args in
@@ -22,15 +19,6 @@ returns-2 c =
 
 slots-count-requires : tie.Need-slots-count-requires
 slots-count-requires c κs = ap not (sym (c .before .before .is-width .ensures)) ∙ c .before .if1 .left
-
-enum-known-sections : tie.Need-enum-known-sections
-enum-known-sections c = search needs
-
-enum-told : tie.Need-enum-told
-enum-told c = search needs
-
-answer-of-requires : tie.Need-answer-of-requires
-answer-of-requires c κs = search needs
 
 returns-3 : tie.Need-returns-3
 returns-3 c =
@@ -56,9 +44,6 @@ put-slots-requires c κs =
     let k = q .before .before .before .slots-count .ensures in
     (w, (read-ok (now (s .args .slots)) (s .args .base .0) (s .args .offset-size) (now (s .args .bytes)) (now (s .args .out)) w (p .if2 .left) _ n k, read-room (now (s .args .slots)) (s .args .base .0) (s .args .offset-size) (now (s .args .bytes)) (now (s .args .out)) w (p .if2 .left) _ n k (c .before .if3 .left) (omega (arith, s .good))))
 
-same-length : tie.Need-same-length
-same-length c = search needs
-
 returns-5 : tie.Need-returns-5
 returns-5 c =
     let q = c .before .before .before .before .before in
@@ -72,15 +57,15 @@ pub read-persisted-sections-spec : {M : Type 1} → statement M
 read-persisted-sections-spec =
     tie.close
     (tie.spec
-    is-width-requires
+    (search needs)
     returns
     returns-2
     slots-count-requires
-    enum-known-sections
-    enum-told
-    answer-of-requires
+    (search needs)
+    (search needs)
+    (search needs)
     returns-3
     returns-4
     put-slots-requires
-    same-length
+    (search needs)
     returns-5)

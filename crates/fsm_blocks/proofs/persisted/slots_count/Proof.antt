@@ -15,36 +15,12 @@ abbrev μ-loop : tie.MeasureT-loop
 loop-holds : tie.Need-loop-holds Inv-loop μ-loop
 loop-holds c = let a = c .before .before .args in sum-start (a .offset-size) (a .base .0) (now (a .bytes)) (now (a .slots))
 
-mul-manager-count : tie.Need-mul-manager-count Inv-loop μ-loop
-mul-manager-count c = search needs
-
-shared-slice-read-manager-count : tie.Need-shared-slice-read-manager-count Inv-loop μ-loop
-shared-slice-read-manager-count c = search needs
-
-manager-count-requires : tie.Need-manager-count-requires Inv-loop μ-loop
-manager-count-requires c κs = search needs
-
-enum-known-sections : tie.Need-enum-known-sections Inv-loop μ-loop
-enum-known-sections c = search needs
-
-enum-told : tie.Need-enum-told Inv-loop μ-loop
-enum-told c = search needs
-
 returns : tie.Need-returns Inv-loop μ-loop
 returns c =
     let p = c .before .before .before .before in
     let a = p .before .before .before .before in
     let l = p .before .loop in
     sum-refused (a .args .offset-size) (a .args .base .0) (now (a .args .bytes)) (now (a .args .slots)) (l .needed) (l .i) (l .inv) (p .loop-test .taken) (a .pre) _ (c .enum-told .given .1) (c .before .before .manager-count .ensures)
-
-saturating-add-requires : tie.Need-saturating-add-requires Inv-loop μ-loop
-saturating-add-requires c κs = search needs
-
-add-i : tie.Need-add-i Inv-loop μ-loop
-add-i c = search needs
-
-loop-less : tie.Need-loop-less Inv-loop μ-loop
-loop-less c = search needs
 
 loop-again : tie.Need-loop-again Inv-loop μ-loop
 loop-again c =
@@ -66,14 +42,14 @@ slots-count-spec =
     Inv-loop
     μ-loop
     loop-holds
-    mul-manager-count
-    shared-slice-read-manager-count
-    manager-count-requires
-    enum-known-sections
-    enum-told
+    (search needs)
+    (search needs)
+    (search needs)
+    (search needs)
+    (search needs)
     returns
-    saturating-add-requires
-    add-i
-    loop-less
+    (search needs)
+    (search needs)
+    (search needs)
     loop-again
     returns-2)

@@ -21,27 +21,6 @@ abbrev μ-loop : tie.MeasureT-loop
 loop-holds : tie.Need-loop-holds Inv-loop μ-loop
 loop-holds c = let s = c .before in count-start (s .args .page) (s .args .count) (now (s .args .sections)) (s .pre .1)
 
-mul-addr : tie.Need-mul-addr Inv-loop μ-loop
-mul-addr c = search needs
-
-mul-addr-2 : tie.Need-mul-addr-2 Inv-loop μ-loop
-mul-addr-2 c = search needs
-
-shared-slice-read-addr : tie.Need-shared-slice-read-addr Inv-loop μ-loop
-shared-slice-read-addr c = search needs
-
-mul-size : tie.Need-mul-size Inv-loop μ-loop
-mul-size c = search needs
-
-add-size : tie.Need-add-size Inv-loop μ-loop
-add-size c = search needs
-
-mul-size-2 : tie.Need-mul-size-2 Inv-loop μ-loop
-mul-size-2 c = search needs
-
-shared-slice-read-size : tie.Need-shared-slice-read-size Inv-loop μ-loop
-shared-slice-read-size c = search needs
-
 sub-if1 : tie.Need-sub-if1 Inv-loop μ-loop
 sub-if1 c = omega (arith, c .shared-slice-known3 .given (2 * c .before .before .before .loop .i + 1))
 
@@ -51,18 +30,6 @@ returns c =
     let l = c .before .before .before .before .loop in
     count-above (s .args .page) (s .args .count) (now (s .args .sections)) (s .pre .1) (l .some) (l .more) (l .i) (l .inv) (c .before .before .before .loop-test .taken) (c .if1 .taken)
 
-room-in-requires : tie.Need-room-in-requires Inv-loop μ-loop
-room-in-requires c κs = search needs
-
-sub-quotient : tie.Need-sub-quotient Inv-loop μ-loop
-sub-quotient c = search needs
-
-sub-quotient-2 : tie.Need-sub-quotient-2 Inv-loop μ-loop
-sub-quotient-2 c = search needs
-
-quotient-requires : tie.Need-quotient-requires Inv-loop μ-loop
-quotient-requires c κs = search needs
-
 add-saturating-add : tie.Need-add-saturating-add Inv-loop μ-loop
 add-saturating-add c =
     let s = c .before .before .before .before .before .before .before .before .before in
@@ -70,17 +37,8 @@ add-saturating-add c =
     let size = getD (now (s .args .sections)) (2 * i + 1) 0 in
     omega (arith, c .quotient .ensures, div-le-self (size - c .before .before .room-in .result - 1) (s .args .page), c .before .before .before .before .shared-slice-known3 .given (2 * i + 1))
 
-saturating-add-requires : tie.Need-saturating-add-requires Inv-loop μ-loop
-saturating-add-requires c κs = search needs
-
 add-some : tie.Need-add-some Inv-loop μ-loop
 add-some c = let l = c .before .before .before .before .before .before .before .loop in omega (arith, l .inv .few)
-
-add-i : tie.Need-add-i Inv-loop μ-loop
-add-i c = search needs
-
-loop-less : tie.Need-loop-less Inv-loop μ-loop
-loop-less c = search needs
 
 -- the pieces after the first of the section
 more-is : (c : tie.Joined3 Inv-loop μ-loop)
@@ -112,9 +70,6 @@ loop-again c =
     count-step (s .args .page) (s .args .count) (now (s .args .sections)) (s .pre .1) (l .some) (l .more) (l .i) (l .inv) (s .pre .0) (c .before .before .before .before .before .before .loop-test .taken)
     _ _ (some-is c) (more-is c) (c .before .before .before .if1 .left) (omega (arith, c .before .before .before .before .shared-slice-known3 .given (2 * l .i + 1)))
 
-saturating-add-requires-2 : tie.Need-saturating-add-requires-2 Inv-loop μ-loop
-saturating-add-requires-2 c κs = search needs
-
 returns-2 : tie.Need-returns-2 Inv-loop μ-loop
 returns-2 c =
     let s = c .before .before .before .before in
@@ -128,24 +83,24 @@ pieces-in-spec =
     Inv-loop
     μ-loop
     loop-holds
-    mul-addr
-    mul-addr-2
-    shared-slice-read-addr
-    mul-size
-    add-size
-    mul-size-2
-    shared-slice-read-size
+    (search needs)
+    (search needs)
+    (search needs)
+    (search needs)
+    (search needs)
+    (search needs)
+    (search needs)
     sub-if1
     returns
-    room-in-requires
-    sub-quotient
-    sub-quotient-2
-    quotient-requires
+    (search needs)
+    (search needs)
+    (search needs)
+    (search needs)
     add-saturating-add
-    saturating-add-requires
+    (search needs)
     add-some
-    add-i
-    loop-less
+    (search needs)
+    (search needs)
     loop-again
-    saturating-add-requires-2
+    (search needs)
     returns-2)

@@ -30,9 +30,6 @@ last-room c =
     let l = c .before .before .loop in
     walk-room (a .page) (a .addr) (a .size) (a .from) (now (a .out)) (s .pre .0 .0) (s .pre .1) (l .out) (l .a) (l .left) (l .room) (l .k) (l .inv) (omega (arith, c .if1 .left))
 
-room-in-requires : tie.Need-room-in-requires Inv-loop μ-loop
-room-in-requires c κs = search needs
-
 loop-holds : tie.Need-loop-holds Inv-loop μ-loop
 loop-holds c =
     let s = c .before .before in
@@ -56,9 +53,6 @@ slice-write-out-2 c = let h = step-room c in simp length-set (omega (arith, h))
 
 add-a : tie.Need-add-a Inv-loop μ-loop
 add-a c = omega (arith, c .before .loop .inv .ends)
-
-sub-left : tie.Need-sub-left Inv-loop μ-loop
-sub-left c = search needs
 
 add-k : tie.Need-add-k Inv-loop μ-loop
 add-k c = omega (arith, step-room c)
@@ -123,7 +117,7 @@ put-pieces-spec =
     (tie.spec
     Inv-loop
     μ-loop
-    room-in-requires
+    (search needs)
     loop-holds
     mul-out
     slice-write-out
@@ -131,7 +125,7 @@ put-pieces-spec =
     mul-out-2
     slice-write-out-2
     add-a
-    sub-left
+    (search needs)
     add-k
     loop-less
     loop-again

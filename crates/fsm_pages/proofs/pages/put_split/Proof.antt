@@ -15,27 +15,6 @@ abbrev μ-loop : tie.MeasureT-loop
 loop-holds : tie.Need-loop-holds Inv-loop μ-loop
 loop-holds c = let s = c .before .before in put-start (s .args .page) (s .args .count) (now (s .args .sections)) (s .pre .1 .0) (now (s .args .out)) (s .pre .1 .1 .0) (s .pre .1 .1 .1)
 
-mul-put-pieces : tie.Need-mul-put-pieces Inv-loop μ-loop
-mul-put-pieces c = search needs
-
-mul-put-pieces-2 : tie.Need-mul-put-pieces-2 Inv-loop μ-loop
-mul-put-pieces-2 c = search needs
-
-shared-slice-read-put-pieces : tie.Need-shared-slice-read-put-pieces Inv-loop μ-loop
-shared-slice-read-put-pieces c = search needs
-
-mul-put-pieces-3 : tie.Need-mul-put-pieces-3 Inv-loop μ-loop
-mul-put-pieces-3 c = search needs
-
-add-put-pieces : tie.Need-add-put-pieces Inv-loop μ-loop
-add-put-pieces c = search needs
-
-mul-put-pieces-4 : tie.Need-mul-put-pieces-4 Inv-loop μ-loop
-mul-put-pieces-4 c = search needs
-
-shared-slice-read-put-pieces-2 : tie.Need-shared-slice-read-put-pieces-2 Inv-loop μ-loop
-shared-slice-read-put-pieces-2 c = search needs
-
 put-pieces-requires : tie.Need-put-pieces-requires Inv-loop μ-loop
 put-pieces-requires c κs =
     let b = c .before .before .before .before .before in
@@ -45,12 +24,6 @@ put-pieces-requires c κs =
       (s .pre .0, fits-at (s .args .count) (now (s .args .sections)) (s .pre .1 .0) (l .i) h (l .inv .fits) .0),
       put-room (s .args .page) (s .args .count) (now (s .args .sections)) (s .pre .1 .0) (now (s .args .out)) (l .out) (l .k) (l .i) (l .inv) h,
     )
-
-add-i : tie.Need-add-i Inv-loop μ-loop
-add-i c = search needs
-
-loop-less : tie.Need-loop-less Inv-loop μ-loop
-loop-less c = search needs
 
 loop-again : tie.Need-loop-again Inv-loop μ-loop
 loop-again c =
@@ -76,16 +49,16 @@ put-split-spec =
     Inv-loop
     μ-loop
     loop-holds
-    mul-put-pieces
-    mul-put-pieces-2
-    shared-slice-read-put-pieces
-    mul-put-pieces-3
-    add-put-pieces
-    mul-put-pieces-4
-    shared-slice-read-put-pieces-2
+    (search needs)
+    (search needs)
+    (search needs)
+    (search needs)
+    (search needs)
+    (search needs)
+    (search needs)
     put-pieces-requires
-    add-i
-    loop-less
+    (search needs)
+    (search needs)
     loop-again
     same-length
     returns)

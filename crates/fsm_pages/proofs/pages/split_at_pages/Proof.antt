@@ -21,15 +21,6 @@ returns c = let a = c .before .before .before .args in split-page (now (a .secti
 returns-2 : tie.Need-returns-2
 returns-2 c = let a = c .before .before .before .before .args in split-odd (now (a .sections)) (a .count) (a .page) (now (a .out)) (c .before .if1 .left) (c .if2 .taken)
 
-split-count-requires : tie.Need-split-count-requires
-split-count-requires c κs = search needs
-
-enum-known-r : tie.Need-enum-known-r
-enum-known-r c = search needs
-
-enum-known-needed : tie.Need-enum-known-needed
-enum-known-needed c = search needs
-
 returns-3 : tie.Need-returns-3
 returns-3 c =
     let q = c .before in
@@ -53,9 +44,6 @@ returns-4 c =
     let a = p .before .before .before .before .before .args in
     split-refused (now (a .sections)) (a .count) (a .page) (now (a .out)) (p .before .if2 .left) (c .before .r .given .0 .0) (ap numberOutcome (sym (c .before .r .given .1)) ∙ p .split-count .ensures)
 
-same-length : tie.Need-same-length
-same-length c = search needs
-
 returns-5 : tie.Need-returns-5
 returns-5 c =
     let r = c .before .before .before .before in
@@ -71,11 +59,11 @@ split-at-pages-spec =
     (tie.spec
     returns
     returns-2
-    split-count-requires
-    enum-known-r
-    enum-known-needed
+    (search needs)
+    (search needs)
+    (search needs)
     returns-3
     put-split-requires
     returns-4
-    same-length
+    (search needs)
     returns-5)

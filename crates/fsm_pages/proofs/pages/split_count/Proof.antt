@@ -12,9 +12,6 @@ use Rattle.pairs.proofs.RunLaws.{run-room}
 returns : tie.Need-returns
 returns c = let a = c .before .before .args in count-page (now (a .sections)) (a .count) (a .page) (c .if1 .taken)
 
-is-run-requires : tie.Need-is-run-requires
-is-run-requires c κs = search needs
-
 returns-2 : tie.Need-returns-2
 returns-2 c =
     let a = c .before .before .before .before .args in
@@ -32,4 +29,4 @@ returns-3 c =
     c .pieces-in .ensures ∙ count-run (now (a .sections)) (a .count) (a .page) (p .before .before .if1 .left) (ap not (sym (p .before .is-run .ensures)) ∙ p .if2 .left)
 
 pub split-count-spec : {M : Type 1} → statement M
-split-count-spec = tie.close (tie.spec returns is-run-requires returns-2 pieces-in-requires returns-3)
+split-count-spec = tie.close (tie.spec returns (search needs) returns-2 pieces-in-requires returns-3)

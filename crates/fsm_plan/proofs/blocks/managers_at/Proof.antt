@@ -4,12 +4,6 @@ use borrow.Author.Needs.{needs}
 use Rattle.fsm_plan.proofs.blocks.managers_at.Statement.{statement}
 use Rattle.fsm_plan.proofs.blocks.managers_at.Tie as tie
 
-add-at2 : tie.Need-add-at2
-add-at2 c = search needs
-
-add-at6 : tie.Need-add-at6
-add-at6 c = search needs
-
 block-at-requires : tie.Need-block-at-requires
 block-at-requires c κs = λ n. let p = c .before .before .pre in omega (arith, p .end, p .room0 n)
 
@@ -18,9 +12,6 @@ block-at-requires-2 c κs = λ n. let p = c .before .before .before .pre in omeg
 
 block-at-requires-3 : tie.Need-block-at-requires-3
 block-at-requires-3 c κs = λ n. let p = c .before .before .before .before .pre in omega (arith, p .end, p .room6 n)
-
-add-t9 : tie.Need-add-t9
-add-t9 c = search needs
 
 returns : tie.Need-returns
 returns c = let a = c .before .before .before .before .before .before .args in
@@ -35,10 +26,10 @@ pub managers-at-spec : {M : Type 1} → statement M
 managers-at-spec =
     tie.close
     (tie.spec
-    add-at2
-    add-at6
+    (search needs)
+    (search needs)
     block-at-requires
     block-at-requires-2
     block-at-requires-3
-    add-t9
+    (search needs)
     returns)

@@ -6,28 +6,13 @@ use Rattle.fsm_plan.proofs.BlocksLaws.{blocks-tested, blocks-measured, 
 use Rattle.fsm_plan.proofs.blocks.plan_blocks.Statement.{statement}
 use Rattle.fsm_plan.proofs.blocks.plan_blocks.Tie as tie
 
-test-runs-requires : tie.Need-test-runs-requires
-test-runs-requires c κs = search needs
-
-enum-known-tested : tie.Need-enum-known-tested
-enum-known-tested c = search needs
-
 returns : tie.Need-returns
 returns c = let a = c .before .before .before .before .before .before .before .args in
     blocks-tested (now (a .meta)) (now (a .raw)) (now (a .unclassified)) (a .n) (a .page) (a .start) (a .offset-size) _ (c .before .before .before .test-runs .ensures) _ (c .before .tested .given .1)
 
-enum-told : tie.Need-enum-told
-enum-told c = search needs
-
 measure-slots-requires : tie.Need-measure-slots-requires
 measure-slots-requires c κs = let a = c .before .before .before .before .before .before .args in
     tests-show (now (a .meta)) (now (a .raw)) (now (a .unclassified)) (a .n) (a .page) (a .offset-size) _ (c .before .before .test-runs .ensures) (c .enum-told .given .1) .some
-
-enum-known-measured : tie.Need-enum-known-measured
-enum-known-measured c = search needs
-
-enum-known-measured-2 : tie.Need-enum-known-measured-2
-enum-known-measured-2 c = search needs
 
 plan-from-requires : tie.Need-plan-from-requires
 plan-from-requires c κs = let a = c .before .before .before .before .before .before .before .before .before .before .args in
@@ -46,13 +31,13 @@ pub plan-blocks-spec : {M : Type 1} → statement M
 plan-blocks-spec =
     tie.close
     (tie.spec
-    test-runs-requires
-    enum-known-tested
+    (search needs)
+    (search needs)
     returns
-    enum-told
+    (search needs)
     measure-slots-requires
-    enum-known-measured
-    enum-known-measured-2
+    (search needs)
+    (search needs)
     plan-from-requires
     returns-2
     returns-3)

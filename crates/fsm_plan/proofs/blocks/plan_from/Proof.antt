@@ -4,16 +4,10 @@ use borrow.Author.Needs.{needs}
 use Rattle.fsm_plan.proofs.blocks.plan_from.Statement.{statement}
 use Rattle.fsm_plan.proofs.blocks.plan_from.Tie as tie
 
-ends-late-requires : tie.Need-ends-late-requires
-ends-late-requires c κs = search needs
-
 returns : tie.Need-returns
 returns c = let s = c .before .before .before .before .before in
     let a = s .args in
     from-late (now (a .meta)) (now (a .raw)) (now (a .unclassified)) (a .s) (a .offset-size) (a .m) (s .pre) (a .start) (c .before .ends-late .result) (c .before .ends-late .ensures) (c .if1 .taken)
-
-source-of-requires : tie.Need-source-of-requires
-source-of-requires c κs = search needs
 
 is-shared-requires : tie.Need-is-shared-requires
 is-shared-requires c κs = let s = c .before .before .before .before .before .before in
@@ -29,9 +23,6 @@ managers-at-requires : tie.Need-managers-at-requires
 managers-at-requires c κs = let s = c .before .before .before .before .before .before .before .before in
     let a = s .args in
     from-placed (now (a .meta)) (now (a .raw)) (now (a .unclassified)) (a .s) (a .offset-size) (a .m) (s .pre) (a .start) (c .before .before .before .before .ends-late .result) (c .before .before .before .before .ends-late .ensures) (c .before .before .before .if1 .left)
-
-wide-managers-requires : tie.Need-wide-managers-requires
-wide-managers-requires c κs = search needs
 
 returns-3 : tie.Need-returns-3
 returns-3 c = let s = c .before .before .before .before .before .before .before .before .before .before .before in
@@ -58,13 +49,13 @@ pub plan-from-spec : {M : Type 1} → statement M
 plan-from-spec =
     tie.close
     (tie.spec
-    ends-late-requires
+    (search needs)
     returns
-    source-of-requires
+    (search needs)
     is-shared-requires
     returns-2
     managers-at-requires
-    wide-managers-requires
+    (search needs)
     returns-3
     wide-slots-requires
     returns-4

@@ -4,21 +4,12 @@ use borrow.Author.Needs.{needs}
 use Rattle.fsm_plan.proofs.blocks.wide_managers.Statement.{statement}
 use Rattle.fsm_plan.proofs.blocks.wide_managers.Tie as tie
 
-wide-block-requires : tie.Need-wide-block-requires
-wide-block-requires c κs = search needs
-
 returns : tie.Need-returns
 returns c = or-decides (c .before .wide-block .result) _ _ (c .before .wide-block .ensures) (c .if1 .taken)
-
-wide-block-requires-2 : tie.Need-wide-block-requires-2
-wide-block-requires-2 c κs = search needs
 
 returns-2 : tie.Need-returns-2
 returns-2 c = or-decides (c .before .wide-block2 .result) _ _ (c .before .wide-block2 .ensures) (c .if2 .taken)
     ∙ or-leaves (c .before .before .before .wide-block .result) _ _ (c .before .before .before .wide-block .ensures) (c .before .before .if1 .left)
-
-wide-block-requires-3 : tie.Need-wide-block-requires-3
-wide-block-requires-3 c κs = search needs
 
 returns-3 : tie.Need-returns-3
 returns-3 c = c .wide-block3 .ensures ∙ or-leaves (c .before .before .wide-block2 .result) _ _ (c .before .before .wide-block2 .ensures) (c .before .if2 .left)
@@ -28,9 +19,9 @@ pub wide-managers-spec : {M : Type 1} → statement M
 wide-managers-spec =
     tie.close
     (tie.spec
-    wide-block-requires
+    (search needs)
     returns
-    wide-block-requires-2
+    (search needs)
     returns-2
-    wide-block-requires-3
+    (search needs)
     returns-3)

@@ -7,31 +7,13 @@ use Rattle.fsm_plan.proofs.measure.blocks_len.Tie as tie
 returns : tie.Need-returns
 returns c = let a = c .before .args in none-len (a .offset-size) (a .count) (a .sizes) (c .if1 .taken)
 
-fsse-used-requires : tie.Need-fsse-used-requires
-fsse-used-requires c κs = search needs
-
-enum-known-used : tie.Need-enum-known-used
-enum-known-used c = search needs
-
-enum-told : tie.Need-enum-told
-enum-told c = search needs
-
 returns-2 : tie.Need-returns-2
 returns-2 c = let a = c .before .before .before .before .args in
     used-over (a .offset-size) (a .count) (a .sizes) (c .before .before .before .if1 .left) _ (c .before .before .fsse-used .ensures) _ (c .enum-told .given .1)
 
-add-head : tie.Need-add-head
-add-head c = search needs
-
-sub-if2 : tie.Need-sub-if2
-sub-if2 c = search needs
-
 returns-3 : tie.Need-returns-3
 returns-3 c = let a = c .before .before .before .before .before .before .args in
     blocks-over (a .offset-size) (a .count) (a .sizes) (c .before .before .before .before .before .if1 .left) _ (c .before .before .before .before .fsse-used .ensures) _ (c .before .before .used .given .1) (omega (arith, c .if2 .taken))
-
-add-t9 : tie.Need-add-t9
-add-t9 c = search needs
 
 returns-4 : tie.Need-returns-4
 returns-4 c = let a = c .before .before .before .before .before .before .args in
@@ -42,12 +24,12 @@ blocks-len-spec =
     tie.close
     (tie.spec
     returns
-    fsse-used-requires
-    enum-known-used
-    enum-told
+    (search needs)
+    (search needs)
+    (search needs)
     returns-2
-    add-head
-    sub-if2
+    (search needs)
+    (search needs)
     returns-3
-    add-t9
+    (search needs)
     returns-4)

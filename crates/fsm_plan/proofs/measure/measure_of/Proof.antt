@@ -6,27 +6,9 @@ use borrow.Author.Needs.{needs}
 use Rattle.fsm_plan.proofs.measure.measure_of.Statement.{statement}
 use Rattle.fsm_plan.proofs.measure.measure_of.Tie as tie
 
-totals-of-requires : tie.Need-totals-of-requires
-totals-of-requires c κs = search needs
-
-enum-known-t : tie.Need-enum-known-t
-enum-known-t c = search needs
-
-enum-told : tie.Need-enum-told
-enum-told c = search needs
-
 returns : tie.Need-returns
 returns c = let a = c .before .before .before .before .before .before .args in
     measure-over (sectionsOf (chainsOf (a .s) (now (a .a)) (now (a .b)) (now (a .c)))) _ (c .before .before .totals-of .ensures) (a .offset-size) _ (c .enum-told .given .1)
-
-blocks-len-requires : tie.Need-blocks-len-requires
-blocks-len-requires c κs = search needs
-
-enum-known-len : tie.Need-enum-known-len
-enum-known-len c = search needs
-
-enum-told-2 : tie.Need-enum-told-2
-enum-told-2 c = search needs
 
 returns-2 : tie.Need-returns-2
 returns-2 c = let a = c .before .before .before .before .before .before .before .before .before .before .args in
@@ -40,12 +22,12 @@ pub measure-of-spec : {M : Type 1} → statement M
 measure-of-spec =
     tie.close
     (tie.spec
-    totals-of-requires
-    enum-known-t
-    enum-told
+    (search needs)
+    (search needs)
+    (search needs)
     returns
-    blocks-len-requires
-    enum-known-len
-    enum-told-2
+    (search needs)
+    (search needs)
+    (search needs)
     returns-2
     returns-3)

@@ -8,23 +8,11 @@ use Rattle.fsm_plan.proofs.pieces.wide_piece.Tie as tie
 returns : tie.Need-returns
 returns c = let a = c .before .args in wide-none (a .o) (a .page) (a .addr) (a .size) (c .before .pre .0) (c .if1 .taken)
 
-sub-quotient : tie.Need-sub-quotient
-sub-quotient c = search needs
-
-add-quotient : tie.Need-add-quotient
-add-quotient c = search needs
-
-quotient-requires : tie.Need-quotient-requires
-quotient-requires c κs = search needs
-
 mul-last : tie.Need-mul-last
 mul-last c =
     let c2 = c .before .before in
     let a = c2 .args in
     omega (arith, at-fits (a .o) (a .page) (a .addr) (a .size) (c2 .pre .0) (c .before .if1 .left) _ (c .quotient .ensures), c2 .pre .1)
-
-is-wide-requires : tie.Need-is-wide-requires
-is-wide-requires c κs = search needs
 
 returns-2 : tie.Need-returns-2
 returns-2 c =
@@ -32,9 +20,6 @@ returns-2 c =
     let c4 = c2 .before .before in
     let a = c4 .args in
     c .is-wide .ensures ∙ wide-first (a .o) (a .page) (a .addr) (a .size) (c4 .pre .0) (c2 .before .if1 .left) _ (c2 .quotient .ensures) (c .before .if2 .taken)
-
-is-wide-requires-2 : tie.Need-is-wide-requires-2
-is-wide-requires-2 c κs = search needs
 
 returns-3 : tie.Need-returns-3
 returns-3 c =
@@ -48,11 +33,11 @@ wide-piece-spec =
     tie.close
     (tie.spec
     returns
-    sub-quotient
-    add-quotient
-    quotient-requires
+    (search needs)
+    (search needs)
+    (search needs)
     mul-last
-    is-wide-requires
+    (search needs)
     returns-2
-    is-wide-requires-2
+    (search needs)
     returns-3)

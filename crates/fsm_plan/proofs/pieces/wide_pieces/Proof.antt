@@ -23,27 +23,6 @@ abbrev μ-loop : tie.MeasureT-loop
 loop-holds : tie.Need-loop-holds Inv-loop μ-loop
 loop-holds c = (omega arith, c .before .pre .1 .1, refl)
 
-mul-wide-piece : tie.Need-mul-wide-piece Inv-loop μ-loop
-mul-wide-piece c = search needs
-
-mul-wide-piece-2 : tie.Need-mul-wide-piece-2 Inv-loop μ-loop
-mul-wide-piece-2 c = search needs
-
-shared-slice-read-wide-piece : tie.Need-shared-slice-read-wide-piece Inv-loop μ-loop
-shared-slice-read-wide-piece c = search needs
-
-mul-wide-piece-3 : tie.Need-mul-wide-piece-3 Inv-loop μ-loop
-mul-wide-piece-3 c = search needs
-
-add-wide-piece : tie.Need-add-wide-piece Inv-loop μ-loop
-add-wide-piece c = search needs
-
-mul-wide-piece-4 : tie.Need-mul-wide-piece-4 Inv-loop μ-loop
-mul-wide-piece-4 c = search needs
-
-shared-slice-read-wide-piece-2 : tie.Need-shared-slice-read-wide-piece-2 Inv-loop μ-loop
-shared-slice-read-wide-piece-2 c = search needs
-
 wide-piece-requires : tie.Need-wide-piece-requires Inv-loop μ-loop
 wide-piece-requires c κs =
     let c2 = c .before .before in
@@ -51,7 +30,7 @@ wide-piece-requires c κs =
     let c5 = c3 .before .before in
     let a = c5 .args in
     let l = c3 .loop in
-    (c5 .pre .0 .0, fits-at (a .count) (now (a .sections)) (c5 .pre .1 .0) (l .i) (c2 .loop-test .taken) (l .inv .1) .0, c5 .pre .0 .1)
+    (c5 .pre .0, fits-at (a .count) (now (a .sections)) (c5 .pre .1 .0) (l .i) (c2 .loop-test .taken) (l .inv .1) .0)
 
 returns : tie.Need-returns Inv-loop μ-loop
 returns c =
@@ -62,12 +41,6 @@ returns c =
     let l = c5 .loop in
     any-wide-found (a .page) (a .count) (now (a .sections)) (c7 .pre .1 .0) (a .o) (l .i) (l .inv .2) (c4 .loop-test .taken) _ (c .before .wide-piece .ensures)
     (c .if1 .taken)
-
-add-i : tie.Need-add-i Inv-loop μ-loop
-add-i c = search needs
-
-loop-less : tie.Need-loop-less Inv-loop μ-loop
-loop-less c = search needs
 
 loop-again : tie.Need-loop-again Inv-loop μ-loop
 loop-again c =
@@ -96,16 +69,16 @@ wide-pieces-spec =
     Inv-loop
     μ-loop
     loop-holds
-    mul-wide-piece
-    mul-wide-piece-2
-    shared-slice-read-wide-piece
-    mul-wide-piece-3
-    add-wide-piece
-    mul-wide-piece-4
-    shared-slice-read-wide-piece-2
+    (search needs)
+    (search needs)
+    (search needs)
+    (search needs)
+    (search needs)
+    (search needs)
+    (search needs)
     wide-piece-requires
     returns
-    add-i
-    loop-less
+    (search needs)
+    (search needs)
     loop-again
     returns-2)

@@ -31,9 +31,6 @@ returns-2 c =
     (c3 .wide-pieces .ensures) (c2 .if1 .left) ∙ any-slots (λ x. wide (a .o) (x .addr)) (a .s .page) (decode (a .s .na) (now (a .meta)))
     (decode (a .s .nb) (now (a .raw))) (decode (a .s .nc) (now (a .unclassified)))
 
-wide-sections-requires : tie.Need-wide-sections-requires
-wide-sections-requires c κs = search needs
-
 returns-3 : tie.Need-returns-3
 returns-3 c =
     let c2 = c .before .before in
@@ -41,7 +38,7 @@ returns-3 c =
     let c4 = c3 .before in
     let c8 = c4 .before .before .before .before in
     let a = c8 .args in
-    c .wide-sections .ensures ∙ or-leaves (c2 .wide-pieces2 .result) _ _ (c2 .wide-pieces2 .ensures) (c .before .if2 .left) ∙ or-leaves (c4 .wide-pieces .result) _ _
+    c .any-wide .ensures ∙ or-leaves (c2 .wide-pieces2 .result) _ _ (c2 .wide-pieces2 .ensures) (c .before .if2 .left) ∙ or-leaves (c4 .wide-pieces .result) _ _
     (c4 .wide-pieces .ensures) (c3 .if1 .left) ∙ any-slots (λ x. wide (a .o) (x .addr)) (a .s .page) (decode (a .s .na) (now (a .meta)))
     (decode (a .s .nb) (now (a .raw))) (decode (a .s .nc) (now (a .unclassified)))
 
@@ -53,5 +50,5 @@ wide-slots-spec =
     returns
     wide-pieces-requires-2
     returns-2
-    wide-sections-requires
+    (search needs)
     returns-3)

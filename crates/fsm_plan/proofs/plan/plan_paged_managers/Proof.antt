@@ -7,9 +7,6 @@ use Rattle.fsm_plan.proofs.PlanLaws.{planned-width, planned-page, plann
 use Rattle.fsm_plan.proofs.plan.plan_paged_managers.Statement.{statement}
 use Rattle.fsm_plan.proofs.plan.plan_paged_managers.Tie as tie
 
-is-width-requires : tie.Need-is-width-requires
-is-width-requires c κs = search needs
-
 returns : tie.Need-returns
 returns c = let a = c .before .before .before .before .before .before .args in
     planned-width (now (a .meta)) (now (a .raw)) (now (a .unclassified)) (a .n) (a .page) (a .start) (a .offset-size) (now (a .out)) (ap not (sym (c .before .is-width .ensures)) ∙ c .if1 .taken)
@@ -22,15 +19,6 @@ returns-3 : tie.Need-returns-3
 returns-3 c = let a = c .before .before .before .before .before .before .before .before .args in
     planned-odd (now (a .meta)) (now (a .raw)) (now (a .unclassified)) (a .n) (a .page) (a .start) (a .offset-size) (now (a .out)) (ap not (sym (c .before .before .before .is-width .ensures)) ∙ c .before .before .if1 .left) (c .before .if2 .left) (c .if3 .taken)
 
-plan-blocks-requires : tie.Need-plan-blocks-requires
-plan-blocks-requires c κs = search needs
-
-enum-known-planned : tie.Need-enum-known-planned
-enum-known-planned c = search needs
-
-enum-known-planned-2 : tie.Need-enum-known-planned-2
-enum-known-planned-2 c = search needs
-
 put-plan-requires : tie.Need-put-plan-requires
 put-plan-requires c κs = let a = c .before .before .before .before .before .before .before .before .before .before .before .before .before .args in
     let h = planned-accepted (now (a .meta)) (now (a .raw)) (now (a .unclassified)) (a .n) (a .page) (a .start) (a .offset-size) (now (a .out)) (ap not (sym (c .before .before .before .before .before .before .before .before .is-width .ensures)) ∙ c .before .before .before .before .before .before .before .if1 .left) (c .before .before .before .before .before .before .if2 .left) (c .before .before .before .before .before .if3 .left) _ (c .before .before .before .before .plan-blocks .ensures) _ (c .before .before .planned2 .given .1) in
@@ -39,9 +27,6 @@ put-plan-requires c κs = let a = c .before .before .before .before .before .bef
 returns-4 : tie.Need-returns-4
 returns-4 c = let a = c .before .before .before .before .before .before .before .before .before .before .before .before .args in
     planned-refused (now (a .meta)) (now (a .raw)) (now (a .unclassified)) (a .n) (a .page) (a .start) (a .offset-size) (now (a .out)) (ap not (sym (c .before .before .before .before .before .before .before .is-width .ensures)) ∙ c .before .before .before .before .before .before .if1 .left) (c .before .before .before .before .before .if2 .left) (c .before .before .before .before .if3 .left) _ (c .before .before .before .plan-blocks .ensures) _ (c .before .planned .given .1)
-
-same-length : tie.Need-same-length
-same-length c = search needs
 
 returns-5 : tie.Need-returns-5
 returns-5 c = let a = c .before .before .before .before .before .before .before .before .before .before .before .before .before .before .before .before .args in
@@ -52,14 +37,14 @@ pub plan-paged-managers-spec : {M : Type 1} → statement M
 plan-paged-managers-spec =
     tie.close
     (tie.spec
-    is-width-requires
+    (search needs)
     returns
     returns-2
     returns-3
-    plan-blocks-requires
-    enum-known-planned
-    enum-known-planned-2
+    (search needs)
+    (search needs)
+    (search needs)
     put-plan-requires
     returns-4
-    same-length
+    (search needs)
     returns-5)

@@ -4,12 +4,6 @@ use borrow.Author.Needs.{needs}
 use Rattle.fsm_plan.proofs.plan.put_plan.Statement.{statement}
 use Rattle.fsm_plan.proofs.plan.put_plan.Tie as tie
 
-add-needed : tie.Need-add-needed
-add-needed c = search needs
-
-add-needed-2 : tie.Need-add-needed-2
-add-needed-2 c = search needs
-
 returns : tie.Need-returns
 returns c = let s = c .before .before .before .before .before .before .before in
     let a = s .args in
@@ -20,9 +14,6 @@ put-slots-requires c κs = let s = c .before .before .before .before .before .be
     let a = s .args in
     (s .pre .0, (s .pre .1 .0, into-room (a .s) (now (a .meta)) (now (a .raw)) (now (a .unclassified)) (now (a .out)) (a .p) (s .pre .1 .1) (c .before .if1 .left)))
 
-same-length : tie.Need-same-length
-same-length c = search needs
-
 returns-2 : tie.Need-returns-2
 returns-2 c = let s = c .before .before .before .before .before .before .before .before .before .before .before in
     let a = s .args in
@@ -30,4 +21,4 @@ returns-2 c = let s = c .before .before .before .before .before .before .before 
 
 pub put-plan-spec : {M : Type 1} → statement M
 put-plan-spec =
-    tie.close (tie.spec add-needed add-needed-2 returns put-slots-requires same-length returns-2)
+    tie.close (tie.spec (search needs) (search needs) returns put-slots-requires (search needs) returns-2)

@@ -13,28 +13,10 @@ put-small-requires-2 c κs = let a = c .before .before .before .before .before .
     let p = c .before .before .before .before .before .before .before .before .before .pre in
     (p .0 .some, (p .0 .room-b, (p .1 .0 .1, second-room (a .s) (now (a .meta)) (now (a .raw)) (now (a .unclassified)) (now (a .out)) (p .0 .some) (p .1 .1) _ _ (c .before .before .before .put-small .ensures .0) (c .before .before .before .put-small .ensures .1))))
 
-source-of-requires : tie.Need-source-of-requires
-source-of-requires c κs = search needs
-
-mul-put-large : tie.Need-mul-put-large
-mul-put-large c = search needs
-
-sub-put-large : tie.Need-sub-put-large
-sub-put-large c = search needs
-
-part-put-large-start : tie.Need-part-put-large-start
-part-put-large-start c = search needs
-
-part-put-large-end : tie.Need-part-put-large-end
-part-put-large-end c = search needs
-
 put-large-requires : tie.Need-put-large-requires
 put-large-requires c κs = let a = c .before .before .before .before .before .before .before .before .before .before .before .before .before .before .args in
     let p = c .before .before .before .before .before .before .before .before .before .before .before .before .before .before .pre in
     third-asked (a .s) (now (a .meta)) (now (a .raw)) (now (a .unclassified)) (now (a .out)) (p .0 .some) (p .1 .1) _ _ (c .before .before .before .before .before .before .before .before .put-small .ensures .0) (c .before .before .before .before .before .before .before .before .put-small .ensures .1) _ _ (c .before .before .before .before .put-small2 .ensures .0) (c .before .before .before .before .put-small2 .ensures .1) _ (c .before .source-of .ensures) (p .0)
-
-same-length : tie.Need-same-length
-same-length c = search needs
 
 returns : tie.Need-returns
 returns c = let a = c .before .before .before .before .before .before .before .before .before .before .before .before .before .before .before .before .before .args in
@@ -47,11 +29,11 @@ put-slots-spec =
     (tie.spec
     put-small-requires
     put-small-requires-2
-    source-of-requires
-    mul-put-large
-    sub-put-large
-    part-put-large-start
-    part-put-large-end
+    (search needs)
+    (search needs)
+    (search needs)
+    (search needs)
+    (search needs)
     put-large-requires
-    same-length
+    (search needs)
     returns)

@@ -29,29 +29,11 @@ abbrev μ-loop : tie.MeasureT-loop
 loop-holds : tie.Need-loop-holds Inv-loop μ-loop
 loop-holds c = (omega arith, refl)
 
-mul-is-late : tie.Need-mul-is-late Inv-loop μ-loop
-mul-is-late c = search needs
-
-mul-is-late-2 : tie.Need-mul-is-late-2 Inv-loop μ-loop
-mul-is-late-2 c = search needs
-
 shared-slice-read-is-late : tie.Need-shared-slice-read-is-late Inv-loop μ-loop
 shared-slice-read-is-late c = omega (arith, c .before .before .before .before .pre, c .before .loop-test .taken)
 
-mul-is-late-3 : tie.Need-mul-is-late-3 Inv-loop μ-loop
-mul-is-late-3 c = search needs
-
-add-is-late : tie.Need-add-is-late Inv-loop μ-loop
-add-is-late c = search needs
-
-mul-is-late-4 : tie.Need-mul-is-late-4 Inv-loop μ-loop
-mul-is-late-4 c = search needs
-
 shared-slice-read-is-late-2 : tie.Need-shared-slice-read-is-late-2 Inv-loop μ-loop
 shared-slice-read-is-late-2 c = omega (arith, c .before .before .before .before .before .pre, c .before .before .loop-test .taken)
-
-is-late-requires : tie.Need-is-late-requires Inv-loop μ-loop
-is-late-requires c κs = search needs
 
 returns : tie.Need-returns Inv-loop μ-loop
 returns c =
@@ -61,12 +43,6 @@ returns c =
     any-found (λ r. ltb top (end r)) (a .n) (now (a .run)) (s .pre) (loop .i) (c .before .before .before .before .loop-test .taken) _
     (c .before .is-late .ensures) (c .if1 .taken) (loop .inv .1)
     ∙ sym (ends-any (decode (a .n) (now (a .run))))
-
-add-i : tie.Need-add-i Inv-loop μ-loop
-add-i c = search needs
-
-loop-less : tie.Need-loop-less Inv-loop μ-loop
-loop-less c = search needs
 
 loop-again : tie.Need-loop-again Inv-loop μ-loop
 loop-again c =
@@ -92,16 +68,16 @@ any-late-spec =
     Inv-loop
     μ-loop
     loop-holds
-    mul-is-late
-    mul-is-late-2
+    (search needs)
+    (search needs)
     shared-slice-read-is-late
-    mul-is-late-3
-    add-is-late
-    mul-is-late-4
+    (search needs)
+    (search needs)
+    (search needs)
     shared-slice-read-is-late-2
-    is-late-requires
+    (search needs)
     returns
-    add-i
-    loop-less
+    (search needs)
+    (search needs)
     loop-again
     returns-2)

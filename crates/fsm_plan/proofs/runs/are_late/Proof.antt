@@ -7,16 +7,10 @@ use borrow.Author.Needs.{needs}
 use Rattle.fsm_plan.proofs.runs.are_late.Statement.{statement}
 use Rattle.fsm_plan.proofs.runs.are_late.Tie as tie
 
-any-late-requires : tie.Need-any-late-requires
-any-late-requires c κs = search needs
-
 returns : tie.Need-returns
 returns c =
     let a = c .before .before .before .before .before .args in
     or-decides (c .before .any-late .result) (endsAbove (decode (a .n .meta) (now (a .a)))) _ (c .before .any-late .ensures) (c .if1 .taken)
-
-any-late-requires-2 : tie.Need-any-late-requires-2
-any-late-requires-2 c κs = search needs
 
 returns-2 : tie.Need-returns-2
 returns-2 c =
@@ -25,9 +19,6 @@ returns-2 c =
     or-decides (c .before .any-late2 .result) (endsAbove (decode (a .n .raw) (now (a .b)))) (endsAbove (decode (a .n .unclassified) (now (a .c))))
     (c .before .any-late2 .ensures) (c .if2 .taken) ∙ or-leaves (any-late .result) (endsAbove (decode (a .n .meta) (now (a .a)))) _ (any-late .ensures)
     (c .before .before .if1 .left)
-
-any-late-requires-3 : tie.Need-any-late-requires-3
-any-late-requires-3 c κs = search needs
 
 returns-3 : tie.Need-returns-3
 returns-3 c =
@@ -42,9 +33,9 @@ pub are-late-spec : {M : Type 1} → statement M
 are-late-spec =
     tie.close
     (tie.spec
-    any-late-requires
+    (search needs)
     returns
-    any-late-requires-2
+    (search needs)
     returns-2
-    any-late-requires-3
+    (search needs)
     returns-3)

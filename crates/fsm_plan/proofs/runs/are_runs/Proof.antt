@@ -7,17 +7,11 @@ use borrow.Author.Needs.{needs}
 use Rattle.fsm_plan.proofs.runs.are_runs.Statement.{statement}
 use Rattle.fsm_plan.proofs.runs.are_runs.Tie as tie
 
-is-run-requires : tie.Need-is-run-requires
-is-run-requires c κs = search needs
-
 returns : tie.Need-returns
 returns c =
     let a = c .before .before .before .before .before .args in
     and-decides (c .before .is-run .result) (isRun (now (a .a)) (a .n .meta)) _ (c .before .is-run .ensures)
     (not-true (c .before .is-run .result) (c .if1 .taken))
-
-is-run-requires-2 : tie.Need-is-run-requires-2
-is-run-requires-2 c κs = search needs
 
 returns-2 : tie.Need-returns-2
 returns-2 c =
@@ -26,9 +20,6 @@ returns-2 c =
     and-decides (c .before .is-run2 .result) (isRun (now (a .b)) (a .n .raw)) (isRun (now (a .c)) (a .n .unclassified)) (c .before .is-run2 .ensures)
     (not-true (c .before .is-run2 .result) (c .if2 .taken)) ∙ and-leaves (is-run .result) (isRun (now (a .a)) (a .n .meta)) _ (is-run .ensures)
     (not-false (is-run .result) (c .before .before .if1 .left))
-
-is-run-requires-3 : tie.Need-is-run-requires-3
-is-run-requires-3 c κs = search needs
 
 returns-3 : tie.Need-returns-3
 returns-3 c =
@@ -42,4 +33,4 @@ returns-3 c =
 pub are-runs-spec : {M : Type 1} → statement M
 are-runs-spec =
     tie.close
-    (tie.spec is-run-requires returns is-run-requires-2 returns-2 is-run-requires-3 returns-3)
+    (tie.spec (search needs) returns (search needs) returns-2 (search needs) returns-3)

@@ -7,9 +7,6 @@ use borrow.Author.Needs.{needs}
 use Rattle.fsm_plan.proofs.runs.test_runs.Statement.{statement}
 use Rattle.fsm_plan.proofs.runs.test_runs.Tie as tie
 
-is-width-requires : tie.Need-is-width-requires
-is-width-requires c κs = search needs
-
 returns : tie.Need-returns
 returns c = let a = c .before .before .before .before .before .args in
     test-width (now (a .a)) (now (a .b)) (now (a .c)) (a .n) (a .page) (a .offset-size) (ap not (sym (c .before .is-width .ensures)) ∙ c .if1 .taken)
@@ -17,9 +14,6 @@ returns c = let a = c .before .before .before .before .before .args in
 returns-2 : tie.Need-returns-2
 returns-2 c = let a = c .before .before .before .before .before .before .args in
     test-page (now (a .a)) (now (a .b)) (now (a .c)) (a .n) (a .page) (a .offset-size) (ap not (sym (c .before .before .is-width .ensures)) ∙ c .before .if1 .left) (c .if2 .taken)
-
-are-runs-requires : tie.Need-are-runs-requires
-are-runs-requires c κs = search needs
 
 returns-3 : tie.Need-returns-3
 returns-3 c = let a = c .before .before .before .before .before .before .before .before .args in
@@ -43,10 +37,10 @@ pub test-runs-spec : {M : Type 1} → statement M
 test-runs-spec =
     tie.close
     (tie.spec
-    is-width-requires
+    (search needs)
     returns
     returns-2
-    are-runs-requires
+    (search needs)
     returns-3
     are-late-requires
     returns-4

@@ -24,9 +24,6 @@ returns-4 c =
     let a = c4 .args in
     holds-still (a .first) (a .step) (a .count) (a .addr) (c3 .if1 .left) (c2 .if2 .left) (c .before .if3 .left) (c .if4 .taken)
 
-rem-if5 : tie.Need-rem-if5
-rem-if5 c = search needs
-
 returns-5 : tie.Need-returns-5
 returns-5 c =
     let c2 = c .before .before in
@@ -35,9 +32,6 @@ returns-5 c =
     let c5 = c4 .before in
     let a = c5 .args in
     holds-between (a .first) (a .step) (a .count) (a .addr) (c4 .if1 .left) (c3 .if2 .left) (c2 .if3 .left) (c .before .if4 .left) (c .if5 .taken)
-
-div-result : tie.Need-div-result
-div-result c = search needs
 
 returns-6 : tie.Need-returns-6
 returns-6 c =
@@ -51,4 +45,4 @@ returns-6 c =
 pub holds-spec : {M : Type 1} → statement M
 holds-spec =
     tie.close
-    (tie.spec returns returns-2 returns-3 returns-4 rem-if5 returns-5 div-result returns-6)
+    (tie.spec returns returns-2 returns-3 returns-4 (search needs) returns-5 (search needs) returns-6)

@@ -15,39 +15,36 @@ abbrev μ-loop : tie.MeasureT-loop
 loop-holds : tie.Need-loop-holds Inv-loop μ-loop
 loop-holds c = λ x h. refl
 
-next-chain-requires : tie.Need-next-chain-requires Inv-loop μ-loop
-next-chain-requires c κs = search needs
-
-enum-known-u : tie.Need-enum-known-u Inv-loop μ-loop
-enum-known-u c = search needs
-
-enum-told : tie.Need-enum-told Inv-loop μ-loop
-enum-told c = search needs
-
 returns : tie.Need-returns Inv-loop μ-loop
-returns c = let s = c .before .before .before .before .before .before .before .before in
+returns c = let s = c .before .before .before .before .before .before .before in
     let a = s .args in
-    unmet-end (a .s) (now (a .a)) (now (a .b)) (now (a .c)) (s .pre .0) (c .before .before .before .loop .at) _ (c .before .before .next-chain .ensures) (c .enum-told .given .1) (a .t) (c .before .before .before .loop .inv)
+    let l = c .before .before .loop in
+    unmet-end (a .s) (now (a .a)) (now (a .b)) (now (a .c)) (s .pre .0) (l .at) _ (c .before .next-chain .ensures) (c .if1 .taken) (a .t) (l .inv)
 
 shares-requires : tie.Need-shares-requires Inv-loop μ-loop
-shares-requires c κs = let s = c .before .before .before .before .before .before .before .before .before in
+shares-requires c κs = let s = c .before .before .before .before .before .before .before in
     let a = s .args in
-    alike (a .s .page) (a .t .chain) (c .before .u .given .0 .0 .chain) (s .pre .1) (taking (a .s) (now (a .a)) (now (a .b)) (now (a .c)) (s .pre .0) (c .before .before .before .before .loop .at) _ (c .before .before .before .next-chain .ensures) _ (c .before .u .given .1) .pages)
+    let u = c .before .next-chain in
+    alike (a .s .page) (a .t .chain) (u .result .chain) (s .pre .1) (taking (a .s) (now (a .a)) (now (a .b)) (now (a .c)) (s .pre .0) (c .before .before .loop .at) _ (u .ensures) (c .if1 .left) .pages)
 
 returns-2 : tie.Need-returns-2 Inv-loop μ-loop
-returns-2 c = let s = c .before .before .before .before .before .before .before .before .before .before .before in
+returns-2 c = let s = c .before .before .before .before .before .before .before .before .before in
     let a = s .args in
-    unmet-found (a .s) (now (a .a)) (now (a .b)) (now (a .c)) (s .pre .0) (c .before .before .before .before .before .before .loop .at) _ (c .before .before .before .before .before .next-chain .ensures) _ (c .before .before .before .u .given .1) (a .t) (c .before .before .before .before .before .before .loop .inv) (c .before .shares .result) (c .before .shares .ensures) (c .if1 .taken)
+    let l = c .before .before .before .before .loop in
+    let m = c .before .shares in
+    unmet-found (a .s) (now (a .a)) (now (a .b)) (now (a .c)) (s .pre .0) (l .at) _ (c .before .before .before .next-chain .ensures) (c .before .before .if1 .left) (a .t) (l .inv) (m .result) (m .ensures) (c .if2 .taken)
 
 loop-less : tie.Need-loop-less Inv-loop μ-loop
-loop-less c = let s = c .before .before .before .before .before .before .before .before .before .before .before .before in
+loop-less c = let s = c .before .before .before .before .before .before .before .before .before .before in
     let a = s .args in
-    taking (a .s) (now (a .a)) (now (a .b)) (now (a .c)) (s .pre .0) (c .before .before .before .before .before .before .before .loop .at) _ (c .before .before .before .before .before .before .next-chain .ensures) _ (c .before .before .before .before .u .given .1) .less
+    taking (a .s) (now (a .a)) (now (a .b)) (now (a .c)) (s .pre .0) (c .before .before .before .before .before .loop .at) _ (c .before .before .before .before .next-chain .ensures) (c .before .before .before .if1 .left) .less
 
 loop-again : tie.Need-loop-again Inv-loop μ-loop
-loop-again c = let s = c .before .before .before .before .before .before .before .before .before .before .before .before in
+loop-again c = let s = c .before .before .before .before .before .before .before .before .before .before in
     let a = s .args in
-    unmet-step (a .s) (now (a .a)) (now (a .b)) (now (a .c)) (s .pre .0) (c .before .before .before .before .before .before .before .loop .at) _ (c .before .before .before .before .before .before .next-chain .ensures) _ (c .before .before .before .before .u .given .1) (a .t) (c .before .before .before .before .before .before .before .loop .inv) (c .before .before .shares .result) (c .before .before .shares .ensures) (c .before .if1 .left)
+    let l = c .before .before .before .before .before .loop in
+    let m = c .before .before .shares in
+    unmet-step (a .s) (now (a .a)) (now (a .b)) (now (a .c)) (s .pre .0) (l .at) _ (c .before .before .before .before .next-chain .ensures) (c .before .before .before .if1 .left) (a .t) (l .inv) (m .result) (m .ensures) (c .before .if2 .left)
 
 pub meets-spec : {M : Type 1} → statement M
 meets-spec =
@@ -56,9 +53,7 @@ meets-spec =
     Inv-loop
     μ-loop
     loop-holds
-    next-chain-requires
-    enum-known-u
-    enum-told
+    (search needs)
     returns
     shares-requires
     returns-2

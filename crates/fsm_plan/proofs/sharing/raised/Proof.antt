@@ -8,12 +8,6 @@ use Rattle.fsm_plan.proofs.sharing.raised.Tie as tie
 returns : tie.Need-returns
 returns c = let a = c .before .before .args in raised-none (a .floor) (a .t) (c .if1 .taken)
 
-returns-2 : tie.Need-returns-2
-returns-2 c = search needs
-
-sub-last : tie.Need-sub-last
-sub-last c = search needs
-
 mul-last : tie.Need-mul-last
 mul-last c =
     let c4 = c .before .before .before .before in
@@ -27,9 +21,6 @@ add-last c =
     let c7 = c5 .before .before in
     let a = c7 .args in
     omega (arith, last-fits (a .t .addr) (a .t .size) (a .t .count) (c7 .pre) (omega arith) (c5 .if1 .left))
-
-returns-3 : tie.Need-returns-3
-returns-3 c = search needs
 
 add-t6 : tie.Need-add-t6
 add-t6 c =
@@ -47,4 +38,4 @@ returns-4 c =
 
 pub raised-spec : {M : Type 1} → statement M
 raised-spec =
-    tie.close (tie.spec returns returns-2 sub-last mul-last add-last returns-3 add-t6 returns-4)
+    tie.close (tie.spec returns (search needs) (search needs) mul-last add-last (search needs) add-t6 returns-4)

@@ -9,9 +9,6 @@ returns c = let a = c .before .before .args in apart-left (a .t) (a .u) (c .if1 
 returns-2 : tie.Need-returns-2
 returns-2 c = let a = c .before .before .before .before .args in apart-right (a .t) (a .u) (c .if2 .taken)
 
-holds-requires : tie.Need-holds-requires
-holds-requires c κs = search needs
-
 returns-3 : tie.Need-returns-3
 returns-3 c =
     let c2 = c .before .before in
@@ -19,9 +16,6 @@ returns-3 c =
     let c6 = c4 .before .before in
     let a = c6 .args in
     meet-first (a .t) (a .u) (c4 .if1 .left) (c2 .if2 .left) (c .before .holds .result) (c .before .holds .ensures) (c .if3 .taken)
-
-holds-requires-2 : tie.Need-holds-requires-2
-holds-requires-2 c κs = search needs
 
 returns-4 : tie.Need-returns-4
 returns-4 c =
@@ -35,4 +29,4 @@ returns-4 c =
 
 pub shares-spec : {M : Type 1} → statement M
 shares-spec =
-    tie.close (tie.spec returns returns-2 holds-requires returns-3 holds-requires-2 returns-4)
+    tie.close (tie.spec returns returns-2 (search needs) returns-3 (search needs) returns-4)

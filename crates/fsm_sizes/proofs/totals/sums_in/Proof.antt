@@ -23,29 +23,11 @@ abbrev μ-loop : tie.MeasureT-loop
 loop-holds : tie.Need-loop-holds Inv-loop μ-loop
 loop-holds c = (omega arith, refl, refl, omega arith, omega arith)
 
-mul-part-chain : tie.Need-mul-part-chain Inv-loop μ-loop
-mul-part-chain c = search needs
-
-mul-part-chain-2 : tie.Need-mul-part-chain-2 Inv-loop μ-loop
-mul-part-chain-2 c = search needs
-
 shared-slice-read-part-chain : tie.Need-shared-slice-read-part-chain Inv-loop μ-loop
 shared-slice-read-part-chain c = omega (arith, c .before .before .before .before .pre, c .before .loop-test .taken)
 
-mul-part-chain-3 : tie.Need-mul-part-chain-3 Inv-loop μ-loop
-mul-part-chain-3 c = search needs
-
-add-part-chain : tie.Need-add-part-chain Inv-loop μ-loop
-add-part-chain c = search needs
-
-mul-part-chain-4 : tie.Need-mul-part-chain-4 Inv-loop μ-loop
-mul-part-chain-4 c = search needs
-
 shared-slice-read-part-chain-2 : tie.Need-shared-slice-read-part-chain-2 Inv-loop μ-loop
 shared-slice-read-part-chain-2 c = omega (arith, c .before .before .before .before .before .pre, c .before .before .loop-test .taken)
-
-part-chain-requires : tie.Need-part-chain-requires Inv-loop μ-loop
-part-chain-requires c κs = search needs
 
 mul-more : tie.Need-mul-more Inv-loop μ-loop
 mul-more c =
@@ -57,9 +39,6 @@ mul-more c =
       c .before .before .shared-slice-known3 .given (2 * i + 1),
       region-space (a .part) (a .page) (now (a .run)) (a .count) (s .pre) i (c .before .before .before .before .loop-test .taken) _ (c .before .part-chain .ensures),
     )
-
-sub-if1 : tie.Need-sub-if1 Inv-loop μ-loop
-sub-if1 c = search needs
 
 returns : tie.Need-returns Inv-loop μ-loop
 returns c =
@@ -74,9 +53,6 @@ returns c =
       space-step (a .part) (a .page) (now (a .run)) (a .count) (s .pre) (l .i) (c .before .before .before .before .before .loop-test .taken) _ (c .before .before .part-chain .ensures),
     ))
 
-sub-if2 : tie.Need-sub-if2 Inv-loop μ-loop
-sub-if2 c = search needs
-
 returns-2 : tie.Need-returns-2 Inv-loop μ-loop
 returns-2 c =
     let s = c .before .before .before .before .before .before .before .before .before .before in
@@ -89,18 +65,6 @@ returns-2 c =
       l .inv .3,
       count-step (a .part) (a .page) (now (a .run)) (a .count) (s .pre) (l .i) (c .before .before .before .before .before .before .before .loop-test .taken) _ (c .before .before .before .before .part-chain .ensures),
     ))
-
-add-sum : tie.Need-add-sum Inv-loop μ-loop
-add-sum c = search needs
-
-add-n : tie.Need-add-n Inv-loop μ-loop
-add-n c = search needs
-
-add-i : tie.Need-add-i Inv-loop μ-loop
-add-i c = search needs
-
-loop-less : tie.Need-loop-less Inv-loop μ-loop
-loop-less c = search needs
 
 loop-again : tie.Need-loop-again Inv-loop μ-loop
 loop-again c =
@@ -128,22 +92,22 @@ sums-in-spec =
     Inv-loop
     μ-loop
     loop-holds
-    mul-part-chain
-    mul-part-chain-2
+    (search needs)
+    (search needs)
     shared-slice-read-part-chain
-    mul-part-chain-3
-    add-part-chain
-    mul-part-chain-4
+    (search needs)
+    (search needs)
+    (search needs)
     shared-slice-read-part-chain-2
-    part-chain-requires
+    (search needs)
     mul-more
-    sub-if1
+    (search needs)
     returns
-    sub-if2
+    (search needs)
     returns-2
-    add-sum
-    add-n
-    add-i
-    loop-less
+    (search needs)
+    (search needs)
+    (search needs)
+    (search needs)
     loop-again
     returns-3)

@@ -6,18 +6,6 @@ use borrow.Author.Needs.{needs}
 use Rattle.fsm_sizes.proofs.totals.totals_of.Statement.{statement}
 use Rattle.fsm_sizes.proofs.totals.totals_of.Tie as tie
 
-sums-of-requires : tie.Need-sums-of-requires
-sums-of-requires c κs = search needs
-
-enum-known-summed : tie.Need-enum-known-summed
-enum-known-summed c = search needs
-
-enum-known-summed-2 : tie.Need-enum-known-summed-2
-enum-known-summed-2 c = search needs
-
-distinct-sizes-requires : tie.Need-distinct-sizes-requires
-distinct-sizes-requires c κs = search needs
-
 returns : tie.Need-returns
 returns c =
     let a = c .before .before .before .before .before .before .before .args in
@@ -32,9 +20,9 @@ pub totals-of-spec : {M : Type 1} → statement M
 totals-of-spec =
     tie.close
     (tie.spec
-    sums-of-requires
-    enum-known-summed
-    enum-known-summed-2
-    distinct-sizes-requires
+    (search needs)
+    (search needs)
+    (search needs)
+    (search needs)
     returns
     returns-2)

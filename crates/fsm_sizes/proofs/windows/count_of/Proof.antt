@@ -16,7 +16,7 @@ use Rattle.fsm_sizes.proofs.WindowLaws.{from-all}
 use Rattle.fsm_sizes.proofs.CountLaws.{last-window, counted-on}
 use Rattle.fsm_sizes.proofs.SourceSizesLaws.{source-low}
 use Rattle.error.specs.Outcome.{sat}
-use Rattle.fsm_sizes.proofs.NoteLaws.{room-cleared}
+use Rattle.fsm_sizes.proofs.NoteLaws.{room-cleared, windowed-counted}
 use Rattle.fsm_sizes.proofs.windows.count_of.Statement.{statement}
 use Rattle.fsm_sizes.proofs.windows.count_of.Tie as tie
 
@@ -38,17 +38,14 @@ loop-holds c =
 window-of-requires : tie.Need-window-of-requires Inv-loop μ-loop
 window-of-requires c κs = let i = c .before .before .before .loop .inv in (c .before .before .before .before .before .before .before .before .before .before .pre .0, (i .0, i .1))
 
-saturating-add-requires : tie.Need-saturating-add-requires Inv-loop μ-loop
-saturating-add-requires c κs = search needs
-
 same-length : tie.Need-same-length Inv-loop μ-loop
-same-length c = c .before .before .before .before .before .before .before .before .window-of .ensures .2 ∙ c .before .before .before .before .before .before .before .before .before .before .before .before .loop .inv .2
+same-length c = c .before .before .before .before .before .before .before .before .window-of .ensures .stands .same ∙ c .before .before .before .before .before .before .before .before .before .before .before .before .loop .inv .2
 
 same-length-2 : tie.Need-same-length-2 Inv-loop μ-loop
-same-length-2 c = let e = c .before .before .before .before .before .before .before .before .window-of .ensures in e .1 .alike ∙ e .2 ∙ c .before .before .before .before .before .before .before .before .before .before .before .before .loop .inv .2 ∙ sym (c .before .before .before .before .before .before .before .before .before .before .before .before .before .before .before .before .before .before .before .pre .1 .0 .alike)
+same-length-2 c = let e = c .before .before .before .before .before .before .before .before .window-of .ensures .stands in e .room .alike ∙ e .same ∙ c .before .before .before .before .before .before .before .before .before .before .before .before .loop .inv .2 ∙ sym (c .before .before .before .before .before .before .before .before .before .before .before .before .before .before .before .before .before .before .before .pre .1 .0 .alike)
 
 same-length-3 : tie.Need-same-length-3 Inv-loop μ-loop
-same-length-3 c = c .before .before .before .before .before .before .before .before .window-of .ensures .1 .slots ∙ sym (c .before .before .before .before .before .before .before .before .before .before .before .before .before .before .before .before .before .before .before .pre .1 .0 .slots)
+same-length-3 c = let e = c .before .before .before .before .before .before .before .before .window-of .ensures .stands in e .room .slots ∙ e .same ∙ c .before .before .before .before .before .before .before .before .before .before .before .before .loop .inv .2 ∙ sym (c .before .before .before .before .before .before .before .before .before .before .before .before .before .before .before .before .before .before .before .pre .1 .0 .slots)
 
 returns : tie.Need-returns Inv-loop μ-loop
 returns c =
@@ -57,24 +54,21 @@ returns c =
     let low = source-low (a .s) (now (a .a)) (now (a .b)) (now (a .c)) (λ i. c .before .before .before .before .before .before .before .before .before .before .before .before .before .before .before .before .before .before .shared-slice-known .given i .fits)
     (λ i. c .before .before .before .before .before .before .before .before .before .before .before .before .before .before .before .before .before .shared-slice-known2 .given i .fits) (λ i. c .before .before .before .before .before .before .before .before .before .before .before .before .before .before .before .before .shared-slice-known3 .given i .fits) in
     c .before .saturating-add .ensures
-    ∙ ap (λ (m : ℕ). sat (c .before .before .before .before .before .before .before .before .before .before .before .before .loop .n + m)) (last-window l low _ _ _ (c .before .before .before .before .before .before .before .before .window-of .ensures .0) (c .if1 .taken))
+    ∙ ap (λ (m : ℕ). sat (c .before .before .before .before .before .before .before .before .before .before .before .before .loop .n + m)) (last-window l low _ _ _ (windowed-counted _ _ _ _ _ _ _ (c .before .before .before .before .before .before .before .before .window-of .ensures)) (c .if1 .taken))
     ∙ c .before .before .before .before .before .before .before .before .before .before .before .before .loop .inv .3
 
 add-from : tie.Need-add-from Inv-loop μ-loop
 add-from c = omega (arith, c .if1 .left)
 
-clear-requires : tie.Need-clear-requires Inv-loop μ-loop
-clear-requires c κs = search needs
-
 loop-less : tie.Need-loop-less Inv-loop μ-loop
-loop-less c = omega (arith, c .before .before .before .before .if1 .left, c .before .before .before .before .before .before .before .before .before .before .before .before .window-of .ensures .0 .up)
+loop-less c = omega (arith, c .before .before .before .before .if1 .left, c .before .before .before .before .before .before .before .before .before .before .before .before .window-of .ensures .up)
 
 loop-again : tie.Need-loop-again Inv-loop μ-loop
 loop-again c =
     let e = c .before .before .before .before .before .before .before .before .before .before .before .before .window-of .ensures in
     let f = c .before .before .clear .ensures in
     let l = c .before .before .before .before .before .before .before .before .before .before .before .before .before .before .before .before .loop in
-    (room-cleared _ _ _ _ (e .1) (f .0), f .1, e .2 ∙ l .inv .2, counted-on (l .n) _ _ _ _ _ (c .before .before .before .before .before .saturating-add .ensures) (e .0 .same) (l .inv .3))
+    (room-cleared _ _ _ _ (e .stands .room) (f .0), f .1, e .stands .same ∙ l .inv .2, counted-on (l .n) _ _ _ _ _ (c .before .before .before .before .before .saturating-add .ensures) (windowed-counted _ _ _ _ _ _ _ e .same) (l .inv .3))
 
 pub count-of-spec : {M : Type 1} → statement M
 count-of-spec =
@@ -84,12 +78,12 @@ count-of-spec =
     μ-loop
     loop-holds
     window-of-requires
-    saturating-add-requires
+    (search needs)
     same-length
     same-length-2
     same-length-3
     returns
     add-from
-    clear-requires
+    (search needs)
     loop-less
     loop-again)

@@ -16,9 +16,6 @@ returns c = let s = c .before .before .before .before .before .before in
     let me = s .pre .1 .1 .1 .0 in
     none-put (a .offset-size) l (a .m) me (a .address) (a .class) (now (a .out)) (c .if1 .taken)
 
-add-head : tie.Need-add-head
-add-head c = search needs
-
 sub-used : tie.Need-sub-used
 sub-used c = let s = c .before .before .before .before .before .before .before in
     let a = s .args in
@@ -54,9 +51,6 @@ part-write-fsse-start c = let s = c .before .before .before .before .before .bef
     let me = s .pre .1 .1 .1 .0 in
     list-start (a .offset-size) l (a .m) me (a .address) (a .class) (now (a .out)) (c .before .before .before .before .before .if1 .left) (a .m .len - (74 + a .offset-size)) refl _ (c .before .before .write-fshd .ensures) (s .pre .1 .1 .1 .1 .1)
 
-part-write-fsse-end : tie.Need-part-write-fsse-end
-part-write-fsse-end c = search needs
-
 write-fsse-requires : tie.Need-write-fsse-requires
 write-fsse-requires c κs = let s = c .before .before .before .before .before .before .before .before .before .before .before .before in
     let a = s .args in
@@ -66,17 +60,17 @@ write-fsse-requires c κs = let s = c .before .before .before .before .before .b
       (
         s .pre .1 .0,
         (
-          s .pre .1 .1 .0,
+          s .pre .1 .1 .0 .2,
           (
-            count-is (a .offset-size) l (a .m) me (a .address) (a .class) (now (a .out)),
-            (list-long (a .offset-size) l (a .m) me (a .address) (a .class) (now (a .out)) (c .before .before .before .before .before .before .if1 .left) (a .m .len - (74 + a .offset-size)) refl, list-room (a .offset-size) l (a .m) me (a .address) (a .class) (now (a .out)) (c .before .before .before .before .before .before .if1 .left) (a .m .len - (74 + a .offset-size)) refl _ (c .before .before .before .write-fshd .ensures) (s .pre .1 .1 .1 .1 .1)),
+            (s .pre .1 .1 .0 .0, s .pre .1 .1 .0 .1),
+            (
+              count-is (a .offset-size) l (a .m) me (a .address) (a .class) (now (a .out)),
+              (list-long (a .offset-size) l (a .m) me (a .address) (a .class) (now (a .out)) (c .before .before .before .before .before .before .if1 .left) (a .m .len - (74 + a .offset-size)) refl, list-room (a .offset-size) l (a .m) me (a .address) (a .class) (now (a .out)) (c .before .before .before .before .before .before .if1 .left) (a .m .len - (74 + a .offset-size)) refl _ (c .before .before .before .write-fshd .ensures) (s .pre .1 .1 .1 .1 .1)),
+            ),
           ),
         ),
       ),
     )
-
-same-length : tie.Need-same-length
-same-length c = search needs
 
 returns-2 : tie.Need-returns-2
 returns-2 c = let s = c .before .before .before .before .before .before .before .before .before .before .before .before .before .before .before in
@@ -90,13 +84,13 @@ put-blocks-spec =
     tie.close
     (tie.spec
     returns
-    add-head
+    (search needs)
     sub-used
     add-write-fshd
     write-fshd-requires
     sub-write-fsse
     part-write-fsse-start
-    part-write-fsse-end
+    (search needs)
     write-fsse-requires
-    same-length
+    (search needs)
     returns-2)

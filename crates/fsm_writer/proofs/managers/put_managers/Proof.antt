@@ -10,15 +10,6 @@ add-large-at c = let s = c .before .before .before .before .before .before in
     let a = s .args in
     omega (arith, ends (now (a .meta)) (now (a .raw)) (now (a .unclassified)) (a .n) (a .page) (a .start) (a .offset-size) (a .p) (s .pre .0) (now (a .out)))
 
-small-source-requires : tie.Need-small-source-requires
-small-source-requires c κs = search needs
-
-small-source-requires-2 : tie.Need-small-source-requires-2
-small-source-requires-2 c κs = search needs
-
-large-source-requires : tie.Need-large-source-requires
-large-source-requires c κs = search needs
-
 put-blocks-requires : tie.Need-put-blocks-requires
 put-blocks-requires c κs = let s = c .before .before .before .before .before .before .before .before .before .before in
     let a = s .args in
@@ -38,9 +29,6 @@ part-put-blocks-start : tie.Need-part-put-blocks-start
 part-put-blocks-start c = let s = c .before .before .before .before .before .before .before .before .before .before .before .before .before in
     let a = s .args in
     second-asked (now (a .meta)) (now (a .raw)) (now (a .unclassified)) (a .n) (a .page) (a .start) (a .offset-size) (a .p) (s .pre .0) (now (a .out)) (s .pre .1) _ _ _ (c .before .before .before .before .before .before .small-source .ensures) (c .before .before .before .before .before .small-source2 .ensures) (c .before .before .before .before .large-source .ensures) _ (c .before .before .put-blocks .ensures) .0
-
-part-put-blocks-end : tie.Need-part-put-blocks-end
-part-put-blocks-end c = search needs
 
 put-blocks-requires-2 : tie.Need-put-blocks-requires-2
 put-blocks-requires-2 c κs = let s = c .before .before .before .before .before .before .before .before .before .before .before .before .before .before in
@@ -62,16 +50,10 @@ part-put-blocks-start-2 c = let s = c .before .before .before .before .before .b
     let a = s .args in
     third-asked (now (a .meta)) (now (a .raw)) (now (a .unclassified)) (a .n) (a .page) (a .start) (a .offset-size) (a .p) (s .pre .0) (now (a .out)) (s .pre .1) _ _ _ (c .before .before .before .before .before .before .before .before .before .before .small-source .ensures) (c .before .before .before .before .before .before .before .before .before .small-source2 .ensures) (c .before .before .before .before .before .before .before .before .large-source .ensures) _ (c .before .before .before .before .before .before .put-blocks .ensures) _ (c .before .before .put-blocks2 .ensures) .0
 
-part-put-blocks-end-2 : tie.Need-part-put-blocks-end-2
-part-put-blocks-end-2 c = search needs
-
 put-blocks-requires-3 : tie.Need-put-blocks-requires-3
 put-blocks-requires-3 c κs = let s = c .before .before .before .before .before .before .before .before .before .before .before .before .before .before .before .before .before .before in
     let a = s .args in
     third-asked (now (a .meta)) (now (a .raw)) (now (a .unclassified)) (a .n) (a .page) (a .start) (a .offset-size) (a .p) (s .pre .0) (now (a .out)) (s .pre .1) _ _ _ (c .before .before .before .before .before .before .before .before .before .before .before .small-source .ensures) (c .before .before .before .before .before .before .before .before .before .before .small-source2 .ensures) (c .before .before .before .before .before .before .before .before .before .large-source .ensures) _ (c .before .before .before .before .before .before .before .put-blocks .ensures) _ (c .before .before .before .put-blocks2 .ensures) .1
-
-same-length : tie.Need-same-length
-same-length c = search needs
 
 returns : tie.Need-returns
 returns c = let s = c .before .before .before .before .before .before .before .before .before .before .before .before .before .before .before .before .before .before .before .before .before in
@@ -83,19 +65,19 @@ put-managers-spec =
     tie.close
     (tie.spec
     add-large-at
-    small-source-requires
-    small-source-requires-2
-    large-source-requires
+    (search needs)
+    (search needs)
+    (search needs)
     put-blocks-requires
     add-put-blocks
     sub-put-blocks
     part-put-blocks-start
-    part-put-blocks-end
+    (search needs)
     put-blocks-requires-2
     add-put-blocks-2
     sub-put-blocks-2
     part-put-blocks-start-2
-    part-put-blocks-end-2
+    (search needs)
     put-blocks-requires-3
-    same-length
+    (search needs)
     returns)

@@ -6,15 +6,6 @@ use borrow.Author.Needs.{needs}
 use Rattle.fsm_writer.proofs.managers.serialize_paged_managers.Statement.{statement}
 use Rattle.fsm_writer.proofs.managers.serialize_paged_managers.Tie as tie
 
-plan-blocks-requires : tie.Need-plan-blocks-requires
-plan-blocks-requires c κs = search needs
-
-enum-known-planned : tie.Need-enum-known-planned
-enum-known-planned c = search needs
-
-enum-known-planned-2 : tie.Need-enum-known-planned-2
-enum-known-planned-2 c = search needs
-
 sub-len : tie.Need-sub-len
 sub-len c = let a = c .before .before .before .before .before .before .before .before .before .args in
     omega (arith, plan-start (now (a .meta)) (now (a .raw)) (now (a .unclassified)) (a .n) (a .page) (a .start) (a .offset-size) (now (a .out)) _ (c .before .before .before .before .plan-blocks .ensures) _ (c .before .before .planned2 .given .1))
@@ -31,9 +22,6 @@ returns-2 : tie.Need-returns-2
 returns-2 c = let a = c .before .before .before .before .before .before .before .before .args in
     written-refused (now (a .meta)) (now (a .raw)) (now (a .unclassified)) (a .n) (a .page) (a .start) (a .offset-size) (now (a .out)) _ (c .before .before .before .plan-blocks .ensures) _ (c .before .planned .given .1)
 
-same-length : tie.Need-same-length
-same-length c = search needs
-
 returns-3 : tie.Need-returns-3
 returns-3 c = let a = c .before .before .before .before .before .before .before .before .before .before .before .before .before .before .args in
     written-done (now (a .meta)) (now (a .raw)) (now (a .unclassified)) (a .n) (a .page) (a .start) (a .offset-size) (now (a .out)) _ (c .before .before .before .before .before .before .before .before .before .plan-blocks .ensures) _ (c .before .before .before .before .before .before .before .planned2 .given .1) _ refl (c .before .before .before .before .if1 .left) _ (c .before .before .put-managers .ensures)
@@ -42,12 +30,12 @@ pub serialize-paged-managers-spec : {M : Type 1} → statement M
 serialize-paged-managers-spec =
     tie.close
     (tie.spec
-    plan-blocks-requires
-    enum-known-planned
-    enum-known-planned-2
+    (search needs)
+    (search needs)
+    (search needs)
     sub-len
     returns
     put-managers-requires
     returns-2
-    same-length
+    (search needs)
     returns-3)

@@ -18,47 +18,17 @@ Inv-loop counts run out₀ to₀ from₀ slot₀ out to from slot =
 abbrev μ-loop : tie.MeasureT-loop
 μ-loop counts run out₀ to₀ from₀ slot₀ out to from slot = length counts - slot
 
-slice-aggregate-write-bytes : tie.Need-slice-aggregate-write-bytes Inv-loop μ-loop
-slice-aggregate-write-bytes c = search needs
-
-write-bytes-requires : tie.Need-write-bytes-requires Inv-loop μ-loop
-write-bytes-requires c κs = search needs
-
 loop-holds : tie.Need-loop-holds Inv-loop μ-loop
 loop-holds c =
     let w = c .before .before .write-bytes in
     let a = c .before .before .before .before .before .before .before .before .args in
     (omega arith, whole-left (w .result) (slotsFrom (now (a .counts)) (now (a .run)) 0 0) (w .last .0) (after-inside 0 header (now (a .out)) (w .ensures)))
 
-mul-count : tie.Need-mul-count Inv-loop μ-loop
-mul-count c = omega arith
-
-shared-slice-read-count : tie.Need-shared-slice-read-count Inv-loop μ-loop
-shared-slice-read-count c = omega arith
-
-mul-write-slot : tie.Need-mul-write-slot Inv-loop μ-loop
-mul-write-slot c = omega arith
-
-sub-write-slot : tie.Need-sub-write-slot Inv-loop μ-loop
-sub-write-slot c = omega arith
-
-part-write-slot-start : tie.Need-part-write-slot-start Inv-loop μ-loop
-part-write-slot-start c = search needs
-
-part-write-slot-end : tie.Need-part-write-slot-end Inv-loop μ-loop
-part-write-slot-end c = search needs
-
 write-slot-requires : tie.Need-write-slot-requires Inv-loop μ-loop
 write-slot-requires c κs = c .before .before .before .before .loop .inv .1 .inside
 
 after-pairs-requires : tie.Need-after-pairs-requires Inv-loop μ-loop
 after-pairs-requires c κs = c .before .before .before .before .before .before .before .loop .inv .0
-
-add-slot : tie.Need-add-slot Inv-loop μ-loop
-add-slot c = omega arith
-
-loop-less : tie.Need-loop-less Inv-loop μ-loop
-loop-less c = omega arith
 
 loop-again : tie.Need-loop-again Inv-loop μ-loop
 loop-again c =
@@ -92,19 +62,19 @@ write-listing-spec =
     (tie.spec
     Inv-loop
     μ-loop
-    slice-aggregate-write-bytes
-    write-bytes-requires
+    (search needs)
+    (search needs)
     loop-holds
-    mul-count
-    shared-slice-read-count
-    mul-write-slot
-    sub-write-slot
-    part-write-slot-start
-    part-write-slot-end
+    (λ c. omega arith)
+    (λ c. omega arith)
+    (λ c. omega arith)
+    (λ c. omega arith)
+    (search needs)
+    (search needs)
     write-slot-requires
     after-pairs-requires
-    add-slot
-    loop-less
+    (λ c. omega arith)
+    (λ c. omega arith)
     loop-again
     same-length
     returns)

@@ -6,18 +6,6 @@ use Rattle.text.proofs.TextLaws.{then}
 use Rattle.holes_text.proofs.listing.write_row.Statement.{statement}
 use Rattle.holes_text.proofs.listing.write_row.Tie as tie
 
-write-word-requires : tie.Need-write-word-requires
-write-word-requires c κs = search needs
-
-write-word-requires-2 : tie.Need-write-word-requires-2
-write-word-requires-2 c κs = search needs
-
-write-word-requires-3 : tie.Need-write-word-requires-3
-write-word-requires-3 c κs = search needs
-
-same-length : tie.Need-same-length
-same-length c = search needs
-
 returns : tie.Need-returns
 returns c =
     let b = c .before .before .before .before .before .before in
@@ -29,4 +17,4 @@ returns c =
 pub write-row-spec : {M : Type 1} → statement M
 write-row-spec =
     tie.close
-    (tie.spec write-word-requires write-word-requires-2 write-word-requires-3 same-length returns)
+    (tie.spec (search needs) (search needs) (search needs) (search needs) returns)

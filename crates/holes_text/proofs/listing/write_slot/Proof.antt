@@ -17,40 +17,10 @@ Inv-loop out₀ at slot run count n to₀ i₀ out to i =
 abbrev μ-loop : tie.MeasureT-loop
 μ-loop out₀ at slot run count n to₀ i₀ out to i = n - i
 
-min-requires : tie.Need-min-requires Inv-loop μ-loop
-min-requires c κs = search needs
-
 loop-holds : tie.Need-loop-holds Inv-loop μ-loop
 loop-holds c =
     let a = c .before .before .before .args in
     (omega arith, lines-start (a .slot) (c .min .result) (now (a .run)) (a .count) (a .at) (now (a .out)) (c .before .before .before .pre) (c .min .ensures))
-
-mul-p : tie.Need-mul-p Inv-loop μ-loop
-mul-p c = omega arith
-
-mul-write-row : tie.Need-mul-write-row Inv-loop μ-loop
-mul-write-row c = omega arith
-
-shared-slice-read-write-row : tie.Need-shared-slice-read-write-row Inv-loop μ-loop
-shared-slice-read-write-row c = omega arith
-
-add-write-row : tie.Need-add-write-row Inv-loop μ-loop
-add-write-row c = omega arith
-
-mul-write-row-2 : tie.Need-mul-write-row-2 Inv-loop μ-loop
-mul-write-row-2 c = omega arith
-
-shared-slice-read-write-row-2 : tie.Need-shared-slice-read-write-row-2 Inv-loop μ-loop
-shared-slice-read-write-row-2 c = omega arith
-
-write-row-requires : tie.Need-write-row-requires Inv-loop μ-loop
-write-row-requires c κs = search needs
-
-add-i : tie.Need-add-i Inv-loop μ-loop
-add-i c = omega arith
-
-loop-less : tie.Need-loop-less Inv-loop μ-loop
-loop-less c = omega arith
 
 loop-again : tie.Need-loop-again Inv-loop μ-loop
 loop-again c =
@@ -79,17 +49,17 @@ write-slot-spec =
     (tie.spec
     Inv-loop
     μ-loop
-    min-requires
+    (search needs)
     loop-holds
-    mul-p
-    mul-write-row
-    shared-slice-read-write-row
-    add-write-row
-    mul-write-row-2
-    shared-slice-read-write-row-2
-    write-row-requires
-    add-i
-    loop-less
+    (λ c. omega arith)
+    (λ c. omega arith)
+    (λ c. omega arith)
+    (λ c. omega arith)
+    (λ c. omega arith)
+    (λ c. omega arith)
+    (search needs)
+    (λ c. omega arith)
+    (λ c. omega arith)
     loop-again
     same-length
     returns)

@@ -4,12 +4,6 @@ use borrow.Author.Needs.{needs}
 use Rattle.replay_calls.proofs.lines.half_digit.Statement.{statement}
 use Rattle.replay_calls.proofs.lines.half_digit.Tie as tie
 
-add-result : tie.Need-add-result
-add-result c = search needs
-
-add-result-2 : tie.Need-add-result-2
-add-result-2 c = search needs
-
 returns : tie.Need-returns
 unfolding halfDigit
 returns c =
@@ -21,4 +15,4 @@ returns-2 c =
     simp (le-ltb _ _ (c .if1 .left))
 
 pub half-digit-spec : {M : Type 1} → statement M
-half-digit-spec = tie.close (tie.spec add-result add-result-2 returns returns-2)
+half-digit-spec = tie.close (tie.spec (search needs) (search needs) returns returns-2)

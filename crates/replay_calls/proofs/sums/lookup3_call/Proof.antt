@@ -4,28 +4,10 @@ use borrow.Author.Needs.{needs}
 use Rattle.replay_calls.proofs.sums.lookup3_call.Statement.{statement}
 use Rattle.replay_calls.proofs.sums.lookup3_call.Tie as tie
 
-bad-requires : tie.Need-bad-requires
-bad-requires c κs = search needs
-
-same-length : tie.Need-same-length
-same-length c = search needs
-
 returns : tie.Need-returns
 returns c =
     let a = c .before .before .before .before .before .before .before .before .args in
     lookup3-bad (now (a .args)) (now (a .«data»)) (now (a .out)) (c .before .before .before .before .if1 .taken) (c .before .before .bad .ensures)
-
-jenkins-lookup3-requires : tie.Need-jenkins-lookup3-requires
-jenkins-lookup3-requires c κs = search needs
-
-cast-number-line : tie.Need-cast-number-line
-cast-number-line c = search needs
-
-number-line-requires : tie.Need-number-line-requires
-number-line-requires c κs = search needs
-
-same-length-2 : tie.Need-same-length-2
-same-length-2 c = search needs
 
 returns-2 : tie.Need-returns-2
 returns-2 c =
@@ -36,11 +18,11 @@ pub lookup3-call-spec : {M : Type 1} → statement M
 lookup3-call-spec =
     tie.close
     (tie.spec
-    bad-requires
-    same-length
+    (search needs)
+    (search needs)
     returns
-    jenkins-lookup3-requires
-    cast-number-line
-    number-line-requires
-    same-length-2
+    (search needs)
+    (search needs)
+    (search needs)
+    (search needs)
     returns-2)

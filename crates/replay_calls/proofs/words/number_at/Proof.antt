@@ -20,33 +20,6 @@ loop-holds c =
     let a = c .before .args in
     (search needs, search needs, spell-start (a .at) (now (a .text)))
 
-shared-slice-read-digit-of : tie.Need-shared-slice-read-digit-of Inv-loop μ-loop
-shared-slice-read-digit-of c = search needs
-
-digit-of-requires : tie.Need-digit-of-requires Inv-loop μ-loop
-digit-of-requires c κs = search needs
-
-returns : tie.Need-returns Inv-loop μ-loop
-returns c = search needs
-
-sub-if2 : tie.Need-sub-if2 Inv-loop μ-loop
-sub-if2 c = search needs
-
-returns-2 : tie.Need-returns-2 Inv-loop μ-loop
-returns-2 c = search needs
-
-mul-value : tie.Need-mul-value Inv-loop μ-loop
-mul-value c = search needs
-
-add-value : tie.Need-add-value Inv-loop μ-loop
-add-value c = search needs
-
-add-i : tie.Need-add-i Inv-loop μ-loop
-add-i c = search needs
-
-loop-less : tie.Need-loop-less Inv-loop μ-loop
-loop-less c = search needs
-
 loop-again : tie.Need-loop-again Inv-loop μ-loop
 loop-again c =
     let l = c .before .before .before .before .before .loop in
@@ -56,9 +29,6 @@ loop-again c =
     let there : l .i < length (now (a .text)) = omega arith in
     (search needs, search needs, spell-step (a .at) (l .i) (now (a .text)) (l .inv .0) there (l .inv .2) (d .ensures .1 small))
 
-returns-3 : tie.Need-returns-3 Inv-loop μ-loop
-returns-3 c = search needs
-
 pub number-at-spec : {M : Type 1} → statement M
 number-at-spec =
     tie.close
@@ -66,14 +36,14 @@ number-at-spec =
     Inv-loop
     μ-loop
     loop-holds
-    shared-slice-read-digit-of
-    digit-of-requires
-    returns
-    sub-if2
-    returns-2
-    mul-value
-    add-value
-    add-i
-    loop-less
+    (search needs)
+    (search needs)
+    (search needs)
+    (search needs)
+    (search needs)
+    (search needs)
+    (search needs)
+    (search needs)
+    (search needs)
     loop-again
-    returns-3)
+    (search needs))

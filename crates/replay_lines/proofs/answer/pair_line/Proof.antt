@@ -6,15 +6,6 @@ use borrow.Author.Needs.{needs}
 use Rattle.replay_lines.proofs.answer.pair_line.Statement.{statement}
 use Rattle.replay_lines.proofs.answer.pair_line.Tie as tie
 
-write-bytes-requires : tie.Need-write-bytes-requires
-write-bytes-requires c κs = search needs
-
-put-two-requires : tie.Need-put-two-requires
-put-two-requires c κs = search needs
-
-same-length : tie.Need-same-length
-same-length c = search needs
-
 returns : tie.Need-returns
 returns c =
     let b = c .before .before .before .before .before .before in
@@ -22,4 +13,4 @@ returns c =
     then 0 (now (a .word)) (word (a .first) 32 ++ word (a .second) 10) (now (a .out)) (b .write-bytes .ensures) (c .before .before .put-two .ensures)
 
 pub pair-line-spec : {M : Type 1} → statement M
-pair-line-spec = tie.close (tie.spec write-bytes-requires put-two-requires same-length returns)
+pair-line-spec = tie.close (tie.spec (search needs) (search needs) (search needs) returns)

@@ -6,18 +6,6 @@ use borrow.Author.Needs.{needs}
 use Rattle.replay_lines.proofs.answer.plain_refusal.Statement.{statement}
 use Rattle.replay_lines.proofs.answer.plain_refusal.Tie as tie
 
-slice-aggregate-write-bytes : tie.Need-slice-aggregate-write-bytes
-slice-aggregate-write-bytes c = search needs
-
-write-bytes-requires : tie.Need-write-bytes-requires
-write-bytes-requires c κs = search needs
-
-write-word-requires : tie.Need-write-word-requires
-write-word-requires c κs = search needs
-
-same-length : tie.Need-same-length
-same-length c = search needs
-
 returns : tie.Need-returns
 returns c =
     let b = c .before .before .before .before .before .before in
@@ -28,8 +16,8 @@ pub plain-refusal-spec : {M : Type 1} → statement M
 plain-refusal-spec =
     tie.close
     (tie.spec
-    slice-aggregate-write-bytes
-    write-bytes-requires
-    write-word-requires
-    same-length
+    (search needs)
+    (search needs)
+    (search needs)
+    (search needs)
     returns)

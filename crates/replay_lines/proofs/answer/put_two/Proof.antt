@@ -5,15 +5,6 @@ use borrow.Author.Needs.{needs}
 use Rattle.replay_lines.proofs.answer.put_two.Statement.{statement}
 use Rattle.replay_lines.proofs.answer.put_two.Tie as tie
 
-write-word-requires : tie.Need-write-word-requires
-write-word-requires c κs = search needs
-
-write-word-requires-2 : tie.Need-write-word-requires-2
-write-word-requires-2 c κs = search needs
-
-same-length : tie.Need-same-length
-same-length c = search needs
-
 returns : tie.Need-returns
 returns c =
     let b = c .before .before .before .before .before .before in
@@ -21,4 +12,4 @@ returns c =
     then (a .at) (word (a .first) 32) (word (a .second) 10) (now (a .out)) (b .write-word .ensures) (c .before .before .write-word2 .ensures)
 
 pub put-two-spec : {M : Type 1} → statement M
-put-two-spec = tie.close (tie.spec write-word-requires write-word-requires-2 same-length returns)
+put-two-spec = tie.close (tie.spec (search needs) (search needs) (search needs) returns)

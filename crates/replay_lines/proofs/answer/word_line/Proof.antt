@@ -5,15 +5,6 @@ use borrow.Author.Needs.{needs}
 use Rattle.replay_lines.proofs.answer.word_line.Statement.{statement}
 use Rattle.replay_lines.proofs.answer.word_line.Tie as tie
 
-write-bytes-requires : tie.Need-write-bytes-requires
-write-bytes-requires c κs = search needs
-
-write-word-requires : tie.Need-write-word-requires
-write-word-requires c κs = search needs
-
-same-length : tie.Need-same-length
-same-length c = search needs
-
 returns : tie.Need-returns
 returns c =
     let b = c .before .before .before .before .before .before in
@@ -21,4 +12,4 @@ returns c =
     then 0 (now (a .word)) (word (a .n) 10) (now (a .out)) (b .write-bytes .ensures) (c .before .before .write-word .ensures)
 
 pub word-line-spec : {M : Type 1} → statement M
-word-line-spec = tie.close (tie.spec write-bytes-requires write-word-requires same-length returns)
+word-line-spec = tie.close (tie.spec (search needs) (search needs) (search needs) returns)

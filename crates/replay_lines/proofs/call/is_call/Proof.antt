@@ -21,23 +21,11 @@ returns c =
     let l = c .before .before .loop in
     agree-short (now (a .name)) (now (a .line)) (l .i) (l .inv) (search needs) (search needs)
 
-shared-slice-read-if2 : tie.Need-shared-slice-read-if2 Inv-loop μ-loop
-shared-slice-read-if2 c = search needs
-
-shared-slice-read-if2-2 : tie.Need-shared-slice-read-if2-2 Inv-loop μ-loop
-shared-slice-read-if2-2 c = search needs
-
 returns-2 : tie.Need-returns-2 Inv-loop μ-loop
 returns-2 c =
     let a = c .before .before .before .before .before .before .args in
     let l = c .before .before .before .before .before .loop in
     agree-no (now (a .name)) (now (a .line)) (l .i) (l .inv) (search needs) (search needs) (c .if2 .taken)
-
-add-i : tie.Need-add-i Inv-loop μ-loop
-add-i c = search needs
-
-loop-less : tie.Need-loop-less Inv-loop μ-loop
-loop-less c = search needs
 
 loop-again : tie.Need-loop-again Inv-loop μ-loop
 loop-again c =
@@ -50,9 +38,6 @@ returns-3 c =
     let a = c .before .before .before .args in
     let l = c .before .before .loop in
     agree-whole (now (a .name)) (now (a .line)) (l .i) (l .inv) (search needs) (search needs)
-
-shared-slice-read-result : tie.Need-shared-slice-read-result Inv-loop μ-loop
-shared-slice-read-result c = search needs
 
 returns-4 : tie.Need-returns-4 Inv-loop μ-loop
 returns-4 c =
@@ -68,12 +53,12 @@ is-call-spec =
     μ-loop
     loop-holds
     returns
-    shared-slice-read-if2
-    shared-slice-read-if2-2
+    (search needs)
+    (search needs)
     returns-2
-    add-i
-    loop-less
+    (search needs)
+    (search needs)
     loop-again
     returns-3
-    shared-slice-read-result
+    (search needs)
     returns-4)

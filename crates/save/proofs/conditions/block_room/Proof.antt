@@ -9,18 +9,9 @@ use borrow.Author.Needs.{needs}
 use Rattle.save.proofs.conditions.block_room.Statement.{statement}
 use Rattle.save.proofs.conditions.block_room.Tie as tie
 
-saturating-sub-requires : tie.Need-saturating-sub-requires
-saturating-sub-requires c κs = search needs
-
 add-if1 : tie.Need-add-if1
 add-if1 c = let s = c .before .before .before in
     omega (arith, leb-true _ (length (now (s .args .image))) (s .pre))
-
-saturating-sub-requires-2 : tie.Need-saturating-sub-requires-2
-saturating-sub-requires-2 c κs = search needs
-
-min-requires : tie.Need-min-requires
-min-requires c κs = search needs
 
 returns : tie.Need-returns
 returns c = let a = c .before .before .before .before .before .before .before .args in
@@ -35,9 +26,9 @@ pub block-room-spec : {M : Type 1} → statement M
 block-room-spec =
     tie.close
     (tie.spec
-    saturating-sub-requires
+    (search needs)
     add-if1
-    saturating-sub-requires-2
-    min-requires
+    (search needs)
+    (search needs)
     returns
     returns-2)

@@ -88,12 +88,6 @@ returns c =
     let t = c .before .before .before .before .loop-test in
     way-found (a .start) (a .place) (now (a .run)) (a .list) (pre .0) (l .i) (l .inv .1) (t .taken) _ (c .before .is-in-the-way .ensures) (c .if1 .taken)
 
-add-i : tie.Need-add-i Inv-loop μ-loop
-add-i c = search needs
-
-loop-less : tie.Need-loop-less Inv-loop μ-loop
-loop-less c = search needs
-
 loop-again : tie.Need-loop-again Inv-loop μ-loop
 loop-again c =
     let a = c .before .before .before .before .before .before .before .args in
@@ -124,7 +118,7 @@ in-the-way-spec =
     shared-slice-read-is-in-the-way-2
     is-in-the-way-requires
     returns
-    add-i
-    loop-less
+    (search needs)
+    (search needs)
     loop-again
     returns-2)

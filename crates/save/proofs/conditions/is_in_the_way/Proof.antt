@@ -8,17 +8,11 @@ use mathlib.Core.Path.{refl, _∙_}
 use Rattle.save.proofs.conditions.is_in_the_way.Statement.{statement}
 use Rattle.save.proofs.conditions.is_in_the_way.Tie as tie
 
-add-if1 : tie.Need-add-if1
-add-if1 c = search needs
-
 returns : tie.Need-returns
 returns c =
     let a = c .before .args in
     or-decides _ (ltb (a .start) (a .addr + a .len)) (meets (region (a .place) 125) (region (a .addr) (a .len))) refl
     (lt-ltb (a .start) (a .addr + a .len) (c .if1 .taken))
-
-meet-requires : tie.Need-meet-requires
-meet-requires c κs = search needs
 
 returns-2 : tie.Need-returns-2
 returns-2 c =
@@ -27,4 +21,4 @@ returns-2 c =
     (le-ltb (a .start) (a .addr + a .len) (c .before .if1 .left))
 
 pub is-in-the-way-spec : {M : Type 1} → statement M
-is-in-the-way-spec = tie.close (tie.spec add-if1 returns meet-requires returns-2)
+is-in-the-way-spec = tie.close (tie.spec (search needs) returns (search needs) returns-2)

@@ -11,38 +11,8 @@ use borrow.Author.Needs.{needs}
 use Rattle.save.proofs.fill.begin_after.Statement.{statement}
 use Rattle.save.proofs.fill.begin_after.Tie as tie
 
-counts-of-requires : tie.Need-counts-of-requires
-counts-of-requires c κs = search needs
-
 block-room-requires : tie.Need-block-room-requires
 block-room-requires c κs = search needs
-
-saturating-sub-requires : tie.Need-saturating-sub-requires
-saturating-sub-requires c κs = search needs
-
-min-requires : tie.Need-min-requires
-min-requires c κs = search needs
-
-sub-serialize-paged-managers : tie.Need-sub-serialize-paged-managers
-sub-serialize-paged-managers c = search needs
-
-part-serialize-paged-managers-start : tie.Need-part-serialize-paged-managers-start
-part-serialize-paged-managers-start c = search needs
-
-part-serialize-paged-managers-end : tie.Need-part-serialize-paged-managers-end
-part-serialize-paged-managers-end c = search needs
-
-serialize-paged-managers-requires : tie.Need-serialize-paged-managers-requires
-serialize-paged-managers-requires c κs = search needs
-
-enum-known-planned : tie.Need-enum-known-planned
-enum-known-planned c = search needs
-
-number-requires : tie.Need-number-requires
-number-requires c κs = search needs
-
-same-length : tie.Need-same-length
-same-length c = search needs
 
 returns : tie.Need-returns
 returns c = let s = c .before .before .before .before .before .before .before .before .before .before .before .before .before .before .before .before .before .before in
@@ -50,15 +20,9 @@ returns c = let s = c .before .before .before .before .before .before .before .b
     let k = c .before .before .before .before .before .before .before .before .before .min .result - 0 in
     let lent : k ≡ min (c .before .before .before .before .before .before .before .before .before .before .before .block-room .result) (length (now (a .scratch)) - 125) = omega (arith, c .before .before .before .before .before .before .before .before .before .min .ensures, c .before .before .before .before .before .before .before .before .before .before .saturating-sub .ensures) in
     let x = c .before .before .before .before .before .before .before .serialize-paged-managers .ensures
-    ∙ ap (λ (n : Counts). leaving (take k (now (a .scratch))) (writtenManagers (now (a .meta)) (now (a .raw)) (now (a .unclassified)) n (a .to .page) (a .to .start) 8 (take k (now (a .scratch)))))
+    ∙ ap (λ (n : Counts). leaving (take k (now (a .scratch))) (writtenManagers (now (a .meta)) (now (a .raw)) (now (a .unclassified)) n (a .q .to .page) (a .q .to .start) 8 (take k (now (a .scratch)))))
     (c .before .before .before .before .before .before .before .before .before .before .before .before .counts-of .ensures) in
-    large-refused (now (a .meta)) (now (a .raw)) (now (a .unclassified)) (a .lists) (a .to .page) (a .to .start) (a .to .place) (now (a .image)) (now (a .scratch)) (s .pre .0 .0) (s .pre .0 .1) (s .pre .1 .0) (c .before .before .before .before .before .before .before .before .before .before .before .block-room .result) (c .before .before .before .before .before .before .before .before .before .before .before .block-room .ensures) k lent _ _ x _ (c .before .before .before .planned .given .1) (sym (c .before .number .ensures) ∙ c .if1 .taken)
-
-needed-of-requires : tie.Need-needed-of-requires
-needed-of-requires c κs = search needs
-
-same-length-2 : tie.Need-same-length-2
-same-length-2 c = search needs
+    large-refused (now (a .meta)) (now (a .raw)) (now (a .unclassified)) (a .q .lists) (a .q .to .page) (a .q .to .start) (a .q .to .place) (now (a .image)) (now (a .scratch)) (s .pre .0 .0) (s .pre .0 .1) (s .pre .1 .0) (c .before .before .before .before .before .before .before .before .before .before .before .block-room .result) (c .before .before .before .before .before .before .before .before .before .before .before .block-room .ensures) k lent _ _ x _ (c .before .before .before .planned .given .1) (sym (c .before .number .ensures) ∙ c .if1 .taken)
 
 returns-2 : tie.Need-returns-2
 returns-2 c = let s = c .before .before .before .before .before .before .before .before .before .before .before .before .before .before .before .before .before .before .before .before in
@@ -66,9 +30,9 @@ returns-2 c = let s = c .before .before .before .before .before .before .before 
     let k = c .before .before .before .before .before .before .before .before .before .before .before .min .result - 0 in
     let lent : k ≡ min (c .before .before .before .before .before .before .before .before .before .before .before .before .before .block-room .result) (length (now (a .scratch)) - 125) = omega (arith, c .before .before .before .before .before .before .before .before .before .before .before .min .ensures, c .before .before .before .before .before .before .before .before .before .before .before .before .saturating-sub .ensures) in
     let x = c .before .before .before .before .before .before .before .before .before .serialize-paged-managers .ensures
-    ∙ ap (λ (n : Counts). leaving (take k (now (a .scratch))) (writtenManagers (now (a .meta)) (now (a .raw)) (now (a .unclassified)) n (a .to .page) (a .to .start) 8 (take k (now (a .scratch)))))
+    ∙ ap (λ (n : Counts). leaving (take k (now (a .scratch))) (writtenManagers (now (a .meta)) (now (a .raw)) (now (a .unclassified)) n (a .q .to .page) (a .q .to .start) 8 (take k (now (a .scratch)))))
     (c .before .before .before .before .before .before .before .before .before .before .before .before .before .before .counts-of .ensures) in
-    blocks-refused (now (a .meta)) (now (a .raw)) (now (a .unclassified)) (a .lists) (a .to .page) (a .to .start) (a .to .place) (now (a .image)) (now (a .scratch)) (s .pre .0 .0) (s .pre .0 .1) (s .pre .1 .0) (c .before .before .before .before .before .before .before .before .before .before .before .before .before .block-room .result) (c .before .before .before .before .before .before .before .before .before .before .before .before .before .block-room .ensures) k lent _ _ x _ (c .before .before .before .before .before .planned .given .1) (λ z. c .before .before .if1 .left (c .before .before .before .number .ensures ∙ z)) _ (c .before .needed-of .ensures) (c .if2 .taken)
+    blocks-refused (now (a .meta)) (now (a .raw)) (now (a .unclassified)) (a .q .lists) (a .q .to .page) (a .q .to .start) (a .q .to .place) (now (a .image)) (now (a .scratch)) (s .pre .0 .0) (s .pre .0 .1) (s .pre .1 .0) (c .before .before .before .before .before .before .before .before .before .before .before .before .before .block-room .result) (c .before .before .before .before .before .before .before .before .before .before .before .before .before .block-room .ensures) k lent _ _ x _ (c .before .before .before .before .before .planned .given .1) (λ z. c .before .before .if1 .left (c .before .before .before .number .ensures ∙ z)) _ (c .before .needed-of .ensures) (c .if2 .taken)
 
 refuse-room-requires : tie.Need-refuse-room-requires
 refuse-room-requires c κs = let s = c .before .before .before .before .before .before .before .before .before .before .before .before .before .before .before .before .before .before .before .before in
@@ -76,12 +40,9 @@ refuse-room-requires c κs = let s = c .before .before .before .before .before .
     let k = c .before .before .before .before .before .before .before .before .before .before .before .min .result - 0 in
     let lent : k ≡ min (c .before .before .before .before .before .before .before .before .before .before .before .before .before .block-room .result) (length (now (a .scratch)) - 125) = omega (arith, c .before .before .before .before .before .before .before .before .before .before .before .min .ensures, c .before .before .before .before .before .before .before .before .before .before .before .before .saturating-sub .ensures) in
     let x = c .before .before .before .before .before .before .before .before .before .serialize-paged-managers .ensures
-    ∙ ap (λ (n : Counts). leaving (take k (now (a .scratch))) (writtenManagers (now (a .meta)) (now (a .raw)) (now (a .unclassified)) n (a .to .page) (a .to .start) 8 (take k (now (a .scratch)))))
+    ∙ ap (λ (n : Counts). leaving (take k (now (a .scratch))) (writtenManagers (now (a .meta)) (now (a .raw)) (now (a .unclassified)) n (a .q .to .page) (a .q .to .start) 8 (take k (now (a .scratch)))))
     (c .before .before .before .before .before .before .before .before .before .before .before .before .before .before .counts-of .ensures) in
-    omega (arith, needed-low (now (a .meta)) (now (a .raw)) (now (a .unclassified)) (a .lists) (a .to .page) (a .to .start) (a .to .place) (now (a .image)) (now (a .scratch)) (s .pre .0 .0) (s .pre .0 .1) (s .pre .1 .0) (c .before .before .before .before .before .before .before .before .before .before .before .before .before .block-room .result) (c .before .before .before .before .before .before .before .before .before .before .before .before .before .block-room .ensures) k lent _ _ x _ (c .before .before .before .before .before .planned .given .1) (λ z. c .before .before .if1 .left (c .before .before .before .number .ensures ∙ z)) _ (c .before .needed-of .ensures) (c .if2 .left))
-
-enum-known-planned-2 : tie.Need-enum-known-planned-2
-enum-known-planned-2 c = search needs
+    omega (arith, needed-low (now (a .meta)) (now (a .raw)) (now (a .unclassified)) (a .q .lists) (a .q .to .page) (a .q .to .start) (a .q .to .place) (now (a .image)) (now (a .scratch)) (s .pre .0 .0) (s .pre .0 .1) (s .pre .1 .0) (c .before .before .before .before .before .before .before .before .before .before .before .before .before .block-room .result) (c .before .before .before .before .before .before .before .before .before .before .before .before .before .block-room .ensures) k lent _ _ x _ (c .before .before .before .before .before .planned .given .1) (λ z. c .before .before .if1 .left (c .before .before .before .number .ensures ∙ z)) _ (c .before .needed-of .ensures) (c .if2 .left))
 
 sub-len : tie.Need-sub-len
 sub-len c = let s = c .before .before .before .before .before .before .before .before .before .before .before .before .before .before .before .before .before .before in
@@ -89,9 +50,9 @@ sub-len c = let s = c .before .before .before .before .before .before .before .b
     let k = c .before .before .before .before .before .before .before .before .before .min .result - 0 in
     let lent : k ≡ min (c .before .before .before .before .before .before .before .before .before .before .before .block-room .result) (length (now (a .scratch)) - 125) = omega (arith, c .before .before .before .before .before .before .before .before .before .min .ensures, c .before .before .before .before .before .before .before .before .before .before .saturating-sub .ensures) in
     let x = c .before .before .before .before .before .before .before .serialize-paged-managers .ensures
-    ∙ ap (λ (n : Counts). leaving (take k (now (a .scratch))) (writtenManagers (now (a .meta)) (now (a .raw)) (now (a .unclassified)) n (a .to .page) (a .to .start) 8 (take k (now (a .scratch)))))
+    ∙ ap (λ (n : Counts). leaving (take k (now (a .scratch))) (writtenManagers (now (a .meta)) (now (a .raw)) (now (a .unclassified)) n (a .q .to .page) (a .q .to .start) 8 (take k (now (a .scratch)))))
     (c .before .before .before .before .before .before .before .before .before .before .before .before .counts-of .ensures) in
-    omega (arith, plan-start (now (a .meta)) (now (a .raw)) (now (a .unclassified)) (a .lists) (a .to .page) (a .to .start) (a .to .place) (now (a .image)) (now (a .scratch)) (s .pre .0 .0) (s .pre .0 .1) (s .pre .1 .0) (c .before .before .before .before .before .before .before .before .before .before .before .block-room .result) (c .before .before .before .before .before .before .before .before .before .before .before .block-room .ensures) k lent _ _ x _ (c .before .before .before .planned2 .given .1))
+    omega (arith, plan-start (now (a .meta)) (now (a .raw)) (now (a .unclassified)) (a .q .lists) (a .q .to .page) (a .q .to .start) (a .q .to .place) (now (a .image)) (now (a .scratch)) (s .pre .0 .0) (s .pre .0 .1) (s .pre .1 .0) (c .before .before .before .before .before .before .before .before .before .before .before .block-room .result) (c .before .before .before .before .before .before .before .before .before .before .before .block-room .ensures) k lent _ _ x _ (c .before .before .before .planned2 .given .1))
 
 refuse-room-requires-2 : tie.Need-refuse-room-requires-2
 refuse-room-requires-2 c κs = let s = c .before .before .before .before .before .before .before .before .before .before .before .before .before .before .before .before .before .before .before in
@@ -99,12 +60,9 @@ refuse-room-requires-2 c κs = let s = c .before .before .before .before .before
     let k = c .before .before .before .before .before .before .before .before .before .before .min .result - 0 in
     let lent : k ≡ min (c .before .before .before .before .before .before .before .before .before .before .before .before .block-room .result) (length (now (a .scratch)) - 125) = omega (arith, c .before .before .before .before .before .before .before .before .before .before .min .ensures, c .before .before .before .before .before .before .before .before .before .before .before .saturating-sub .ensures) in
     let x = c .before .before .before .before .before .before .before .before .serialize-paged-managers .ensures
-    ∙ ap (λ (n : Counts). leaving (take k (now (a .scratch))) (writtenManagers (now (a .meta)) (now (a .raw)) (now (a .unclassified)) n (a .to .page) (a .to .start) 8 (take k (now (a .scratch)))))
+    ∙ ap (λ (n : Counts). leaving (take k (now (a .scratch))) (writtenManagers (now (a .meta)) (now (a .raw)) (now (a .unclassified)) n (a .q .to .page) (a .q .to .start) 8 (take k (now (a .scratch)))))
     (c .before .before .before .before .before .before .before .before .before .before .before .before .before .counts-of .ensures) in
-    omega (arith, len-low (now (a .meta)) (now (a .raw)) (now (a .unclassified)) (a .lists) (a .to .page) (a .to .start) (a .to .place) (now (a .image)) (now (a .scratch)) (s .pre .0 .0) (s .pre .0 .1) (s .pre .1 .0) (c .before .before .before .before .before .before .before .before .before .before .before .before .block-room .result) (c .before .before .before .before .before .before .before .before .before .before .before .before .block-room .ensures) k lent _ _ x _ (c .before .before .before .before .planned2 .given .1))
-
-same-length-3 : tie.Need-same-length-3
-same-length-3 c = search needs
+    omega (arith, len-low (now (a .meta)) (now (a .raw)) (now (a .unclassified)) (a .q .lists) (a .q .to .page) (a .q .to .start) (a .q .to .place) (now (a .image)) (now (a .scratch)) (s .pre .0 .0) (s .pre .0 .1) (s .pre .1 .0) (c .before .before .before .before .before .before .before .before .before .before .before .before .block-room .result) (c .before .before .before .before .before .before .before .before .before .before .before .before .block-room .ensures) k lent _ _ x _ (c .before .before .before .before .planned2 .given .1))
 
 returns-3 : tie.Need-returns-3
 returns-3 c = let s = c .before .before .before .before .before .before .before .before .before .before .before .before .before .before .before .before .before .before .before .before in
@@ -112,9 +70,9 @@ returns-3 c = let s = c .before .before .before .before .before .before .before 
     let k = c .before .before .before .before .before .before .before .before .before .before .before .min .result - 0 in
     let lent : k ≡ min (c .before .before .before .before .before .before .before .before .before .before .before .before .before .block-room .result) (length (now (a .scratch)) - 125) = omega (arith, c .before .before .before .before .before .before .before .before .before .before .before .min .ensures, c .before .before .before .before .before .before .before .before .before .before .before .before .saturating-sub .ensures) in
     let x = c .before .before .before .before .before .before .before .before .before .serialize-paged-managers .ensures
-    ∙ ap (λ (n : Counts). leaving (take k (now (a .scratch))) (writtenManagers (now (a .meta)) (now (a .raw)) (now (a .unclassified)) n (a .to .page) (a .to .start) 8 (take k (now (a .scratch)))))
+    ∙ ap (λ (n : Counts). leaving (take k (now (a .scratch))) (writtenManagers (now (a .meta)) (now (a .raw)) (now (a .unclassified)) n (a .q .to .page) (a .q .to .start) 8 (take k (now (a .scratch)))))
     (c .before .before .before .before .before .before .before .before .before .before .before .before .before .before .counts-of .ensures) in
-    message-refused (now (a .meta)) (now (a .raw)) (now (a .unclassified)) (a .lists) (a .to .page) (a .to .start) (a .to .place) (now (a .image)) (now (a .scratch)) (s .pre .0 .0) (s .pre .0 .1) (s .pre .1 .0) (c .before .before .before .before .before .before .before .before .before .before .before .before .before .block-room .result) (c .before .before .before .before .before .before .before .before .before .before .before .before .before .block-room .ensures) k lent _ _ x _ (c .before .before .before .before .before .planned2 .given .1) (c .before .if3 .taken) _ (c .refuse-room2 .ensures)
+    message-refused (now (a .meta)) (now (a .raw)) (now (a .unclassified)) (a .q .lists) (a .q .to .page) (a .q .to .start) (a .q .to .place) (now (a .image)) (now (a .scratch)) (s .pre .0 .0) (s .pre .0 .1) (s .pre .1 .0) (c .before .before .before .before .before .before .before .before .before .before .before .before .before .block-room .result) (c .before .before .before .before .before .before .before .before .before .before .before .before .before .block-room .ensures) k lent _ _ x _ (c .before .before .before .before .before .planned2 .given .1) (c .before .if3 .taken) _ (c .refuse-room2 .ensures)
 
 put-message-requires : tie.Need-put-message-requires
 put-message-requires c κs = let s = c .before .before .before .before .before .before .before .before .before .before .before .before .before .before .before .before .before .before .before .before in
@@ -122,12 +80,9 @@ put-message-requires c κs = let s = c .before .before .before .before .before .
     let k = c .before .before .before .before .before .before .before .before .before .before .before .min .result - 0 in
     let lent : k ≡ min (c .before .before .before .before .before .before .before .before .before .before .before .before .before .block-room .result) (length (now (a .scratch)) - 125) = omega (arith, c .before .before .before .before .before .before .before .before .before .before .before .min .ensures, c .before .before .before .before .before .before .before .before .before .before .before .before .saturating-sub .ensures) in
     let x = c .before .before .before .before .before .before .before .before .before .serialize-paged-managers .ensures
-    ∙ ap (λ (n : Counts). leaving (take k (now (a .scratch))) (writtenManagers (now (a .meta)) (now (a .raw)) (now (a .unclassified)) n (a .to .page) (a .to .start) 8 (take k (now (a .scratch)))))
+    ∙ ap (λ (n : Counts). leaving (take k (now (a .scratch))) (writtenManagers (now (a .meta)) (now (a .raw)) (now (a .unclassified)) n (a .q .to .page) (a .q .to .start) 8 (take k (now (a .scratch)))))
     (c .before .before .before .before .before .before .before .before .before .before .before .before .before .before .counts-of .ensures) in
-    (plan-start (now (a .meta)) (now (a .raw)) (now (a .unclassified)) (a .lists) (a .to .page) (a .to .start) (a .to .place) (now (a .image)) (now (a .scratch)) (s .pre .0 .0) (s .pre .0 .1) (s .pre .1 .0) (c .before .before .before .before .before .before .before .before .before .before .before .before .before .block-room .result) (c .before .before .before .before .before .before .before .before .before .before .before .before .before .block-room .ensures) k lent _ _ x _ (c .before .before .before .before .before .planned2 .given .1), message-room (now (a .meta)) (now (a .raw)) (now (a .unclassified)) (a .lists) (a .to .page) (a .to .start) (a .to .place) (now (a .image)) (now (a .scratch)) (s .pre .0 .0) (s .pre .0 .1) (s .pre .1 .0) (c .before .before .before .before .before .before .before .before .before .before .before .before .before .block-room .result) (c .before .before .before .before .before .before .before .before .before .before .before .before .before .block-room .ensures) k lent _ _ x _ (c .before .before .before .before .before .planned2 .given .1) (c .before .if3 .left))
-
-same-length-4 : tie.Need-same-length-4
-same-length-4 c = search needs
+    (plan-start (now (a .meta)) (now (a .raw)) (now (a .unclassified)) (a .q .lists) (a .q .to .page) (a .q .to .start) (a .q .to .place) (now (a .image)) (now (a .scratch)) (s .pre .0 .0) (s .pre .0 .1) (s .pre .1 .0) (c .before .before .before .before .before .before .before .before .before .before .before .before .before .block-room .result) (c .before .before .before .before .before .before .before .before .before .before .before .before .before .block-room .ensures) k lent _ _ x _ (c .before .before .before .before .before .planned2 .given .1), message-room (now (a .meta)) (now (a .raw)) (now (a .unclassified)) (a .q .lists) (a .q .to .page) (a .q .to .start) (a .q .to .place) (now (a .image)) (now (a .scratch)) (s .pre .0 .0) (s .pre .0 .1) (s .pre .1 .0) (c .before .before .before .before .before .before .before .before .before .before .before .before .before .block-room .result) (c .before .before .before .before .before .before .before .before .before .before .before .before .before .block-room .ensures) k lent _ _ x _ (c .before .before .before .before .before .planned2 .given .1) (c .before .if3 .left))
 
 returns-4 : tie.Need-returns-4
 returns-4 c = let s = c .before .before .before .before .before .before .before .before .before .before .before .before .before .before .before .before .before .before .before .before .before in
@@ -135,12 +90,9 @@ returns-4 c = let s = c .before .before .before .before .before .before .before 
     let k = c .before .before .before .before .before .before .before .before .before .before .before .before .min .result - 0 in
     let lent : k ≡ min (c .before .before .before .before .before .before .before .before .before .before .before .before .before .before .block-room .result) (length (now (a .scratch)) - 125) = omega (arith, c .before .before .before .before .before .before .before .before .before .before .before .before .min .ensures, c .before .before .before .before .before .before .before .before .before .before .before .before .before .saturating-sub .ensures) in
     let x = c .before .before .before .before .before .before .before .before .before .before .serialize-paged-managers .ensures
-    ∙ ap (λ (n : Counts). leaving (take k (now (a .scratch))) (writtenManagers (now (a .meta)) (now (a .raw)) (now (a .unclassified)) n (a .to .page) (a .to .start) 8 (take k (now (a .scratch)))))
+    ∙ ap (λ (n : Counts). leaving (take k (now (a .scratch))) (writtenManagers (now (a .meta)) (now (a .raw)) (now (a .unclassified)) n (a .q .to .page) (a .q .to .start) 8 (take k (now (a .scratch)))))
     (c .before .before .before .before .before .before .before .before .before .before .before .before .before .before .before .counts-of .ensures) in
-    scratch-refused (now (a .meta)) (now (a .raw)) (now (a .unclassified)) (a .lists) (a .to .page) (a .to .start) (a .to .place) (now (a .image)) (now (a .scratch)) (s .pre .0 .0) (s .pre .0 .1) (s .pre .1 .0) (c .before .before .before .before .before .before .before .before .before .before .before .before .before .before .block-room .result) (c .before .before .before .before .before .before .before .before .before .before .before .before .before .before .block-room .ensures) k lent _ _ x _ (c .before .before .before .before .before .before .planned .given .1) (λ z. c .before .before .before .if1 .left (c .before .before .before .before .number .ensures ∙ z)) _ (c .before .before .needed-of .ensures) (c .before .if2 .left) _ (c .refuse-room .ensures)
-
-same-length-5 : tie.Need-same-length-5
-same-length-5 c = search needs
+    scratch-refused (now (a .meta)) (now (a .raw)) (now (a .unclassified)) (a .q .lists) (a .q .to .page) (a .q .to .start) (a .q .to .place) (now (a .image)) (now (a .scratch)) (s .pre .0 .0) (s .pre .0 .1) (s .pre .1 .0) (c .before .before .before .before .before .before .before .before .before .before .before .before .before .before .block-room .result) (c .before .before .before .before .before .before .before .before .before .before .before .before .before .before .block-room .ensures) k lent _ _ x _ (c .before .before .before .before .before .before .planned .given .1) (λ z. c .before .before .before .if1 .left (c .before .before .before .before .number .ensures ∙ z)) _ (c .before .before .needed-of .ensures) (c .before .if2 .left) _ (c .refuse-room .ensures)
 
 returns-5 : tie.Need-returns-5
 returns-5 c = let s = c .before .before .before .before .before .before .before .before .before .before .before .before .before .before .before .before .before .before .before .before .before .before .before in
@@ -148,37 +100,37 @@ returns-5 c = let s = c .before .before .before .before .before .before .before 
     let k = c .before .before .before .before .before .before .before .before .before .before .before .before .before .before .min .result - 0 in
     let lent : k ≡ min (c .before .before .before .before .before .before .before .before .before .before .before .before .before .before .before .before .block-room .result) (length (now (a .scratch)) - 125) = omega (arith, c .before .before .before .before .before .before .before .before .before .before .before .before .before .before .min .ensures, c .before .before .before .before .before .before .before .before .before .before .before .before .before .before .before .saturating-sub .ensures) in
     let x = c .before .before .before .before .before .before .before .before .before .before .before .before .serialize-paged-managers .ensures
-    ∙ ap (λ (n : Counts). leaving (take k (now (a .scratch))) (writtenManagers (now (a .meta)) (now (a .raw)) (now (a .unclassified)) n (a .to .page) (a .to .start) 8 (take k (now (a .scratch)))))
+    ∙ ap (λ (n : Counts). leaving (take k (now (a .scratch))) (writtenManagers (now (a .meta)) (now (a .raw)) (now (a .unclassified)) n (a .q .to .page) (a .q .to .start) 8 (take k (now (a .scratch)))))
     (c .before .before .before .before .before .before .before .before .before .before .before .before .before .before .before .before .before .counts-of .ensures) in
-    begun (now (a .meta)) (now (a .raw)) (now (a .unclassified)) (a .lists) (a .to .page) (a .to .start) (a .to .place) (now (a .image)) (now (a .scratch)) (s .pre .0 .0) (s .pre .0 .1) (s .pre .1 .0) (c .before .before .before .before .before .before .before .before .before .before .before .before .before .before .before .before .block-room .result) (c .before .before .before .before .before .before .before .before .before .before .before .before .before .before .before .before .block-room .ensures) k lent _ _ x _ (c .before .before .before .before .before .before .before .before .planned2 .given .1) (c .before .before .before .before .if3 .left) _ (c .before .before .put-message .ensures)
+    begun (now (a .meta)) (now (a .raw)) (now (a .unclassified)) (a .q .lists) (a .q .to .page) (a .q .to .start) (a .q .to .place) (now (a .image)) (now (a .scratch)) (s .pre .0 .0) (s .pre .0 .1) (s .pre .1 .0) (c .before .before .before .before .before .before .before .before .before .before .before .before .before .before .before .before .block-room .result) (c .before .before .before .before .before .before .before .before .before .before .before .before .before .before .before .before .block-room .ensures) k lent _ _ x _ (c .before .before .before .before .before .before .before .before .planned2 .given .1) (c .before .before .before .before .if3 .left) _ (c .before .before .put-message .ensures)
 
 pub begin-after-spec : {M : Type 1} → statement M
 begin-after-spec =
     tie.close
     (tie.spec
-    counts-of-requires
+    (search needs)
     block-room-requires
-    saturating-sub-requires
-    min-requires
-    sub-serialize-paged-managers
-    part-serialize-paged-managers-start
-    part-serialize-paged-managers-end
-    serialize-paged-managers-requires
-    enum-known-planned
-    number-requires
-    same-length
+    (search needs)
+    (search needs)
+    (search needs)
+    (search needs)
+    (search needs)
+    (search needs)
+    (search needs)
+    (search needs)
+    (search needs)
     returns
-    needed-of-requires
-    same-length-2
+    (search needs)
+    (search needs)
     returns-2
     refuse-room-requires
-    enum-known-planned-2
+    (search needs)
     sub-len
     refuse-room-requires-2
-    same-length-3
+    (search needs)
     returns-3
     put-message-requires
-    same-length-4
+    (search needs)
     returns-4
-    same-length-5
+    (search needs)
     returns-5)

@@ -9,9 +9,6 @@ use borrow.Author.Needs.{needs}
 use Rattle.save.proofs.fill.needed_of.Statement.{statement}
 use Rattle.save.proofs.fill.needed_of.Tie as tie
 
-enum-known-r : tie.Need-enum-known-r
-enum-known-r c = search needs
-
 returns : tie.Need-returns
 returns c = λ m g h. let e = sym h ∙ c .before .r .given .1 in cc
 
@@ -23,4 +20,4 @@ returns-2 : tie.Need-returns-2
 returns-2 c = λ m g h. absurd (miss keys 13 tt (subst (λ (x : Refusal). OneOf keys (tagOf the-type x)) h (c .match .keys2)))
 
 pub needed-of-spec : {M : Type 1} → statement M
-needed-of-spec = tie.close (tie.spec enum-known-r returns returns-2)
+needed-of-spec = tie.close (tie.spec (search needs) returns returns-2)

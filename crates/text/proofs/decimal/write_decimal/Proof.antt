@@ -19,9 +19,6 @@ Inv-loop out₀ at n count rest₀ i₀ out rest i =
 abbrev μ-loop : tie.MeasureT-loop
 μ-loop out₀ at n count rest₀ i₀ out rest i = i
 
-digit-count-requires : tie.Need-digit-count-requires Inv-loop μ-loop
-digit-count-requires c κs = search needs
-
 loop-holds : tie.Need-loop-holds Inv-loop μ-loop
 loop-holds c =
     let a = c .before .before .args in
@@ -32,21 +29,6 @@ loop-holds c =
       sym (ap (λ (j : ℕ). a .n / 10 ^ j) z ∙ div-one (a .n)),
       none-written (a .n) (a .at) (now (a .out)) ∙ ap (λ (j : ℕ). over (a .at + j) (drop j (decimal (a .n))) (now (a .out))) (sym e),
     )
-
-sub-i : tie.Need-sub-i Inv-loop μ-loop
-sub-i c = omega arith
-
-cast-put : tie.Need-cast-put Inv-loop μ-loop
-cast-put c = omega arith
-
-add-put : tie.Need-add-put Inv-loop μ-loop
-add-put c = omega arith
-
-put-requires : tie.Need-put-requires Inv-loop μ-loop
-put-requires c κs = search needs
-
-loop-less : tie.Need-loop-less Inv-loop μ-loop
-loop-less c = omega arith
 
 loop-again : tie.Need-loop-again Inv-loop μ-loop
 loop-again c =
@@ -83,13 +65,13 @@ write-decimal-spec =
     (tie.spec
     Inv-loop
     μ-loop
-    digit-count-requires
+    (search needs)
     loop-holds
-    sub-i
-    cast-put
-    add-put
-    put-requires
-    loop-less
+    (λ c. omega arith)
+    (λ c. omega arith)
+    (λ c. omega arith)
+    (search needs)
+    (λ c. omega arith)
     loop-again
     same-length
     returns)

@@ -6,18 +6,6 @@ use Rattle.text.proofs.TextLaws.{then, digits-written}
 use Rattle.text.proofs.words.write_word.Statement.{statement}
 use Rattle.text.proofs.words.write_word.Tie as tie
 
-write-decimal-requires : tie.Need-write-decimal-requires
-write-decimal-requires c κs = search needs
-
-place-after-requires : tie.Need-place-after-requires
-place-after-requires c κs = search needs
-
-write-byte-requires : tie.Need-write-byte-requires
-write-byte-requires c κs = search needs
-
-same-length : tie.Need-same-length
-same-length c = search needs
-
 returns : tie.Need-returns
 returns c =
     let b = c .before .before .before .before in
@@ -30,4 +18,4 @@ returns c =
 pub write-word-spec : {M : Type 1} → statement M
 write-word-spec =
     tie.close
-    (tie.spec write-decimal-requires place-after-requires write-byte-requires same-length returns)
+    (tie.spec (search needs) (search needs) (search needs) (search needs) returns)

@@ -4,17 +4,11 @@ use Rattle.fields.proofs.RangeLaws.{sum-over, sum-is}
 use Rattle.fields.proofs.address.BaseAddress.absolute.Statement.{statement}
 use Rattle.fields.proofs.address.BaseAddress.absolute.Tie as tie
 
-sub-if1 : tie.Need-sub-if1
-sub-if1 c = search needs
-
 returns : tie.Need-returns
 returns c = sum-over _ _ (omega arith)
-
-add-t4 : tie.Need-add-t4
-add-t4 c = search needs
 
 returns-2 : tie.Need-returns-2
 returns-2 c = sum-is _ _ (omega arith)
 
 pub absolute-spec : {M : Type 1} → statement M
-absolute-spec = tie.close (tie.spec sub-if1 returns add-t4 returns-2)
+absolute-spec = tie.close (tie.spec (search needs) returns (search needs) returns-2)

@@ -5,18 +5,12 @@ use Rattle.error.specs.Lent.{leaving}
 use Rattle.free_space.proofs.list.FreeList.alloc.Statement.{statement}
 use Rattle.free_space.proofs.list.FreeList.alloc.Tie as tie
 
-decide-alloc-requires : tie.Need-decide-alloc-requires
-decide-alloc-requires c κs = search needs
-
 give-requires : tie.Need-give-requires
 give-requires c κs = search needs
-
-same-length : tie.Need-same-length
-same-length c = search needs
 
 returns : tie.Need-returns
 returns c = c .before .before .give .ensures ∙ ap (leaving (now (c .before .before .before .before .before .before .before .args .run))) (c .before .before .before .before .decide-alloc .ensures .0)
 
 pub alloc-spec : {M : Type 1} → statement M
 alloc-spec =
-    tie.close (tie.spec decide-alloc-requires give-requires same-length returns)
+    tie.close (tie.spec (search needs) give-requires (search needs) returns)

@@ -5,18 +5,12 @@ use Rattle.error.specs.Lent.{leaving}
 use Rattle.free_space.proofs.list.FreeList.alloc_whole_units.Statement.{statement}
 use Rattle.free_space.proofs.list.FreeList.alloc_whole_units.Tie as tie
 
-decide-whole-units-requires : tie.Need-decide-whole-units-requires
-decide-whole-units-requires c κs = search needs
-
 give-requires : tie.Need-give-requires
 give-requires c κs = search needs
-
-same-length : tie.Need-same-length
-same-length c = search needs
 
 returns : tie.Need-returns
 returns c = c .before .before .give .ensures ∙ ap (leaving (now (c .before .before .before .before .before .before .before .args .run))) (c .before .before .before .before .decide-whole-units .ensures .0)
 
 pub alloc-whole-units-spec : {M : Type 1} → statement M
 alloc-whole-units-spec =
-    tie.close (tie.spec decide-whole-units-requires give-requires same-length returns)
+    tie.close (tie.spec (search needs) give-requires (search needs) returns)

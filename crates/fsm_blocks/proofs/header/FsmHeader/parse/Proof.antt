@@ -8,54 +8,21 @@ use borrow.Author.Needs.{needs}
 use Rattle.fsm_blocks.proofs.header.FsmHeader.parse.Statement.{statement}
 use Rattle.fsm_blocks.proofs.header.FsmHeader.parse.Tie as tie
 
-is-width-requires : tie.Need-is-width-requires
-is-width-requires c κs = search needs
-
 returns : tie.Need-returns
 returns c = parse-width _ _ (ap not (sym (c .before .is-width .ensures)) ∙ c .if1 .taken)
 
-add-if2 : tie.Need-add-if2
-add-if2 c = search needs
-
-add-t9 : tie.Need-add-t9
-add-t9 c = search needs
-
 returns-2 : tie.Need-returns-2
 returns-2 c = parse-short _ _ (ap not (sym (c .before .before .is-width .ensures)) ∙ c .before .if1 .left) (c .if2 .taken)
-
-is-signed-requires : tie.Need-is-signed-requires
-is-signed-requires c κs = search needs
 
 returns-3 : tie.Need-returns-3
 returns-3 c =
     let p = c .before .before .before in
     parse-unsigned _ _ (ap not (sym (p .before .is-width .ensures)) ∙ p .if1 .left) (c .before .before .if2 .left) (ap not (sym (c .before .is-signed .ensures)) ∙ c .if3 .taken)
 
-read-uint-le-requires : tie.Need-read-uint-le-requires
-read-uint-le-requires c κs = search needs
-
-read-uint-le-requires-2 : tie.Need-read-uint-le-requires-2
-read-uint-le-requires-2 c κs = search needs
-
-read-uint-le-requires-3 : tie.Need-read-uint-le-requires-3
-read-uint-le-requires-3 c κs = search needs
-
 cast-t18 : tie.Need-cast-t18
 cast-t18 c =
     let p = c .before .before .before .before .before in
     record { fits = subst (λ (n : ℕ). n < 2 ^ 16) (sym (c .read-uint-le3 .ensures)) (leAt-lt 44 2 (now (p .before .before .before .before .args .bytes)) (λ i. p .before .before .before .shared-slice-known .given i .fits)) }
-
-read-uint-le-requires-4 : tie.Need-read-uint-le-requires-4
-read-uint-le-requires-4 c κs = search needs
-
-read-uint-le-requires-5 : tie.Need-read-uint-le-requires-5
-read-uint-le-requires-5 c κs = search needs
-
-add-read-uint-le : tie.Need-add-read-uint-le
-add-read-uint-le c = search needs
-
-read-uint-le-requires-6 : tie.Need-read-uint-le-requires-6
-read-uint-le-requires-6 c κs = search needs
 
 returns-4 : tie.Need-returns-4
 returns-4 c =
@@ -73,19 +40,19 @@ pub parse-spec : {M : Type 1} → statement M
 parse-spec =
     tie.close
     (tie.spec
-    is-width-requires
+    (search needs)
     returns
-    add-if2
-    add-t9
+    (search needs)
+    (search needs)
     returns-2
-    is-signed-requires
+    (search needs)
     returns-3
-    read-uint-le-requires
-    read-uint-le-requires-2
-    read-uint-le-requires-3
+    (search needs)
+    (search needs)
+    (search needs)
     cast-t18
-    read-uint-le-requires-4
-    read-uint-le-requires-5
-    add-read-uint-le
-    read-uint-le-requires-6
+    (search needs)
+    (search needs)
+    (search needs)
+    (search needs)
     returns-4)
