@@ -1,3 +1,2 @@
-pub mod RunLaws
 pub mod PieceLaws
 pub mod SplitLaws

@@ -22,7 +22,7 @@ use Rattle.fsm_sections.specs.Pages.{pieces, split}
 use Rattle.fsm_blocks.specs.Reading.{intoRun}
 use Rattle.fsm_sections.specs.Runs.{endsAbove}
 use Rattle.fsm_pages.specs.Split.{splitTests, splitCount, splitInto}
-use Rattle.fsm_pages.proofs.RunLaws.{above-found, above-step, above-none, fits-at}
+use Rattle.fsm_sections.proofs.RunLaws.{above-found, above-step, above-none, fits-at}
 use Rattle.fsm_pages.proofs.PieceLaws.{piecesAfter, pieces-number, none-after, after-some}
 use Rattle.fsm_sections.proofs.SectionsLaws.{section-form}
 

@@ -14,3 +14,4 @@ pub mod AnyLaws
 pub mod StepLaws
 pub mod SiftLaws
 pub mod ChainLaws
+pub mod RunLaws

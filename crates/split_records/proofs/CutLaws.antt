@@ -16,7 +16,7 @@ use Rattle.fsm_sections.specs.Pages.{end, pieces, split}
 use Rattle.fsm_sections.proofs.PagesLaws.{pieces-none}
 use Rattle.fsm_sections.specs.Runs.{endsAbove}
 use Rattle.fsm_pages.proofs.PieceLaws.{left, pieceSize, left-more, left-all}
-use Rattle.fsm_pages.proofs.RunLaws.{fits-at}
+use Rattle.fsm_sections.proofs.RunLaws.{fits-at}
 use Rattle.split_records.specs.Records.{cutOff, piecesLeft}
 
 -- nothing is cut off

@@ -1,7 +1,7 @@
 use Prim.Native.Nat.{_-_}
 use denote.Ref.{now}
 use borrow.Author.Needs.{needs}
-use Rattle.fsm_pages.proofs.RunLaws.{fits-at}
+use Rattle.fsm_sections.proofs.RunLaws.{fits-at}
 use Rattle.fsm_pages.proofs.SplitLaws.{Putting, put-start, put-room, put-step, put-end}
 use Rattle.fsm_pages.proofs.pages.put_split.Statement.{statement}
 use Rattle.fsm_pages.proofs.pages.put_split.Tie as tie

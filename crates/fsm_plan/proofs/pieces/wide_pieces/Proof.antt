@@ -9,7 +9,7 @@ use Rattle.fsm_sections.specs.Sections.{decode}
 use Rattle.fsm_sections.specs.Pages.{split}
 use Rattle.fsm_sections.specs.Runs.{anyWide}
 use Rattle.fsm_sections.specs.Runs.{endsAbove}
-use Rattle.fsm_pages.proofs.RunLaws.{fits-at}
+use Rattle.fsm_sections.proofs.RunLaws.{fits-at}
 use Rattle.fsm_plan.proofs.AllPiecesLaws.{any-wide-found, any-wide-step, any-wide-end}
 use Rattle.fsm_plan.proofs.pieces.wide_pieces.Statement.{statement}
 use Rattle.fsm_plan.proofs.pieces.wide_pieces.Tie as tie
