@@ -95,8 +95,8 @@ fn sweep(
     gather_run(c, s.nc, pc, page, of, link, slot, second)
 }
 
-// The sizes from `from` on up to as many as there is room for. No slot leads anywhere at first, since arrays begin as zeros: to clear them
-// once more would cost as much as sixteen sections do.
+// The sizes from `from` on up to as many as there is room for. No slot leads anywhere at first: arrays begin as zeros, and whoever goes on to
+// the next window clears them.
 pub(crate) fn window_of(
     a: &[u64],
     b: &[u64],
