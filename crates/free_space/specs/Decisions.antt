@@ -16,7 +16,6 @@ use lib.ListN.{length}
 use Rattle.error.specs.declared.Refusal.the-variants.{NotAList, OverCapacity}
 use Rattle.error.specs.Outcome.{Outcome, answer, nothing, refused}
 use Rattle.error.specs.Lent.{With, with}
-use Rattle.free_regions.specs.declared.FreeRegion.{FreeRegion}
 use Rattle.free_regions.specs.Regions.{spliced}
 use Rattle.free_space.specs.declared.list.FreeList.{FreeList}
 use Rattle.free_space.specs.declared.run.Patch.{Patch}

@@ -7,8 +7,8 @@ use native.Mathlib.Omega.{arith}
 use mathlib.Core.Bool.{Bool, true, false, not, _||_}
 use mathlib.Core.List.{List, [], _∷_}
 use lib.Dec.{ltb, leb, eqb}
-use lib.ListN.{length, drop, getD}
-use borrow.Author.Tests.{ltb-false, leb-true, leb-false, lt-ltb, le-ltb, le-leb, lt-leb, eq-eqb, ne-eqb}
+use lib.ListN.{length, getD}
+use borrow.Author.Tests.{ltb-false, leb-true, leb-false, lt-ltb, le-ltb, eq-eqb, ne-eqb}
 use Rattle.error.specs.declared.Number.{Number}
 use Rattle.error.specs.declared.Refusal.{Refusal}
 use Rattle.error.specs.declared.Refusal.the-variants.{Width, NotAList, Overflow, WideAddress, OverCapacity}
@@ -38,8 +38,6 @@ use Rattle.fsm_sizes.specs.Totals.{summed, summedOutcome}
 use Rattle.fsm_sizes.proofs.TotalLaws.{sum-over, summed-is, summed-not}
 use Rattle.fsm_sections.proofs.SlotLaws.{plain-runs}
 use Rattle.fsm_blocks.specs.Fshd.{Header, fshdBytes, fshdSize}
-use Rattle.fsm_blocks.specs.Fsse.{fsseSize}
-use Rattle.fsm_blocks.specs.Groups.{Widths}
 use Rattle.fsm_blocks.specs.Settings.{startingSet, headerOf, headerFor, usedBy, fsseUsed, fsseFor, blocksSize}
 use Rattle.fsm_writer.specs.Writing.{Narrow}
 use Rattle.fsm_writer.specs.Serializing.{ofRun, blocksLen, writtenFshd, writtenFsse}

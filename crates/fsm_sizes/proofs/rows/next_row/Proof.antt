@@ -1,4 +1,3 @@
-use native.Mathlib.Omega.{arith}
 use mathlib.Core.Path.{refl}
 use denote.Ref.{now}
 use Rattle.fsm_sizes.proofs.SourceSizesLaws.{row-whole, row-part}
