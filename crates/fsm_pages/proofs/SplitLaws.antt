@@ -1,11 +1,11 @@
 -- `split_at_pages`: the passes over all sections, and the refusals. Assumes nothing.
 use mathlib.Core.Path.{_≡_, refl, sym, ap, _∙_}
-use Prim.Native.Nat.{ℕ, _+_, _-_, _*_, _/_, _%_, _^_, min, _≤_, _<_}
+use Prim.Native.Nat.{ℕ, zero, suc, _+_, _-_, _*_, _/_, _%_, _^_, min, _≤_, _<_}
 use native.Mathlib.Omega.{arith}
 use mathlib.Core.Bool.{Bool, true, false, cond, not}
 use mathlib.Core.List.{List, [], _∷_, _++_}
-use lib.ListN.{length, length-append, drop}
-use borrow.Author.Tests.{lt-ltb, le-ltb, eq-eqb, ne-eqb, not-false}
+use lib.ListN.{length, length-append}
+use borrow.Author.Tests.{lt-ltb, le-ltb, eq-eqb, ne-eqb}
 use Rattle.error.specs.declared.Refusal.{Refusal}
 use Rattle.error.specs.declared.Refusal.the-variants.{Page, NotAList, Overflow, OverCapacity}
 use Rattle.error.specs.Outcome.{answer, refused, when, firstOf, sat}
@@ -14,142 +14,134 @@ use Rattle.error.proofs.OutcomeLaws.{NoneHolds, first-answers, first-refuses, f
 use Rattle.error.proofs.OverLaws.{length-over, over-nil}
 use Rattle.fields.specs.Ranges.{top}
 use Rattle.pairs.specs.Pairs.{isRun}
-use Rattle.pairs.proofs.PairLaws.{over-flat, decode-drop, decode-end}
-use Rattle.pairs.proofs.RunLaws.{run-room}
+use Rattle.pairs.proofs.PairLaws.{over-flat}
 use Rattle.fsm_sections.specs.declared.FreeSection.{FreeSection}
-use Rattle.fsm_sections.specs.Sections.{decode, flat, sectionAt, section}
+use Rattle.fsm_sections.specs.Sections.{decode, flat}
 use Rattle.fsm_sections.specs.Pages.{pieces, split}
 use Rattle.fsm_blocks.specs.Reading.{intoRun}
 use Rattle.fsm_sections.specs.Runs.{endsAbove}
 use Rattle.fsm_pages.specs.Split.{splitTests, splitCount, splitInto}
-use Rattle.fsm_sections.proofs.RunLaws.{above-found, above-step, above-none, fits-at}
+use Rattle.fsm_sections.proofs.RunLaws.{above-found, above-step, fits-first}
 use Rattle.fsm_pages.proofs.PieceLaws.{piecesAfter, pieces-number, none-after, after-some}
 use Rattle.fsm_sections.proofs.SectionsLaws.{section-form}
 
+-- the pieces of a section in front of others
+split-more : (page : ℕ) (l : List FreeSection) (x : FreeSection) (m : List FreeSection) → l ≡ x ∷ m → split page l ≡ pieces page x ++ split page m
+unfolding split
+split-more page l x m e = ap (split page) e
+
+split-length : (page : ℕ) (l : List FreeSection) (x : FreeSection) (m : List FreeSection) → l ≡ x ∷ m → length (split page l) ≡ length (pieces page x) + length (split page m)
+split-length page l x m e = ap length (split-more page l x m e) ∙ length-append (pieces page x) (split page m)
+
+split-none : (page : ℕ) (l : List FreeSection) → l ≡ [] → split page l ≡ []
+unfolding split
+split-none page l e = ap (split page) e
+
+-- ---- the pass that counts
+
+decode-few : (n : ℕ) (xs : List ℕ) → length (decode n xs) ≤ n
+decode-few zero xs = omega arith
+decode-few (suc n) [] = omega arith
+decode-few (suc n) (a ∷ []) = omega arith
+decode-few (suc n) (a ∷ s ∷ xs) = omega (arith, decode-few n xs)
+
+sat-low : (m : ℕ) → sat m ≤ 2 ^ 64 - 1
+unfolding sat
+sat-low m = omega arith
+
+carried : (some more f b k : ℕ) → sat (some + f + sat (more + b) + k) ≡ sat (some + more + (f + b + k))
+unfolding sat
+carried some more f b k = omega arith
+
 module _ (page n : ℕ) (xs : List ℕ) where
-  -- the pieces that are left when the first i sections are cut
-  abbrev pub from : ℕ → List FreeSection
-  from i = split page (drop i (decode n xs))
-
-  -- at the head of the loop that counts: the sections that are not empty, and the pieces after their first ones
-  pub record Counting (some more i : ℕ) : Type 0 where
-    pub within : i ≤ n
-    pub above : endsAbove (drop i (decode n xs)) ≡ endsAbove (decode n xs)
-    pub few : some ≤ i
+  -- at the head of the loop, where the sections of l are left: the sections before them that are not empty, and the pieces after their first ones
+  pub record Counting (l : List FreeSection) (some more : ℕ) : Type 0 where
+    pub above : endsAbove l ≡ endsAbove (decode n xs)
+    pub few : some + length l ≤ n
     pub low : more ≤ 2 ^ 64 - 1
-    pub number : sat (some + more + length (from i)) ≡ sat (length (from 0))
+    pub number : sat (some + more + length (split page l)) ≡ sat (length (split page (decode n xs)))
 
-  -- at the head of the loop that puts
-  pub record Putting (out₀ out : List ℕ) (k i : ℕ) : Type 0 where
-    pub within : i ≤ n
-    pub fits : endsAbove (drop i (decode n xs)) ≡ false
-    pub space : k + 2 * length (from i) ≤ length out
-    pub same-length : length out ≡ length out₀
-    pub same : over k (flat (from i)) out ≡ over 0 (flat (from 0)) out₀
+  pub count-start : (l : List FreeSection) → l ≡ decode n xs → Counting l 0 0
+  count-start l e =
+      let z : 0 + 0 + length (split page (decode n xs)) ≡ length (split page (decode n xs)) = omega arith in
+      rw e (record { above = refl; few = omega (arith, decode-few n xs); low = omega arith; number = ap sat z })
 
-module _ (page n : ℕ) (xs : List ℕ) (room : 2 * n ≤ length xs) where
-  abbrev more : ℕ → List FreeSection
-  more = from page n xs
+  module _ (l : List FreeSection) (some more : ℕ) (now : Counting l some more) where
+    module _ (x : FreeSection) (m : List FreeSection) (e : l ≡ x ∷ m) where
+      pub count-few : some < n
+      count-few = omega (arith, ap length e, now .few)
 
-  from-more : (i : ℕ) → i < n → more i ≡ pieces page (sectionAt xs i) ++ more (i + 1)
-  unfolding split
-  from-more i h = ap (split page) (decode-drop section n i xs h room)
+      pub count-above : top - x .size < x .addr
+          → refused Overflow ≡ firstOf (when (endsAbove (decode n xs)) Overflow ∷ []) (answer (sat (length (split page (decode n xs)))))
+      count-above o = refuses (endsAbove (decode n xs)) Overflow (answer (sat (length (split page (decode n xs))))) (sym (now .above) ∙ above-found l x m e o)
 
-  from-none : (i : ℕ) → n ≤ i → more i ≡ []
-  unfolding split
-  from-none i h = ap (split page) (decode-end section n i xs h room)
+      module _ (p : 0 < page) where
+        abbrev Added : ℕ → Type 0
+        Added j = j ≡ sat (more + piecesAfter page (x .addr) (x .size))
 
-  -- ---- the pass that counts
+        -- the pieces after the first are added where there are any
+        module _ (space : ℕ) (f : space ≡ page - x .addr % page) where
+          pub count-more : space < x .size → (q j : ℕ) → q ≡ (x .size - space - 1) / page → j ≡ sat (more + (1 + q)) → Added j
+          count-more h q j g i =
+              i ∙ ap (λ (k : ℕ). sat (more + (1 + k))) (g ∙ ap (λ (k : ℕ). (x .size - k - 1) / page) f)
+              ∙ ap (λ (k : ℕ). sat (more + k)) (sym (after-some page (x .addr) (x .size) p (omega arith)))
 
-  pub count-start : Counting page n xs 0 0 0
-  count-start =
-      let e : 0 + 0 + length (from page n xs 0) ≡ length (from page n xs 0) = omega arith in
-      record { within = omega arith; above = refl; few = omega arith; low = omega arith; number = ap sat e }
+          pub count-same : x .size ≤ space → (j : ℕ) → j ≡ more → Added j
+          unfolding sat
+          count-same h j g = omega (arith, now .low, none-after page (x .addr) (x .size) p (omega arith))
 
-  sat-low : (m : ℕ) → sat m ≤ 2 ^ 64 - 1
-  unfolding sat
-  sat-low m = omega arith
-
-  carried : (some more f b k : ℕ) → sat (some + f + sat (more + b) + k) ≡ sat (some + more + (f + b + k))
-  unfolding sat
-  carried some more f b k = omega arith
-
-  module _ (some more i : ℕ) (now : Counting page n xs some more i) where
-    module _ (p : 0 < page) (h : i < n) where
-      abbrev addr : ℕ
-      addr = sectionAt xs i .addr
-
-      abbrev size : ℕ
-      size = sectionAt xs i .size
-
-      abbrev Added : ℕ → Type 0
-      Added m = m ≡ sat (more + piecesAfter page addr size)
-
-      -- the pieces after the first are added where there are any
-      module _ (space : ℕ) (e : space ≡ page - addr % page) where
-        pub count-more : space < size → (q m : ℕ) → q ≡ (size - space - 1) / page → m ≡ sat (more + (1 + q)) → Added m
-        count-more l q m f g =
-            g ∙ ap (λ (x : ℕ). sat (more + (1 + x))) (f ∙ ap (λ (x : ℕ). (size - x - 1) / page) e) ∙ ap (λ (x : ℕ). sat (more + x)) (sym (after-some page addr size p (omega arith)))
-
-        pub count-same : size ≤ space → (m : ℕ) → m ≡ more → Added m
-        unfolding sat
-        count-same l m f = omega (arith, now .low, none-after page addr size p (omega arith))
-
-      pub count-step : (s m : ℕ) → s ≡ some + min size 1 → Added m → addr ≤ top - size → size ≤ top → Counting page n xs s m (i + 1)
-      count-step s m e f o b =
-          let more′ = from page n xs (i + 1) in
-          let q : length (from page n xs i) ≡ min size 1 + piecesAfter page addr size + length more′ =
-          ap length (from-more i h) ∙ length-append (pieces page (sectionAt xs i)) more′ ∙ ap (λ (x : ℕ). x + length more′) (pieces-number page addr size p) in
-          record {
-            within = omega arith;
-            above = above-step n xs room i h o b (now .above);
-            few = omega (arith, now .few);
-            low = rw f (sat-low (more + piecesAfter page addr size));
-            number = rw (e, f) (carried some more (min size 1) (piecesAfter page addr size) (length more′)) ∙ ap (λ (x : ℕ). sat (some + more + x)) (sym q) ∙ now .number;
-          }
-
-    pub count-end : n ≤ i → (m : ℕ) → m ≡ sat (some + more)
-        → answer m ≡ firstOf (when (endsAbove (decode n xs)) Overflow ∷ []) (answer (sat (length (split page (decode n xs)))))
-    count-end h m e =
-        let z : some + more + length (from page n xs i) ≡ some + more = omega (arith, ap length (from-none i h)) in
-        ap answer (e ∙ ap sat (sym z) ∙ now .number)
-        ∙ passes (endsAbove (decode n xs)) Overflow (answer (sat (length (split page (decode n xs))))) (sym (above-none n xs room i h (now .above)))
-
-    pub count-above : i < n → top - sectionAt xs i .size < sectionAt xs i .addr
-        → refused Overflow ≡ firstOf (when (endsAbove (decode n xs)) Overflow ∷ []) (answer (sat (length (split page (decode n xs)))))
-    count-above h o = refuses (endsAbove (decode n xs)) Overflow (answer (sat (length (split page (decode n xs))))) (sym (above-found n xs room i h o (now .above)))
-
-  -- ---- the pass that puts
-
-  module _ (out₀ : List ℕ) where
-    pub put-start : endsAbove (decode n xs) ≡ false → 2 * length (split page (decode n xs)) ≤ length out₀ → Putting page n xs out₀ out₀ 0 0
-    put-start h r = record { within = omega arith; fits = h; space = omega arith; same-length = refl; same = refl }
-
-    module _ (out : List ℕ) (k i : ℕ) (now : Putting page n xs out₀ out k i) where
-      module _ (h : i < n) where
-        parts : length (more i) ≡ length (pieces page (sectionAt xs i)) + length (more (i + 1))
-        parts = ap length (from-more i h) ∙ length-append (pieces page (sectionAt xs i)) (more (i + 1))
-
-        pub put-room : k + 2 * length (pieces page (sectionAt xs i)) ≤ length out
-        put-room = omega (arith, parts, now .space)
-
-        pub put-step : (out′ : List ℕ) (j : ℕ) → out′ ≡ over k (flat (pieces page (sectionAt xs i))) out → j ≡ k + 2 * length (pieces page (sectionAt xs i)) → Putting page n xs out₀ out′ j (i + 1)
-        put-step out′ j o e =
-            let s = pieces page (sectionAt xs i) in
-            let l : length out′ ≡ length out = ap length o ∙ length-over k (flat s) out in
+        pub count-step : (s j : ℕ) → s ≡ some + min (x .size) 1 → Added j → x .addr ≤ top - x .size → x .size ≤ top → Counting m s j
+        count-step s j f g o b =
+            let a = piecesAfter page (x .addr) (x .size) in
+            let q : length (split page l) ≡ min (x .size) 1 + a + length (split page m) =
+            split-length page l x m e ∙ ap (λ (k : ℕ). k + length (split page m)) (pieces-number page (x .addr) (x .size) p) in
             record {
-              within = omega arith;
-              fits = fits-at n xs room i h (now .fits) .1;
-              space = omega (arith, parts, now .space);
-              same-length = l ∙ now .same-length;
-              same =
-                  rw (e, o) (over-flat section-form k s (more (i + 1)) out)
-                  ∙ sym (ap (λ (m : List FreeSection). over k (flat m) out) (from-more i h))
-                  ∙ now .same;
+              above = sym (above-step l x m e o b) ∙ now .above;
+              few = omega (arith, ap length e, now .few);
+              low = rw g (sat-low (more + a));
+              number = rw (f, g) (carried some more (min (x .size) 1) a (length (split page m))) ∙ ap (λ (k : ℕ). sat (some + more + k)) (sym q) ∙ now .number;
             }
 
-      pub put-end : n ≤ i → out ≡ over 0 (flat (split page (decode n xs))) out₀
-      put-end h = sym (over-nil k out) ∙ sym (ap (λ (m : List FreeSection). over k (flat m) out) (from-none i h)) ∙ now .same
+    pub count-end : l ≡ [] → (j : ℕ) → j ≡ sat (some + more)
+        → answer j ≡ firstOf (when (endsAbove (decode n xs)) Overflow ∷ []) (answer (sat (length (split page (decode n xs)))))
+    count-end e j f =
+        let z : some + more + length (split page l) ≡ some + more = omega (arith, ap length (split-none page l e)) in
+        ap answer (f ∙ ap sat (sym z) ∙ now .number)
+        ∙ passes (endsAbove (decode n xs)) Overflow (answer (sat (length (split page (decode n xs))))) (sym (now .above) ∙ ap endsAbove e)
+
+-- ---- the pass that puts
+
+module _ (page : ℕ) (all : List FreeSection) (out₀ : List ℕ) where
+  -- at the head of the loop, where the pieces of l are still to be put, from k on
+  pub record Putting (l : List FreeSection) (out : List ℕ) (k : ℕ) : Type 0 where
+    pub fits : endsAbove l ≡ false
+    pub space : k + 2 * length (split page l) ≤ length out
+    pub same-length : length out ≡ length out₀
+    pub same : over k (flat (split page l)) out ≡ over 0 (flat (split page all)) out₀
+
+  pub put-start : (l : List FreeSection) → l ≡ all → endsAbove all ≡ false → 2 * length (split page all) ≤ length out₀ → Putting l out₀ 0
+  put-start l e h r = rw e (record { fits = h; space = omega arith; same-length = refl; same = refl })
+
+  module _ (l : List FreeSection) (out : List ℕ) (k : ℕ) (now : Putting l out k) where
+    module _ (x : FreeSection) (m : List FreeSection) (e : l ≡ x ∷ m) where
+      pub put-room : k + 2 * length (pieces page x) ≤ length out
+      put-room = omega (arith, split-length page l x m e, now .space)
+
+      pub put-step : (out′ : List ℕ) (j : ℕ) → out′ ≡ over k (flat (pieces page x)) out → j ≡ k + 2 * length (pieces page x) → Putting m out′ j
+      put-step out′ j o f =
+          let z : length out′ ≡ length out = ap length o ∙ length-over k (flat (pieces page x)) out in
+          record {
+            fits = fits-first l x m e (now .fits) .1;
+            space = omega (arith, split-length page l x m e, now .space);
+            same-length = z ∙ now .same-length;
+            same =
+                rw (f, o) (over-flat section-form k (pieces page x) (split page m) out)
+                ∙ sym (ap (λ (i : List FreeSection). over k (flat i) out) (split-more page l x m e))
+                ∙ now .same;
+          }
+
+    pub put-end : l ≡ [] → out ≡ over 0 (flat (split page all)) out₀
+    put-end e = sym (over-nil k out) ∙ sym (ap (λ (i : List FreeSection). over k (flat i) out) (split-none page l e)) ∙ now .same
 
 -- ---- the entries
 
@@ -170,7 +162,6 @@ module _ (xs : List ℕ) (n page : ℕ) where
   -- what a number of pieces tells
   pub record Splits (m : ℕ) : Type 0 where
     pub fits : endsAbove (decode n xs) ≡ false
-    pub run : 2 * n ≤ length xs
     pub number : m ≡ sat (length (split page (decode n xs)))
     pub passed : NoneHolds (splitTests xs n page)
 
@@ -178,7 +169,7 @@ module _ (xs : List ℕ) (n page : ℕ) where
   unfolding splitCount
   split-told m e =
       let q = first-answers (splitTests xs n page) (sat (length (split page (decode n xs)))) m (sym e) in
-      record { fits = q .0 .1 .1 .0; run = run-room xs n (not-false (isRun xs n) (q .0 .1 .0)); number = sym (q .1); passed = q .0 }
+      record { fits = q .0 .1 .1 .0; number = sym (q .1); passed = q .0 }
 
 module _ (xs : List ℕ) (n page : ℕ) (out : List ℕ) where
   pub split-page : page ≡ 0 → left (refused Page) out ≡ leaving out (splitInto xs n page out)

@@ -14,6 +14,8 @@ ghost use Rattle.fsm_sections.specs.Runs.{endsAbove};
 ghost use Rattle.fsm_pages.specs.Split.{splitCount, splitInto, splitOutcome};
 use error::Number;
 use error::Refusal;
+use fsm_sections::run::RunCursor;
+use fsm_sections::run::next_in;
 use numbers::MAX;
 use numbers::quotient;
 use numbers::remainder;
@@ -37,16 +39,19 @@ fn room_in(page: u64, addr: u64) -> u64
 // How many pieces all sections have, at most 2^64 - 1: one of each that is not empty, and those after the first page multiple.
 fn pieces_in(sections: &[u64], count: usize, page: u64) -> Number
     requires page { ⌜ 0 < page ⌝ }
-    requires room { ⌜ 2 * count ≤ length (now sections) ⌝ }
     ensures { λ r. ⌜ numberOutcome r ≡ firstOf (when (endsAbove (decode count (now (sections .entry)))) Overflow ∷ [])
         (answer (sat (length (split page (decode count (now (sections .entry))))))) ⌝ }
 {
     let mut some: u64 = 0;
     let mut more: u64 = 0;
-    let mut i = 0;
-    while i < count {
-        let addr = sections[2 * i];
-        let size = sections[2 * i + 1];
+    let mut at = RunCursor::start();
+    loop {
+        let t = next_in(sections, count, at);
+        if t.end {
+            return Number::Is(saturating_add(some, more));
+        }
+        let addr = t.region.addr;
+        let size = t.region.size;
         if MAX - size < addr {
             return Number::Refused(Refusal::Overflow);
         }
@@ -57,9 +62,8 @@ fn pieces_in(sections: &[u64], count: usize, page: u64) -> Number
         if size != 0 {
             some += 1;
         }
-        i += 1;
+        at = t.at;
     }
-    Number::Is(saturating_add(some, more))
 }
 
 // How many pieces sections have, at most 2^64 - 1: counted in closed form, section by section.
@@ -105,16 +109,19 @@ fn put_pieces(page: u64, addr: u64, size: u64, out: &mut [u64], from: usize) -> 
 // Puts the pieces of all sections into the run.
 fn put_split(sections: &[u64], count: usize, page: u64, out: &mut [u64])
     requires page { ⌜ 0 < page ⌝ }
-    requires run { ⌜ 2 * count ≤ length (now sections) ⌝ }
     requires fits { ⌜ endsAbove (decode count (now sections)) ≡ false ⌝ }
     requires room { ⌜ 2 * length (split page (decode count (now sections))) ≤ length (now out) ⌝ }
     ensures { λ _. ⌜ now (out .exit) ≡ over 0 (flat (split page (decode count (now (sections .entry))))) (now (out .entry)) ⌝ }
 {
     let mut k = 0;
-    let mut i = 0;
-    while i < count {
-        k = put_pieces(page, sections[2 * i], sections[2 * i + 1], out, k);
-        i += 1;
+    let mut at = RunCursor::start();
+    loop {
+        let t = next_in(sections, count, at);
+        if t.end {
+            return;
+        }
+        k = put_pieces(page, t.region.addr, t.region.size, out, k);
+        at = t.at;
     }
 }
 

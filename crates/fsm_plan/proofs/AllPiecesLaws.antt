@@ -7,12 +7,10 @@ use native.Mathlib.Omega.{arith}
 use mathlib.Core.Bool.{Bool, true, false, cond, _||_}
 use mathlib.Core.List.{List, [], _∷_, _++_}
 use lib.Dec.{ltb, leb}
-use lib.ListN.{length, drop}
 use borrow.Author.Tests.{leb-true, le-leb}
 use Rattle.error.proofs.TestLaws.{or-decides, or-leaves}
-use Rattle.pairs.proofs.PairLaws.{decode-drop, decode-end}
 use Rattle.fsm_sections.specs.declared.FreeSection.{FreeSection}
-use Rattle.fsm_sections.specs.Sections.{section, decode, sectionAt}
+use Rattle.fsm_sections.specs.Sections.{section}
 use Rattle.fsm_sections.specs.Pages.{pageEnd, cutAt, piecesFrom, pieces, split, belowPage, fromPage, slot0, slot2, slot6}
 use Rattle.fsm_sections.proofs.PagesLaws.{page-end-above, pieces-none, pieces-more, below-or-not}
 use Rattle.fsm_sections.specs.Runs.{wide, anyOf, anyWide}
@@ -138,29 +136,19 @@ module _ (o page addr size : ℕ) (p : 0 < page) where
 
 -- ---- the passes over all sections
 
-module _ (page n : ℕ) (xs : List ℕ) (room : 2 * n ≤ length xs) where
-  abbrev after : ℕ → List FreeSection
-  after i = split page (drop i (decode n xs))
+module _ (page o : ℕ) (l : List FreeSection) (v : Bool) (p : anyWide o (split page l) ≡ v) where
+  pub any-wide-end : l ≡ [] → false ≡ v
+  unfolding split anyOf
+  any-wide-end e = ap (λ (k : List FreeSection). anyWide o (split page k)) (sym e) ∙ p
 
-  after-more : (i : ℕ) → i < n → after i ≡ pieces page (sectionAt xs i) ++ after (i + 1)
-  unfolding split
-  after-more i h = ap (split page) (decode-drop section n i xs h room)
+  module _ (x : FreeSection) (m : List FreeSection) (e : l ≡ x ∷ m) (t : Bool) (f : t ≡ anyWide o (pieces page x)) where
+    open-wide : (anyWide o (pieces page x) || anyWide o (split page m)) ≡ v
+    unfolding split
+    open-wide =
+        sym (any-append (λ s. wide o (s .addr)) (pieces page x) (split page m)) ∙ sym (ap (λ (k : List FreeSection). anyWide o (split page k)) e) ∙ p
 
-  after-none : (i : ℕ) → n ≤ i → after i ≡ []
-  unfolding split
-  after-none i h = ap (split page) (decode-end section n i xs h room)
+    pub any-wide-found : t ≡ true → true ≡ v
+    any-wide-found g = or-decides t _ (anyWide o (split page m)) f g ∙ open-wide
 
-  module _ (o i : ℕ) (e : anyWide o (after i) ≡ anyWide o (split page (decode n xs))) where
-    module _ (h : i < n) (t : Bool) (f : t ≡ anyWide o (pieces page (sectionAt xs i))) where
-      open-wide : (anyWide o (pieces page (sectionAt xs i)) || anyWide o (after (i + 1))) ≡ anyWide o (split page (decode n xs))
-      open-wide = sym (any-append (λ s. wide o (s .addr)) (pieces page (sectionAt xs i)) (after (i + 1))) ∙ sym (ap (anyWide o) (after-more i h)) ∙ e
-
-      pub any-wide-found : t ≡ true → true ≡ anyWide o (split page (decode n xs))
-      any-wide-found g = or-decides t _ (anyWide o (after (i + 1))) f g ∙ open-wide
-
-      pub any-wide-step : t ≡ false → anyWide o (after (i + 1)) ≡ anyWide o (split page (decode n xs))
-      any-wide-step g = or-leaves t _ (anyWide o (after (i + 1))) f g ∙ open-wide
-
-    pub any-wide-end : n ≤ i → false ≡ anyWide o (split page (decode n xs))
-    unfolding anyOf
-    any-wide-end h = sym (ap (anyWide o) (after-none i h)) ∙ e
+    pub any-wide-step : t ≡ false → anyWide o (split page m) ≡ v
+    any-wide-step g = or-leaves t _ (anyWide o (split page m)) f g ∙ open-wide

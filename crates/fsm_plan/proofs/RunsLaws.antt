@@ -1,12 +1,11 @@
 -- The tests of three runs of regions, and what the sources of the slots are where they pass. Assumes nothing.
-use mathlib.Core.Path.{_≡_, refl, sym, ap, _∙_}
+use mathlib.Core.Path.{_≡_, sym, ap, _∙_}
 use Prim.Native.Nat.{ℕ, zero, suc, _+_, _*_, _/_, _%_, _≤_, _<_}
 use native.Mathlib.Nat.{div-mul-le-self, div-add-mod'}
 use native.Mathlib.Omega.{arith}
 use mathlib.Core.Bool.{Bool, true, false, cond, _&&_, _||_, not}
 use mathlib.Core.List.{List, [], _∷_, _++_}
 use lib.Dec.{leb, eqb}
-use lib.ListN.{length}
 use borrow.Author.Tests.{leb-true, eqb-false, not-false, eq-eqb, ne-eqb}
 use Rattle.error.specs.declared.Checked.{Checked}
 use Rattle.error.specs.declared.Checked.the-variants as checked
@@ -19,7 +18,6 @@ use Rattle.error.proofs.OutcomeLaws.{NoneHolds, first-none, first-holds, first-
 use Rattle.fields.specs.Ranges.{top}
 use Rattle.fields.specs.Width.{validWidth}
 use Rattle.pairs.specs.Pairs.{isRun}
-use Rattle.pairs.proofs.RunLaws.{run-room}
 use Rattle.fsm_sections.specs.declared.FreeSection.{FreeSection}
 use Rattle.fsm_sections.specs.declared.Part.{Part}
 use Rattle.fsm_sections.specs.declared.Part.the-variants.{Head, Pages, Tail, Whole}
@@ -44,9 +42,6 @@ module _ (xs ys zs : List ℕ) (n : Counts) (page O : ℕ) where
     pub low : 1 ≤ O
     pub high : O ≤ 8
     pub some : 0 < page
-    pub room-x : 2 * n .meta ≤ length xs
-    pub room-y : 2 * n .raw ≤ length ys
-    pub room-z : 2 * n .unclassified ≤ length zs
     pub late-x : endsAbove (decode (n .meta) xs) ≡ false
     pub late-y : endsAbove (decode (n .raw) ys) ≡ false
     pub ends-x : All (λ r. end r ≤ top) (decode (n .meta) xs)
@@ -78,12 +73,6 @@ module _ (xs ys zs : List ℕ) (n : Counts) (page O : ℕ) where
         pub test-fine : u ≡ false → answer tt ≡ tests
         test-fine q = sym (three ∙ first-passes _ Overflow _ _ (sym ue ∙ q) ∙ first-none (answer tt))
 
-  pub runs-room : (t : Bool) → t ≡ (isRun xs (n .meta) && (isRun ys (n .raw) && isRun zs (n .unclassified))) → t ≡ true → (2 * n .meta ≤ length xs) × (2 * n .raw ≤ length ys) × (2 * n .unclassified ≤ length zs)
-  runs-room t e h =
-      let p = and-true (isRun xs (n .meta)) (isRun ys (n .raw) && isRun zs (n .unclassified)) (sym e ∙ h) in
-      let q = and-true (isRun ys (n .raw)) (isRun zs (n .unclassified)) (p .1) in
-      (run-room xs (n .meta) (p .0), run-room ys (n .raw) (q .0), run-room zs (n .unclassified) (q .1))
-
   -- ---- what the answer says
 
   module _ (c : Checked) (e : checkedOutcome c ≡ tests) where
@@ -101,16 +90,12 @@ module _ (xs ys zs : List ℕ) (n : Counts) (page O : ℕ) where
       tests-show =
           let v = and-true (leb 1 O) (leb O 8) (not-false (validWidth O) (none .0)) in
           let p : page ≡ 0 → ⊥ = eqb-false page 0 (none .1 .0) in
-          let r = runs-room (isRun xs (n .meta) && (isRun ys (n .raw) && isRun zs (n .unclassified))) refl (not-false (isRun xs (n .meta) && (isRun ys (n .raw) && isRun zs (n .unclassified))) (none .1 .1 .0)) in
           let f = or-false (endsAbove (decode (n .meta) xs)) (endsAbove (decode (n .raw) ys) || endsAbove (decode (n .unclassified) zs)) (none .1 .1 .1 .0) in
           let g = or-false (endsAbove (decode (n .raw) ys)) (endsAbove (decode (n .unclassified) zs)) (f .1) in
           record {
             low = leb-true 1 O (v .0);
             high = leb-true O 8 (v .1);
             some = omega arith;
-            room-x = r .0;
-            room-y = r .1;
-            room-z = r .2;
             late-x = f .0;
             late-y = g .0;
             ends-x = none-above (decode (n .meta) xs) (f .0);
@@ -167,13 +152,10 @@ module _ (page m : ℕ) (xs : List ℕ) (some : 0 < page) where
   pub small-same : bySizeThenAddr (slot0 page (decode m xs)) ≡ bySizeThenAddr (sectionsOf (chainsOf (smallSource page m) xs xs xs))
   small-same = same-order _ _ (λ x. slot0-runs page m xs xs x some)
 
-  module _ (room : 2 * m ≤ length xs) (ends : All (λ r. end r ≤ top) (decode m xs)) where
+  module _ (ends : All (λ r. end r ≤ top) (decode m xs)) where
     pub small-given : Given (smallSource page m) xs xs xs
     small-given = record {
       some = some;
-      room-a = room;
-      room-b = room;
-      room-c = omega arith;
       fit-a = all-map (fits Head) (decode m xs) ends;
       fit-b = all-map (fits Tail) (decode m xs) ends;
       fit-c = tt;
@@ -187,9 +169,6 @@ module _ (xs ys zs : List ℕ) (n : Counts) (page O : ℕ) (h : Tested xs ys zs 
   pub large-given : Given (sourceOf (paged n page)) xs ys zs
   large-given = record {
     some = h .some;
-    room-a = h .room-x;
-    room-b = h .room-y;
-    room-c = h .room-z;
     fit-a = all-map (fits Pages) (decode (n .meta) xs) (h .ends-x);
     fit-b = all-map (fits Pages) (decode (n .raw) ys) (h .ends-y);
     fit-c = all-map (fits Whole) (decode (n .unclassified) zs) (h .ends-z);

@@ -14,7 +14,8 @@ use Rattle.fsm_sections.specs.declared.next.Cursor.{Cursor}
 use Rattle.fsm_sections.specs.declared.next.Step.{Step}
 use Rattle.fsm_sections.specs.Chains.{sectionsIn, sectionsOf}
 use Rattle.fsm_sections.specs.Sources.{chainsOf, Given}
-use Rattle.fsm_sections.specs.Steps.{start, rest, Taking, Stepped}
+use Rattle.fsm_sections.specs.Nexts.{start}
+use Rattle.fsm_sections.specs.Steps.{rest, Taking, Stepped}
 use Rattle.fsm_sections.proofs.StepLaws.{rest-all, take-by}
 use Rattle.fsm_plan.specs.declared.sharing.Floor.{Floor}
 use Rattle.fsm_plan.specs.declared.sharing.Floor.the-variants.{To}
@@ -92,7 +93,7 @@ module _ (s : Source) (a b c : List ℕ) where
 
     module _ (at : Cursor) (r : Step) (w : Stepped s a b c at r) (e : r .end ≡ true) where
       done : (x : ℕ) → atAddr x (left at) ≡ 0
-      done x = ap (atAddr x) (w .none e g) ∙ at-nil x
+      done x = ap (atAddr x) (w .none e) ∙ at-nil x
 
       pub unmet-end : (t : Step) → Unmet t at → Meet false (sectionsIn (t .chain)) (left (t .at))
       unmet-end t h = λ x l. sym (h x l) ∙ done x

@@ -1,8 +1,7 @@
 // Whether an address of the pieces of regions does not fit the offset size. Pieces are not gone through one by one.
 ghost use mathlib.Core.Path.{_≡_};
-ghost use Prim.Native.Nat.{_+_, _*_, _^_, _≤_, _<_};
+ghost use Prim.Native.Nat.{_+_, _^_, _<_};
 ghost use mathlib.Core.Bool.{false};
-ghost use lib.ListN.{length};
 ghost use Rattle.fsm_sections.specs.Sections.{section, decode};
 ghost use Rattle.fsm_sections.specs.Pages.{pieces, split};
 ghost use Rattle.fsm_sections.specs.Sources.{Given};
@@ -10,6 +9,8 @@ ghost use Rattle.fsm_sections.specs.Runs.{endsAbove, anyWide};
 ghost use Rattle.fsm_plan.specs.Order.{sourceOf};
 ghost use Rattle.fsm_plan.specs.Blocks.{wideSections};
 use crate::chains::Paged;
+use fsm_sections::run::RunCursor;
+use fsm_sections::run::next_in;
 use fsm_sections::wide::any_wide;
 use fsm_sections::wide::is_wide;
 use numbers::quotient;
@@ -32,18 +33,20 @@ fn wide_piece(page: u64, addr: u64, size: u64, o: usize) -> bool
 // Whether the address of a piece of one of the sections does not.
 fn wide_pieces(sections: &[u64], count: usize, page: u64, o: usize) -> bool
     requires page { ⌜ 0 < page ⌝ }
-    requires room { ⌜ 2 * count ≤ length (now sections) ⌝ }
     requires fits { ⌜ endsAbove (decode count (now sections)) ≡ false ⌝ }
     ensures { λ r. ⌜ r ≡ anyWide o (split page (decode count (now (sections .entry)))) ⌝ }
 {
-    let mut i = 0;
-    while i < count {
-        if wide_piece(page, sections[2 * i], sections[2 * i + 1], o) {
+    let mut at = RunCursor::start();
+    loop {
+        let t = next_in(sections, count, at);
+        if t.end {
+            return false;
+        }
+        if wide_piece(page, t.region.addr, t.region.size, o) {
             return true;
         }
-        i += 1;
+        at = t.at;
     }
-    false
 }
 
 // Whether the address of a section of a slot does not fit o bytes.

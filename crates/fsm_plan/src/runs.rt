@@ -1,9 +1,7 @@
 // The tests of offset size, page and three runs of regions.
 ghost use mathlib.Core.Path.{_≡_};
-ghost use Prim.Native.Nat.{_*_, _≤_};
 ghost use mathlib.Core.Bool.{_&&_, _||_};
 ghost use lib.Dec.{ltb};
-ghost use lib.ListN.{length};
 ghost use Rattle.error.specs.Answers.{checkedOutcome};
 ghost use Rattle.error.specs.Outcome.{answer, firstOf};
 ghost use Rattle.fields.specs.Ranges.{top};
@@ -16,6 +14,8 @@ use crate::Counts;
 use error::Checked;
 use error::Refusal;
 use fields::width::is_width;
+use fsm_sections::run::RunCursor;
+use fsm_sections::run::next_in;
 use numbers::MAX;
 use pairs::is_run;
 
@@ -40,21 +40,22 @@ fn is_late(addr: u64, size: u64) -> bool
 
 // Whether some region of a run does.
 fn any_late(run: &[u64], n: usize) -> bool
-    requires { ⌜ 2 * n ≤ length (now run) ⌝ }
     ensures { λ r. ⌜ r ≡ endsAbove (decode n (now (run .entry))) ⌝ }
 {
-    let mut i = 0;
-    while i < n {
-        if is_late(run[2 * i], run[2 * i + 1]) {
+    let mut at = RunCursor::start();
+    loop {
+        let t = next_in(run, n, at);
+        if t.end {
+            return false;
+        }
+        if is_late(t.region.addr, t.region.size) {
             return true;
         }
-        i += 1;
+        at = t.at;
     }
-    false
 }
 
 fn are_late(a: &[u64], b: &[u64], c: &[u64], n: Counts) -> bool
-    requires { ⌜ (2 * n .meta ≤ length (now a)) × (2 * n .raw ≤ length (now b)) × (2 * n .unclassified ≤ length (now c)) ⌝ }
     ensures { λ r. ⌜ r ≡ (endsAbove (decode (n .meta) (now (a .entry))) ||
         (endsAbove (decode (n .raw) (now (b .entry))) || endsAbove (decode (n .unclassified) (now (c .entry))))) ⌝ }
 {

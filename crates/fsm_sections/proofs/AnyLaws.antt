@@ -1,53 +1,38 @@
 -- Tests of the sections of a run, one by one. Assumes nothing.
 use mathlib.Core.Path.{_≡_, refl, sym, ap, _∙_}
 use mathlib.Core.Logic.{⊎-elim}
-use Prim.Native.Nat.{ℕ, zero, suc, _+_, _-_, _*_, _/_, _^_, _≤_, _<_, min}
-use native.Mathlib.Nat.{zero-min, min-zero, pow-le-pow-right}
+use Prim.Native.Nat.{ℕ, _+_, _-_, _^_, _≤_, _<_}
+use native.Mathlib.Nat.{pow-le-pow-right}
 use native.Mathlib.Omega.{arith}
 use mathlib.Core.Bool.{Bool, true, false, _||_}
 use mathlib.Core.List.{List, [], _∷_}
 use lib.Dec.{ltb}
-use lib.ListN.{length, drop}
 use borrow.Author.Tests.{lt-ltb, le-ltb, le-leb, lt-leb, ltb-false}
 use Rattle.error.proofs.TestLaws.{le-or-lt, or-false}
 use Rattle.fields.specs.Ranges.{top}
 use Rattle.fields.specs.Width.{encSize}
 use Rattle.fields.proofs.WidthLaws.{encSize-least}
-use Rattle.pairs.proofs.PairLaws.{decode-drop, decode-end}
 use Rattle.fsm_sections.specs.declared.FreeSection.{FreeSection}
-use Rattle.fsm_sections.specs.Sections.{section, decode, sectionAt, bySizeThenAddr, All}
+use Rattle.fsm_sections.specs.Sections.{section, bySizeThenAddr, All}
 use Rattle.fsm_sections.specs.Pages.{end}
 use Rattle.fsm_sections.specs.Runs.{endsAbove, wide, anyOf}
 use Rattle.fsm_sections.proofs.PassLaws.{by-order}
 
--- ---- no more pairs are read than there are
-
-decode-least : (n : ℕ) (xs : List ℕ) → decode n xs ≡ decode (min n (length xs / 2)) xs
-decode-least zero xs = ap (λ (k : ℕ). decode k xs) (sym (zero-min (length xs / 2)))
-decode-least (suc n) [] = ap (λ (k : ℕ). decode k []) (sym (min-zero (suc n)))
-decode-least (suc n) (a ∷ []) = ap (λ (k : ℕ). decode k (a ∷ [])) (sym (min-zero (suc n)))
-decode-least (suc n) (a ∷ s ∷ xs) =
-    let e : min (suc n) (suc (suc (length xs)) / 2) ≡ suc (min n (length xs / 2)) = omega arith in
-    ap (λ (l : List FreeSection). section a s ∷ l) (decode-least n xs) ∙ ap (λ (k : ℕ). decode k (a ∷ s ∷ xs)) (sym e)
-
-pub decode-present : (n count : ℕ) (xs : List ℕ) → n ≡ min count (length xs / 2) → decode n xs ≡ decode count xs
-decode-present n count xs e = ap (λ (k : ℕ). decode k xs) e ∙ sym (decode-least count xs)
-
 -- ---- a test of each section, one by one
 
-module _ (test : FreeSection → Bool) (n : ℕ) (run : List ℕ) (room : 2 * n ≤ length run) (i : ℕ) (h : i < n) where
-  pub any-found : (t : Bool) → t ≡ test (sectionAt run i) → t ≡ true → anyOf test (drop i (decode n run)) ≡ anyOf test (decode n run) → true ≡ anyOf test (decode n run)
+module _ (test : FreeSection → Bool) (l : List FreeSection) (v : Bool) (p : anyOf test l ≡ v) where
+  pub any-none : l ≡ [] → false ≡ v
   unfolding anyOf
-  any-found t e f p = sym (sym p ∙ rw (decode-drop section n i run h room, ← e, f))
+  any-none e = ap (anyOf test) (sym e) ∙ p
 
-  pub any-step : (t : Bool) → t ≡ test (sectionAt run i) → t ≡ false → anyOf test (drop i (decode n run)) ≡ anyOf test (decode n run)
-      → anyOf test (drop (i + 1) (decode n run)) ≡ anyOf test (decode n run)
-  unfolding anyOf
-  any-step t e f p = sym (ap (anyOf test) (decode-drop section n i run h room) ∙ rw (← e, f)) ∙ p
+  module _ (x : FreeSection) (m : List FreeSection) (e : l ≡ x ∷ m) (t : Bool) (f : t ≡ test x) where
+    pub any-found : t ≡ true → true ≡ v
+    unfolding anyOf
+    any-found h = sym (ap (anyOf test) e ∙ rw (← f, h)) ∙ p
 
-pub any-none : (test : FreeSection → Bool) (n i : ℕ) (run : List ℕ) → 2 * n ≤ length run → n ≤ i → anyOf test (drop i (decode n run)) ≡ anyOf test (decode n run) → false ≡ anyOf test (decode n run)
-unfolding anyOf
-any-none test n i run room h p = ap (anyOf test) (sym (decode-end section n i run h room)) ∙ p
+    pub any-step : t ≡ false → anyOf test m ≡ v
+    unfolding anyOf
+    any-step h = sym (ap (anyOf test) e ∙ rw (← f, h)) ∙ p
 
 -- ---- a test of some section, in whatever order
 

@@ -10,6 +10,8 @@ pub mod SpaceLaws
 pub mod NextLaws
 pub mod LowestLaws
 pub mod StoredLaws
+pub mod RunStepLaws
+pub mod RowLaws
 pub mod AnyLaws
 pub mod StepLaws
 pub mod SiftLaws

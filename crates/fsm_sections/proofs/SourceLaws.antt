@@ -4,28 +4,18 @@ use Prim.Native.Nat.{ℕ, _+_, _-_, _*_, _/_, _%_, _^_, min, _≤_, _<_}
 use native.Mathlib.Nat.{div-mul-le-self, div-add-mod'}
 use native.Mathlib.Omega.{arith}
 use mathlib.Core.Bool.{Bool, true, false, cond}
-use mathlib.Core.List.{List, _++_, map}
+use mathlib.Core.List.{List, _++_}
 use borrow.Author.Tests.{eq-eqb, ne-eqb}
 use lib.Dec.{eqb}
-use lib.ListN.{length, getD}
-use Rattle.pairs.proofs.PairLaws.{length-decode, decode-at, decode-map}
 use Rattle.fsm_sections.specs.declared.FreeSection.{FreeSection}
-use Rattle.fsm_sections.specs.Sections.{section, decode, bySizeThenAddr, All, sectionAt}
-use Rattle.fsm_sections.specs.Chains.{link, chain, sectionsOf, ChainFits}
-use Rattle.fsm_sections.specs.Sources.{one, headSize, bodySize, partOf, chainsOf, PartFits, Given, PartIs, chainsIn}
+use Rattle.fsm_sections.specs.Sections.{section, decode, bySizeThenAddr}
+use Rattle.fsm_sections.specs.Chains.{link, sectionsOf, ChainFits}
+use Rattle.fsm_sections.specs.Sources.{one, headSize, bodySize, partOf, chainsOf, PartFits, PartIs, chainsIn}
 use Rattle.fsm_sections.specs.declared.Chain.{Chain}
 use Rattle.fsm_sections.specs.declared.Part.{Part}
 use Rattle.fsm_sections.specs.declared.Part.the-variants.{Head, Pages, Tail, Whole}
 use Rattle.fsm_sections.specs.declared.Source.{Source}
 use Rattle.fsm_sections.proofs.SlotLaws.{times-append, sections-append, same-order}
-use Rattle.fsm_sections.proofs.AllLaws.{all-getD}
-
-pub all-at : (P : FreeSection → Type 0) (n i : ℕ) (xs : List ℕ) → i < n → 2 * n ≤ length xs → All P (decode n xs) → P (sectionAt xs i)
-all-at P n i xs l h a =
-    subst P (decode-at section n i xs (section 0 0) l h) (all-getD P (decode n xs) i (section 0 0) (omega (arith, length-decode section n xs h)) a)
-
-pub map-at : (q : Part) (page n i : ℕ) (xs : List ℕ) (d : Chain) → i < n → 2 * n ≤ length xs → getD (map (partOf q page) (decode n xs)) i d ≡ partOf q page (sectionAt xs i)
-map-at q page n i xs d l h = ap (λ (m : List Chain). getD m i d) (decode-map section (partOf q page) n xs) ∙ decode-at (λ a z. partOf q page (section a z)) n i xs d l h
 
 -- ---- how much of a region stands before its first page multiple
 pub head-no-page : (page : ℕ) (r : FreeSection) → page ≡ 0 → 0 ≡ headSize page r
@@ -62,16 +52,6 @@ pub swap : (l m n : List FreeSection) → bySizeThenAddr (l ++ (m ++ n)) ≡ byS
 swap l m n =
     same-order (l ++ (m ++ n)) (m ++ (l ++ n))
     (λ x. omega (arith, times-append x l (m ++ n), times-append x m n, times-append x m (l ++ n), times-append x l n))
-
-module _ (s : Source) (a b c : List ℕ) (g : Given s a b c) where
-  pub fits-a : (j : ℕ) → j < s .na → PartFits (s .pa) (sectionAt a j)
-  fits-a j h = all-at (PartFits (s .pa)) (s .na) j a h (g .room-a) (g .fit-a)
-
-  pub fits-b : (j : ℕ) → j < s .nb → PartFits (s .pb) (sectionAt b j)
-  fits-b j h = all-at (PartFits (s .pb)) (s .nb) j b h (g .room-b) (g .fit-b)
-
-  pub fits-c : (j : ℕ) → j < s .nc → PartFits (s .pc) (sectionAt c j)
-  fits-c j h = all-at (PartFits (s .pc)) (s .nc) j c h (g .room-c) (g .fit-c)
 
 -- ---- a part is no longer than its region
 

@@ -1,15 +1,12 @@
 -- A step of a pass: the chain of the region that comes next, and what it takes of the sections that are left. Assumes nothing.
-use mathlib.Core.Path.{_≡_, refl, sym, ap, _∙_, subst}
-use Prim.Native.Nat.{ℕ, zero, suc, _+_, _*_, _%_, _≤_, _<_}
+use mathlib.Core.Path.{_≡_, refl, sym, ap, ap₂, _∙_, subst}
+use Prim.Native.Nat.{ℕ, zero, suc, _+_, _%_, _<_}
 use native.Mathlib.Omega.{arith}
 use mathlib.Core.Bool.{Bool, true, false, cond}
-use mathlib.Core.Logic.{_⊎_, inl, inr, ⊎-elim}
 use mathlib.Core.List.{List, [], _∷_, _++_, append-assoc}
-use lib.Dec.{ltb, eqb}
-use lib.ListN.{length, length-append, drop}
-use borrow.Author.Tests.{lt-ltb, ne-eqb}
-use Rattle.error.proofs.TestLaws.{le-or-lt}
-use Rattle.pairs.proofs.PairLaws.{decode-drop, decode-end}
+use lib.Dec.{eqb}
+use lib.ListN.{length, length-append}
+use borrow.Author.Tests.{ne-eqb}
 use Rattle.fsm_sections.specs.declared.FreeSection.{FreeSection}
 use Rattle.fsm_sections.specs.declared.Chain.{Chain}
 use Rattle.fsm_sections.specs.declared.Part.{Part}
@@ -18,17 +15,19 @@ use Rattle.fsm_sections.specs.declared.Source.{Source}
 use Rattle.fsm_sections.specs.declared.next.Region.{Region}
 use Rattle.fsm_sections.specs.declared.next.Cursor.{Cursor}
 use Rattle.fsm_sections.specs.declared.next.Step.{Step}
-use Rattle.fsm_sections.specs.Sections.{section, sectionAt, decode, bySizeThenAddr, times, ofSize}
+use Rattle.fsm_sections.specs.Sections.{bySizeThenAddr, times, ofSize}
 use Rattle.fsm_sections.specs.Chains.{sectionsIn, sectionsOf, ChainFits}
 use Rattle.fsm_sections.specs.Sources.{headSize, bodySize, partOf, chainsIn, chainsOf, partIn, Given, PartFits, PartIs}
-use Rattle.fsm_sections.specs.Nexts.{nextRegion}
-use Rattle.fsm_sections.specs.Steps.{start, rest, Taking}
+use Rattle.fsm_sections.specs.RunSteps.{restIn}
+use Rattle.fsm_sections.specs.Nexts.{start, isFirst, Rests, rests, restsAt, NextIs}
+use Rattle.fsm_sections.specs.Steps.{rest, Taking}
+use Rattle.fsm_sections.proofs.RunStepLaws.{first-left}
 use Rattle.fsm_sections.proofs.SectionsLaws.{length-sorted}
 use Rattle.fsm_sections.proofs.SortLaws.{times-sorted}
 use Rattle.fsm_sections.proofs.SizesLaws.{ofSize-append, length-chain, ofSize-chain, ofSize-sorted}
 use Rattle.fsm_sections.proofs.SlotLaws.{times-append, sections-append}
-use Rattle.fsm_sections.proofs.SourceLaws.{fits-a, fits-b, fits-c, part-fits, part-all, swap}
-use Rattle.fsm_sections.proofs.NextLaws.{Picked, run, one-there, next-a, next-b, next-c, next-none, left-a, left-b, left-c}
+use Rattle.fsm_sections.proofs.SourceLaws.{part-fits, part-all, swap}
+use Rattle.fsm_sections.proofs.NextLaws.{choice-3, next-a, next-b, next-c, next-none}
 
 -- ---- the part that is meant of a run's regions
 
@@ -41,75 +40,6 @@ module _ (s : Source) (w : ℕ) where
 
   pub part-2 : (w ≡ 0 → ⊥) → (w ≡ 1 → ⊥) → s .pc ≡ partIn s w
   part-2 e f = rw (ne-eqb w 0 e, ne-eqb w 1 f) refl
-
--- ---- the region that comes next, at any cursor
-
-module _ (s : Source) (a b c : List ℕ) (at : Cursor) where
-  abbrev i : ℕ
-  i = at .i
-
-  abbrev j : ℕ
-  j = at .j
-
-  abbrev k : ℕ
-  k = at .k
-
-  abbrev which : ℕ
-  which = run a (s .na) b (s .nb) c (s .nc) i j k
-
-  abbrev next : Region
-  next = nextRegion a (s .na) b (s .nb) c (s .nc) i j k
-
-  pub record Passed : Type 0 where
-    pub of-a : s .na ≤ i
-    pub of-b : s .nb ≤ j
-    pub of-c : s .nc ≤ k
-
-  passed : 3 ≤ which → Passed
-  passed h = record {
-    of-a = ⊎-elim (λ (l : s .na ≤ i). l) (λ (l : i < s .na). absurd (omega (arith, few (inl (lt-ltb i (s .na) l))))) (le-or-lt (s .na) i);
-    of-b = ⊎-elim (λ (l : s .nb ≤ j). l) (λ (l : j < s .nb). absurd (omega (arith, few (inr (inl (lt-ltb j (s .nb) l)))))) (le-or-lt (s .nb) j);
-    of-c = ⊎-elim (λ (l : s .nc ≤ k). l) (λ (l : k < s .nc). absurd (omega (arith, few (inr (inr (lt-ltb k (s .nc) l)))))) (le-or-lt (s .nc) k);
-  }
-    where
-      few : (ltb i (s .na) ≡ true) ⊎ ((ltb j (s .nb) ≡ true) ⊎ (ltb k (s .nc) ≡ true)) → which ≤ 2
-      few = one-there (ltb i (s .na)) (sectionAt a i .addr) (ltb j (s .nb)) (sectionAt b j .addr) (ltb k (s .nc)) (sectionAt c k .addr)
-
-  chosen : Picked s a b c i j k next ⊎ ((next .run ≡ 3) × Passed)
-  chosen = go which refl
-    where
-      go : (v : ℕ) → which ≡ v → Picked s a b c i j k next ⊎ ((next .run ≡ 3) × Passed)
-      go zero e = inl (inl (left-a a (s .na) b (s .nb) c (s .nc) i j k e, next-a a (s .na) b (s .nb) c (s .nc) i j k e))
-      go (suc zero) e = inl (inr (inl (left-b a (s .na) b (s .nb) c (s .nc) i j k e, next-b a (s .na) b (s .nb) c (s .nc) i j k e)))
-      go (suc (suc zero)) e = inl (inr (inr (left-c a (s .na) b (s .nb) c (s .nc) i j k e, next-c a (s .na) b (s .nb) c (s .nc) i j k e)))
-      go (suc (suc (suc v))) e =
-          let n = next-none a (s .na) b (s .nb) c (s .nc) i j k (λ q. omega arith) (λ q. omega arith) (λ q. omega arith) in
-          inr (ap (λ (r : Region). r .run) n, passed (omega arith))
-
-  pub rest-none : Passed → Given s a b c → rest s a b c at ≡ []
-  unfolding rest sectionsOf
-  rest-none p g =
-      rw (
-        decode-end section (s .na) i a (p .of-a) (g .room-a),
-        decode-end section (s .nb) j b (p .of-b) (g .room-b),
-        decode-end section (s .nc) k c (p .of-c) (g .room-c),
-      )
-
-  module _ (r : Region) (e : r ≡ next) where
-    pub step-picked : (r .run ≡ 3 → ⊥) → Picked s a b c i j k r
-    step-picked n =
-        subst (Picked s a b c i j k) (sym e) (⊎-elim (λ p. p) (λ (p : (next .run ≡ 3) × Passed). absurd (n (ap (λ (x : Region). x .run) e ∙ p .0))) chosen)
-
-    pub step-end : r .run ≡ 3 → Given s a b c → rest s a b c at ≡ []
-    step-end n = rest-none (⊎-elim none (λ (q : (next .run ≡ 3) × Passed). q .1) chosen)
-      where
-        three : next .run ≡ 3
-        three = ap (λ (x : Region). x .run) (sym e) ∙ n
-
-        none : Picked s a b c i j k next → Passed
-        none (inl p) = absurd (omega (arith, three, ap (λ (x : Region). x .run) (p .1)))
-        none (inr (inl p)) = absurd (omega (arith, three, ap (λ (x : Region). x .run) (p .1)))
-        none (inr (inr p)) = absurd (omega (arith, three, ap (λ (x : Region). x .run) (p .1)))
 
 -- ---- a chain of more than one section
 
@@ -134,62 +64,104 @@ front : (r : Chain) (l m : List Chain) → bySizeThenAddr (sectionsOf (l ++ (r �
 unfolding sectionsOf
 front r l m = rw (sections-append l (r ∷ m), sections-append l m) (swap (sectionsOf l) (sectionsIn r) (sectionsOf m))
 
-opens : (q : Part) (page n i : ℕ) (xs : List ℕ) (r : Chain) → i < n → 2 * n ≤ length xs → r ≡ partOf q page (sectionAt xs i)
-    → chainsIn q page (drop i (decode n xs)) ≡ r ∷ chainsIn q page (drop (i + 1) (decode n xs))
-opens q page n i xs r h l e =
-    ap (chainsIn q page) (decode-drop section n i xs h l) ∙ ap (λ (x : Chain). x ∷ chainsIn q page (drop (i + 1) (decode n xs))) (sym e)
+-- the sections of what is left
+abbrev sections : Source → Rests → List FreeSection
+sections s l = sectionsOf (chainsIn (s .pa) (s .page) (l .of-a) ++ (chainsIn (s .pb) (s .page) (l .of-b) ++ chainsIn (s .pc) (s .page) (l .of-c)))
 
-module _ (s : Source) (a b c : List ℕ) (at : Cursor) (t : Step) where
-  -- a chain is a region's part
-  abbrev Made : Region → Type 0
-  Made r = PartIs (partIn s (r .run)) (s .page) (section (r .addr) (r .size)) (t .chain) × (t .at ≡ record { i = r .i; j = r .j; k = r .k })
+rest-is : (s : Source) (a b c : List ℕ) (at : Cursor) → rest s a b c at ≡ sections s (restsAt s a b c at)
+unfolding rest
+rest-is s a b c at = refl
 
-  many : (q : Part) (x : FreeSection) → PartIs q (s .page) x (t .chain) → 1 < t .chain .count → t .chain .size ≡ s .page
-  many q x p h = p .of-size ∙ part-pages q (s .page) x (omega (arith, p .as-many))
+pub step-end : (s : Source) (a b c : List ℕ) (at : Cursor) (r : Region) → NextIs s a b c at r → r .run ≡ 3 → rest s a b c at ≡ []
+unfolding sectionsOf
+step-end s a b c at r h e = rest-is s a b c at ∙ ap (sections s) (next-none s a b c at r h (omega arith))
 
-  whole : (q : Part) (x : FreeSection) → PartIs q (s .page) x (t .chain) → PartFits q x → t .chain ≡ partOf q (s .page) x
-  whole q x p = part-all q (s .page) x (t .chain) p
+module _ (s : Source) (a b c : List ℕ) (at : Cursor) (r : Region) (h : NextIs s a b c at r) (t : Step) (te : t .at ≡ r .at) where
+  abbrev X : Rests
+  X = restsAt s a b c at
 
-  fit : (q : Part) (x : FreeSection) → PartIs q (s .page) x (t .chain) → PartFits q x → ChainFits (t .chain)
-  fit q x p f = subst ChainFits (sym (whole q x p f)) (part-fits q (s .page) x f)
+  abbrev Y : Rests
+  Y = restsAt s a b c (t .at)
 
-  pub step-taking : (r : Region) → Picked s a b c (at .i) (at .j) (at .k) r → Made r → Taking s a b c at t
-  unfolding rest sectionsOf
-  step-taking r (inl p) m =
-      let n = subst Made (p .1) m in
-      record {
-        less = rw (n .1) (omega (arith, p .0));
-        pages = many (s .pa) (sectionAt a (at .i)) (n .0);
-        fits = λ g. fit (s .pa) (sectionAt a (at .i)) (n .0) (fits-a s a b c g (at .i) (p .0));
-        same = λ g. rw (n .1, opens (s .pa) (s .page) (s .na) (at .i) a (t .chain) (p .0) (g .room-a) (whole (s .pa) _ (n .0) (fits-a s a b c g (at .i) (p .0))));
-      }
-  step-taking r (inr (inl p)) m =
-      let n = subst Made (p .1) m in
-      record {
-        less = rw (n .1) (omega (arith, p .0));
-        pages = many (s .pb) (sectionAt b (at .j)) (n .0);
-        fits = λ g. fit (s .pb) (sectionAt b (at .j)) (n .0) (fits-b s a b c g (at .j) (p .0));
-        same = λ g. rw (n .1, opens (s .pb) (s .page) (s .nb) (at .j) b (t .chain) (p .0) (g .room-b) (whole (s .pb) _ (n .0) (fits-b s a b c g (at .j) (p .0))))
-            (front (t .chain) (chainsIn (s .pa) (s .page) (drop (at .i) (decode (s .na) a))) _);
-      }
-  step-taking r (inr (inr p)) m =
-      let n = subst Made (p .1) m in
-      let A = chainsIn (s .pa) (s .page) (drop (at .i) (decode (s .na) a)) in
-      let B = chainsIn (s .pb) (s .page) (drop (at .j) (decode (s .nb) b)) in
-      let C = chainsIn (s .pc) (s .page) (drop (at .k + 1) (decode (s .nc) c)) in
-      record {
-        less = rw (n .1) (omega (arith, p .0));
-        pages = many (s .pc) (sectionAt c (at .k)) (n .0);
-        fits = λ g. fit (s .pc) (sectionAt c (at .k)) (n .0) (fits-c s a b c g (at .k) (p .0));
-        same = λ g. rw (n .1, opens (s .pc) (s .page) (s .nc) (at .k) c (t .chain) (p .0) (g .room-c) (whole (s .pc) _ (n .0) (fits-c s a b c g (at .k) (p .0))))
-            (rw (← append-assoc A B (t .chain ∷ C), ← append-assoc A B C) (front (t .chain) (A ++ B) C));
-      }
+  abbrev x : FreeSection
+  x = r .section
+
+  -- a chain is a part of the region
+  module _ (q : Part) (p : PartIs q (s .page) x (t .chain)) where
+    many : 1 < t .chain .count → t .chain .size ≡ s .page
+    many l = p .of-size ∙ part-pages q (s .page) x (omega (arith, p .as-many))
+
+    whole : PartFits q x → t .chain ≡ partOf q (s .page) x
+    whole = part-all q (s .page) x (t .chain) p
+
+    ends : PartFits q x → bySizeThenAddr (sectionsIn (partOf q (s .page) x) ++ sections s Y) ≡ bySizeThenAddr (sectionsIn (t .chain) ++ rest s a b c (t .at))
+    ends f = sym (ap₂ (λ (v : Chain) (l : List FreeSection). bySizeThenAddr (sectionsIn v ++ l)) (whole f) (rest-is s a b c (t .at)))
+
+    fit : PartFits q x → ChainFits (t .chain)
+    fit f = subst ChainFits (sym (whole f)) (part-fits q (s .page) x f)
+
+  begins : {l : Rests} → X ≡ l → bySizeThenAddr (rest s a b c at) ≡ bySizeThenAddr (sections s l)
+  begins e = ap bySizeThenAddr (rest-is s a b c at ∙ ap (sections s) e)
+
+  before : (l : Rests) → X ≡ l → (length (X .of-a) + (length (X .of-b) + length (X .of-c))) ≡ length (l .of-a) + (length (l .of-b) + length (l .of-c))
+  before l e = ap (λ (y : Rests). length (y .of-a) + (length (y .of-b) + length (y .of-c))) e
+
+  module _ (p : PartIs (partIn s (r .run)) (s .page) x (t .chain)) where
+    take-a : r .run ≡ 0 → Taking s a b c at t
+    unfolding sectionsOf
+    take-a e =
+        let X-is : X ≡ rests (x ∷ Y .of-a) (Y .of-b) (Y .of-c) = rw te (next-a s a b c at r h e) in
+        let m : PartIs (s .pa) (s .page) x (t .chain) = subst (λ (q : Part). PartIs q (s .page) x (t .chain)) (sym (part-0 s (r .run) e)) p in
+        let f : Given s a b c → PartFits (s .pa) x = λ g. first-left (PartFits (s .pa)) (s .na) a (at .a) x _ (ap (λ (l : Rests). l .of-a) X-is) (g .fit-a) in
+        record {
+          less = omega (arith, before _ X-is);
+          pages = many (s .pa) m;
+          fits = λ g. fit (s .pa) m (f g);
+          same = λ g. begins X-is ∙ ends (s .pa) m (f g);
+        }
+
+    take-b : r .run ≡ 1 → Taking s a b c at t
+    take-b e =
+        let X-is : X ≡ rests (Y .of-a) (x ∷ Y .of-b) (Y .of-c) = rw te (next-b s a b c at r h e) in
+        let m : PartIs (s .pb) (s .page) x (t .chain) = subst (λ (q : Part). PartIs q (s .page) x (t .chain)) (sym (part-1 s (r .run) e)) p in
+        let f : Given s a b c → PartFits (s .pb) x = λ g. first-left (PartFits (s .pb)) (s .nb) b (at .b) x _ (ap (λ (l : Rests). l .of-b) X-is) (g .fit-b) in
+        record {
+          less = omega (arith, before _ X-is);
+          pages = many (s .pb) m;
+          fits = λ g. fit (s .pb) m (f g);
+          same = λ g. begins X-is ∙ front (partOf (s .pb) (s .page) x) (chainsIn (s .pa) (s .page) (Y .of-a)) _ ∙ ends (s .pb) m (f g);
+        }
+
+    take-c : (r .run ≡ 0 → ⊥) → (r .run ≡ 1 → ⊥) → r .run ≡ 2 → Taking s a b c at t
+    take-c n0 n1 e =
+        let X-is : X ≡ rests (Y .of-a) (Y .of-b) (x ∷ Y .of-c) = rw te (next-c s a b c at r h e) in
+        let m : PartIs (s .pc) (s .page) x (t .chain) = subst (λ (q : Part). PartIs q (s .page) x (t .chain)) (sym (part-2 s (r .run) n0 n1)) p in
+        let f : Given s a b c → PartFits (s .pc) x = λ g. first-left (PartFits (s .pc)) (s .nc) c (at .c) x _ (ap (λ (l : Rests). l .of-c) X-is) (g .fit-c) in
+        let A = chainsIn (s .pa) (s .page) (Y .of-a) in
+        let B = chainsIn (s .pb) (s .page) (Y .of-b) in
+        let C = chainsIn (s .pc) (s .page) (Y .of-c) in
+        let v = partOf (s .pc) (s .page) x in
+        record {
+          less = omega (arith, before _ X-is);
+          pages = many (s .pc) m;
+          fits = λ g. fit (s .pc) m (f g);
+          same = λ g. begins X-is ∙ rw (← append-assoc A B (v ∷ C), ← append-assoc A B C) (front v (A ++ B) C) ∙ ends (s .pc) m (f g);
+        }
+
+    pub step-taking : (r .run ≡ 3 → ⊥) → Taking s a b c at t
+    step-taking n = by (r .run) refl
+      where
+        by : (w : ℕ) → r .run ≡ w → Taking s a b c at t
+        by zero e = take-a e
+        by (suc zero) e = take-b e
+        by (suc (suc zero)) e = take-c (λ z. omega arith) (λ z. omega arith) e
+        by (suc (suc (suc w))) e = absurd (n (h .lowest ∙ choice-3 (isFirst (X .of-a) (X .of-b) (X .of-c)) (isFirst (X .of-b) (X .of-c) []) (isFirst (X .of-c) [] []) (omega (arith, h .lowest)) .0))
 
 -- ---- the iterations of a pass
 
 module _ (s : Source) (a b c : List ℕ) where
   pub rest-all : rest s a b c start ≡ sectionsOf (chainsOf s a b c)
-  unfolding rest chainsOf
+  unfolding rest restIn chainsOf
   rest-all = refl
 
   module _ (g : Given s a b c) (at : Cursor) (t : Step) (h : Taking s a b c at t) where

@@ -2,8 +2,9 @@ pub mod Sections
 pub mod Chains
 pub mod Pages
 pub mod Sources
-pub mod Steps
+pub mod RunSteps
 pub mod Passes
 pub mod Runs
 pub mod Nexts
+pub mod Steps
 pub mod NextSays

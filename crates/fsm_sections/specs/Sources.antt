@@ -10,17 +10,15 @@
 --   partIn        the part that is meant of the regions of a run, 0, 1 or 2
 --   PartFits      what is cut ends within 64 bits
 --   PartIs        `part_chain`: the size and the number of a part's sections, and where they begin if what is cut ends within 64 bits
---   Given         a source that can be gone through, as refusals 2, 3 and 4 leave it: the page is not 0, each count is within its run, what is
---                 cut ends within 64 bits
+--   Given         a source that can be gone through, as refusals 2 and 4 leave it: the page is not 0, what is cut ends within 64 bits
 --   smallSource   the sections of slot 0 or 2, a run's "pieces below a page": the run stands at a and at b
 --   largeSource   the sections of slot 6: the whole pages of two runs, and the regions of a third uncut
 --   plainSource   a run of sections as they are
 use mathlib.Core.Path.{_≡_}
-use Prim.Native.Nat.{ℕ, _+_, _-_, _*_, _/_, _%_, _^_, min, _≤_, _<_}
+use Prim.Native.Nat.{ℕ, _+_, _-_, _*_, _/_, _%_, _^_, min, _<_}
 use mathlib.Core.Bool.{cond}
 use mathlib.Core.List.{List, _++_, map}
 use lib.Dec.{eqb}
-use lib.ListN.{length}
 use Rattle.fsm_sections.specs.declared.FreeSection.{FreeSection}
 use Rattle.fsm_sections.specs.declared.Chain.{Chain}
 use Rattle.fsm_sections.specs.declared.Part.{Part}
@@ -71,9 +69,6 @@ pub record PartIs (q : Part) (page : ℕ) (s : FreeSection) (r : Chain) : Type 0
 
 pub record Given (s : Source) (a b c : List ℕ) : Type 0 where
   pub some : 0 < s .page
-  pub room-a : 2 * s .na ≤ length a
-  pub room-b : 2 * s .nb ≤ length b
-  pub room-c : 2 * s .nc ≤ length c
   pub fit-a : All (PartFits (s .pa)) (decode (s .na) a)
   pub fit-b : All (PartFits (s .pb)) (decode (s .nb) b)
   pub fit-c : All (PartFits (s .pc)) (decode (s .nc) c)

@@ -1,5 +1,7 @@
 // Free sections as a manager tracks them, and the chains of equal sections that region lists give.
 ghost use mathlib.Core.Path.{_≡_};
+ghost use Prim.Native.Nat.{_+_};
+ghost use lib.Dec.{leb};
 ghost use Rattle.error.specs.Answers.{numberOutcome};
 ghost use Rattle.fields.specs.Ranges.{sum};
 ghost use Rattle.fsm_sections.specs.Sources.{headSize};
@@ -11,6 +13,7 @@ use numbers::remainder;
 
 pub mod next;
 pub mod parts;
+pub mod run;
 pub mod wide;
 
 // The address first, then the size: a host lends records of it.
@@ -72,4 +75,19 @@ pub struct Source {
     pub nc: usize,
     pub pc: Part,
     pub page: u64,
+}
+
+impl Source {
+    // Whether at most so many regions are meant.
+    pub fn has_at_most(self, most: usize) -> bool
+        ensures { λ r. ⌜ r ≡ leb (self .na + self .nb + self .nc) most ⌝ }
+    {
+        if most < self.na {
+            return false;
+        }
+        if most - self.na < self.nb {
+            return false;
+        }
+        self.nc <= most - self.na - self.nb
+    }
 }

@@ -2,8 +2,9 @@
 ghost use mathlib.Core.Path.{_≡_};
 ghost use Rattle.fsm_sections.specs.Sections.{decode};
 ghost use Rattle.fsm_sections.specs.Runs.{wide, anyWide};
+use crate::run::RunCursor;
+use crate::run::next_in;
 use fields::width::enc_size;
-use numbers::index::min;
 
 // Whether an address does not fit o bytes.
 pub fn is_wide(addr: u64, o: usize) -> bool
@@ -19,13 +20,15 @@ pub fn is_wide(addr: u64, o: usize) -> bool
 pub fn any_wide(sections: &[u64], count: usize, o: usize) -> bool
     ensures { λ r. ⌜ r ≡ anyWide o (decode count (now (sections .entry))) ⌝ }
 {
-    let n = min(count, sections.len() / 2);
-    let mut i = 0;
-    while i < n {
-        if is_wide(sections[2 * i], o) {
+    let mut at = RunCursor::start();
+    loop {
+        let t = next_in(sections, count, at);
+        if t.end {
+            return false;
+        }
+        if is_wide(t.region.addr, o) {
             return true;
         }
-        i += 1;
+        at = t.at;
     }
-    false
 }

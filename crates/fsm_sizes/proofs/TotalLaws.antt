@@ -6,7 +6,7 @@ use native.Mathlib.Omega.{arith}
 use mathlib.Core.Bool.{Bool, true, false, _||_}
 use mathlib.Core.List.{List, [], _∷_, _++_}
 use lib.Dec.{ltb}
-use lib.ListN.{length, length-append, drop}
+use lib.ListN.{length, length-append}
 use borrow.Author.Tests.{lt-ltb, le-ltb, ltb-false}
 use Rattle.error.specs.declared.Refusal.{Refusal}
 use Rattle.error.specs.declared.Refusal.the-variants.{Overflow}
@@ -14,13 +14,11 @@ use Rattle.error.specs.Outcome.{answer, refused, when, sat}
 use Rattle.error.proofs.TestLaws.{le-or-lt, or-false}
 use Rattle.error.proofs.OutcomeLaws.{refuses, passes, first-answers, first-refuses}
 use Rattle.fields.specs.Ranges.{top}
-use Rattle.pairs.specs.Pairs as pairs
-use Rattle.pairs.proofs.PairLaws.{decode-drop, decode-end, decode-map}
 use Rattle.fsm_sections.specs.declared.FreeSection.{FreeSection}
 use Rattle.fsm_sections.specs.declared.Part.{Part}
 use Rattle.fsm_sections.specs.declared.Chain.{Chain}
 use Rattle.fsm_sections.specs.declared.Source.{Source}
-use Rattle.fsm_sections.specs.Sections.{section, decode, space, sectionAt, distinct}
+use Rattle.fsm_sections.specs.Sections.{decode, space, distinct}
 use Rattle.fsm_sections.specs.Chains.{chain, sectionsOf}
 use Rattle.fsm_sections.specs.Sources.{partOf, chainsIn, chainsOf, PartIs}
 use Rattle.fsm_sections.proofs.SizesLaws.{length-chain, distinct-few}
@@ -74,46 +72,36 @@ module _ (c : Summed) (n z : ℕ) (e : summedOutcome c ≡ summed n z) where
 
 -- ---- a run's regions
 
-module _ (q : Part) (page : ℕ) (run : List ℕ) (n : ℕ) (room : 2 * n ≤ length run) where
-  -- the sections of the regions from the i-th on
-  abbrev pub from : ℕ → List FreeSection
-  from i = sectionsOf (drop i (chainsIn q page (decode n run)))
+module _ (q : Part) (page : ℕ) where
+  -- the sections of regions
+  abbrev pub sections : List FreeSection → List FreeSection
+  sections l = sectionsOf (chainsIn q page l)
 
-  parts-are : chainsIn q page (decode n run) ≡ pairs.decode (λ a z. partOf q page (section a z)) n run
-  parts-are = decode-map section (partOf q page) n run
+  -- the first of them
+  module _ (l : List FreeSection) (x : FreeSection) (m : List FreeSection) (e : l ≡ x ∷ m) (r : Chain) (p : PartIs q page x r) where
+    abbrev c : Chain
+    c = partOf q page x
 
-  none-left : (i : ℕ) → n ≤ i → from i ≡ []
-  unfolding sectionsOf
-  none-left i h = ap (λ (cs : List Chain). sectionsOf (drop i cs)) parts-are ∙ ap sectionsOf (decode-end (λ a z. partOf q page (section a z)) n i run h room)
-
-  module _ (i : ℕ) (h : i < n) (r : Chain) (p : PartIs q page (sectionAt run i) r) where
-    abbrev x : Chain
-    x = partOf q page (sectionAt run i)
-
-    first : from i ≡ chain (x .addr) (x .size) (x .count) ++ from (i + 1)
+    first : sections l ≡ chain (c .addr) (c .size) (c .count) ++ sections m
     unfolding sectionsOf
-    first =
-        let e : drop i (chainsIn q page (decode n run)) ≡ x ∷ drop (i + 1) (chainsIn q page (decode n run)) =
-        rw (parts-are, decode-drop (λ a z. partOf q page (section a z)) n i run h room) in
-        ap sectionsOf e
+    first = ap sections e
 
-    pub region-space : r .count * r .size ≤ sectionAt run i .size
-    region-space = rw (p .of-size, p .as-many) (part-within q page (sectionAt run i))
+    pub region-space : r .count * r .size ≤ x .size
+    region-space = rw (p .of-size, p .as-many) (part-within q page x)
 
-    pub space-step : space (from i) ≡ r .count * r .size + space (from (i + 1))
-    space-step =
-        ap space first ∙ space-append (chain (x .addr) (x .size) (x .count)) (from (i + 1)) ∙ rw (p .of-size, p .as-many, space-chain (x .addr) (x .size) (x .count))
+    pub space-step : space (sections l) ≡ r .count * r .size + space (sections m)
+    space-step = ap space first ∙ space-append (chain (c .addr) (c .size) (c .count)) (sections m) ∙ rw (p .of-size, p .as-many, space-chain (c .addr) (c .size) (c .count))
 
-    pub count-step : length (from i) ≡ r .count + length (from (i + 1))
-    count-step =
-        ap length first ∙ length-append (chain (x .addr) (x .size) (x .count)) (from (i + 1)) ∙ rw (p .as-many, length-chain (x .addr) (x .size) (x .count))
+    pub count-step : length (sections l) ≡ r .count + length (sections m)
+    count-step = ap length first ∙ length-append (chain (c .addr) (c .size) (c .count)) (sections m) ∙ rw (p .as-many, length-chain (c .addr) (c .size) (c .count))
 
-  pub space-end : (i : ℕ) → n ≤ i → space (from i) ≡ 0
-  unfolding space
-  space-end i h = ap space (none-left i h)
+  pub space-end : (l : List FreeSection) → l ≡ [] → space (sections l) ≡ 0
+  unfolding space sectionsOf
+  space-end l e = ap (λ (m : List FreeSection). space (sections m)) e
 
-  pub count-end : (i : ℕ) → n ≤ i → length (from i) ≡ 0
-  count-end i h = ap length (none-left i h)
+  pub count-end : (l : List FreeSection) → l ≡ [] → length (sections l) ≡ 0
+  unfolding sectionsOf
+  count-end l e = ap (λ (m : List FreeSection). length (sections m)) e
 
 -- ---- the three runs
 
@@ -121,49 +109,43 @@ module _ (s : Source) (a b c : List ℕ) where
   abbrev all : List FreeSection
   all = sectionsOf (chainsOf s a b c)
 
-  -- the sections of n pairs of a run
-  abbrev pub in-run : Part → ℕ → List ℕ → List FreeSection
-  in-run q n xs = sectionsOf (chainsIn q (s .page) (decode n xs))
+  abbrev A : List FreeSection
+  A = sections (s .pa) (s .page) (decode (s .na) a)
 
-  -- the counts that the runs have
-  module _ (na nb nc : ℕ) (ea : decode na a ≡ decode (s .na) a) (eb : decode nb b ≡ decode (s .nb) b) (ec : decode nc c ≡ decode (s .nc) c) where
-    abbrev A : List FreeSection
-    A = in-run (s .pa) na a
+  abbrev B : List FreeSection
+  B = sections (s .pb) (s .page) (decode (s .nb) b)
 
-    abbrev B : List FreeSection
-    B = in-run (s .pb) nb b
+  abbrev C : List FreeSection
+  C = sections (s .pc) (s .page) (decode (s .nc) c)
 
-    abbrev C : List FreeSection
-    C = in-run (s .pc) nc c
+  lengths : length all ≡ length A + (length B + length C)
+  lengths = three length length-append s a b c
 
-    lengths : length all ≡ length A + (length B + length C)
-    lengths = rw (ea, eb, ec) (three length length-append s a b c)
+  spaces : space all ≡ space A + (space B + space C)
+  spaces = three space space-append s a b c
 
-    spaces : space all ≡ space A + (space B + space C)
-    spaces = rw (ea, eb, ec) (three space space-append s a b c)
+  module _ (x : Summed) (xe : summedOutcome x ≡ summed (0 + length A) (0 + space A)) where
+    pub first-over : (r : Refusal) → x ≡ sums.Refused r → refused Overflow ≡ summed (length all) (space all)
+    first-over r h =
+        either-over (length all) (space all)
+        (⊎-elim (λ (p : top < 0 + space A). inl (omega (arith, spaces))) (λ (p : top < 0 + length A). inr (omega (arith, lengths))) (summed-not x _ _ xe r h))
 
-    module _ (x : Summed) (xe : summedOutcome x ≡ summed (0 + length A) (0 + space A)) where
-      pub first-over : (r : Refusal) → x ≡ sums.Refused r → refused Overflow ≡ summed (length all) (space all)
-      first-over r h =
+    module _ (t : Sums) (te : x ≡ sums.Are t) (y : Summed) (ye : summedOutcome y ≡ summed (t .count + length B) (t .space + space B)) where
+      first-is : (t .count ≡ 0 + length A) × (t .space ≡ 0 + space A)
+      first-is = let q = summed-is x _ _ xe t te in (q .0, q .1)
+
+      pub second-over : (r : Refusal) → y ≡ sums.Refused r → refused Overflow ≡ summed (length all) (space all)
+      second-over r h =
           either-over (length all) (space all)
-          (⊎-elim (λ (p : top < 0 + space A). inl (omega (arith, spaces))) (λ (p : top < 0 + length A). inr (omega (arith, lengths))) (summed-not x _ _ xe r h))
+          (⊎-elim (λ (p : top < t .space + space B). inl (omega (arith, spaces, first-is .1)))
+          (λ (p : top < t .count + length B). inr (omega (arith, lengths, first-is .0))) (summed-not y _ _ ye r h))
 
-      module _ (t : Sums) (te : x ≡ sums.Are t) (y : Summed) (ye : summedOutcome y ≡ summed (t .count + length B) (t .space + space B)) where
-        first-is : (t .count ≡ 0 + length A) × (t .space ≡ 0 + space A)
-        first-is = let q = summed-is x _ _ xe t te in (q .0, q .1)
-
-        pub second-over : (r : Refusal) → y ≡ sums.Refused r → refused Overflow ≡ summed (length all) (space all)
-        second-over r h =
-            either-over (length all) (space all)
-            (⊎-elim (λ (p : top < t .space + space B). inl (omega (arith, spaces, first-is .1)))
-            (λ (p : top < t .count + length B). inr (omega (arith, lengths, first-is .0))) (summed-not y _ _ ye r h))
-
-        pub all-runs : (u : Sums) → y ≡ sums.Are u → summed (u .count + length C) (u .space + space C) ≡ summed (length all) (space all)
-        all-runs u h =
-            let q = summed-is y _ _ ye u h in
-            let n : u .count + length C ≡ length all = omega (arith, lengths, first-is .0, q .0) in
-            let z : u .space + space C ≡ space all = omega (arith, spaces, first-is .1, q .1) in
-            λ i. summed (n i) (z i)
+      pub all-runs : (u : Sums) → y ≡ sums.Are u → summed (u .count + length C) (u .space + space C) ≡ summed (length all) (space all)
+      all-runs u h =
+          let q = summed-is y _ _ ye u h in
+          let n : u .count + length C ≡ length all = omega (arith, lengths, first-is .0, q .0) in
+          let z : u .space + space C ≡ space all = omega (arith, spaces, first-is .1, q .1) in
+          λ i. summed (n i) (z i)
 
 -- ---- with the number of sizes
 

@@ -4,26 +4,17 @@
 --   atLeast     the sections whose size is at or above a bound
 --   sizesFrom   how many sizes these have
 --   Gathers     what a list of sizes becomes: each size in the window that has sections (seen z of them) stands in it once, the others as before
---   Alike       the regions of a run from the i-th up to the j-th have size z
---   RowIs       sections of one size: those that the regions from the i-th up to a later one give
---   InRuns      each count of a source is within its run
 --   Counted     as many sizes as lie in a window, and those above it, are those from where it begins
 --   between     the groups whose size lies in a window
 --   groupsIn    those of sections in the order on file
-use Prim.Native.Nat.{ℕ, _+_, _*_, _≤_, _<_}
+use Prim.Native.Nat.{ℕ, _+_, _≤_}
 use mathlib.Core.Path.{_≡_}
 use mathlib.Core.Bool.{Bool, cond, _&&_}
 use mathlib.Core.List.{List, [], _∷_}
-use lib.ListN.{length, take, getD}
-use lib.Dec.{ltb, leb, eqb}
+use lib.Dec.{ltb, leb}
 use Rattle.fsm_sections.specs.declared.FreeSection.{FreeSection}
-use Rattle.fsm_sections.specs.declared.Part.{Part}
-use Rattle.fsm_sections.specs.Sections.{Group, bySizeThenAddr, groupsOf, distinct, decode, ofSize}
-use Rattle.fsm_sections.specs.Chains.{sectionsOf}
-use Rattle.fsm_sections.specs.Sources.{chainsIn}
+use Rattle.fsm_sections.specs.Sections.{Group, bySizeThenAddr, groupsOf, distinct}
 use Rattle.fsm_sections.specs.Passes.{occurs}
-use Rattle.fsm_sections.specs.declared.Source.{Source}
-use Rattle.fsm_sizes.specs.declared.rows.Row.{Row}
 
 abbrev pub inside : ℕ → ℕ → ℕ → Bool
 inside from reach z = leb from z && leb z reach
@@ -41,20 +32,6 @@ Gathers from reach seen old new = (z : ℕ) → occurs z new ≡ cond (inside fr
 pub record Counted (from : ℕ) (l : List FreeSection) (found reach : ℕ) : Type 0 where
   pub up : from ≤ reach
   pub same : found + sizesFrom (reach + 1) l ≡ sizesFrom from l
-
-pub record InRuns (s : Source) (a b c : List ℕ) : Type 0 where
-  pub room-a : 2 * s .na ≤ length a
-  pub room-b : 2 * s .nb ≤ length b
-  pub room-c : 2 * s .nc ≤ length c
-
-abbrev pub Alike : ℕ → ℕ → ℕ → List ℕ → Type 0
-Alike z i j run = (k : ℕ) → i ≤ k → k < j → getD run (2 * k + 1) 0 ≡ z
-
-pub record RowIs (part : Part) (page count : ℕ) (run : List ℕ) (i : ℕ) (r : Row) : Type 0 where
-  pub up : i < r .end
-  pub low : r .end ≤ count
-  pub more : (x : ℕ) → ofSize x (sectionsOf (take (r .end) (chainsIn part page (decode count run))))
-      ≡ ofSize x (sectionsOf (take i (chainsIn part page (decode count run)))) + cond (eqb x (r .size)) (r .count) 0
 
 unfoldable pub between : ℕ → ℕ → List Group → List Group
 between from reach [] = []

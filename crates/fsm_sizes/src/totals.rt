@@ -1,17 +1,18 @@
 // How many sections a source has, how many sizes they have and what their sizes add up to.
 ghost use mathlib.Core.Path.{_≡_};
-ghost use Prim.Native.Nat.{_+_, _*_, _≤_};
+ghost use Prim.Native.Nat.{_+_};
 ghost use lib.ListN.{length};
 ghost use Rattle.fsm_sections.specs.Sections.{decode, space};
 ghost use Rattle.fsm_sections.specs.Chains.{sectionsOf};
 ghost use Rattle.fsm_sections.specs.Sources.{chainsIn, chainsOf};
 ghost use Rattle.fsm_sizes.specs.Totals.{summed, summedOutcome, totalsOf, totalsOutcome};
 use crate::windows::distinct_sizes;
-use crate::windows::pairs_in;
 use error::Refusal;
 use fsm_sections::Part;
 use fsm_sections::Source;
 use fsm_sections::parts::part_chain;
+use fsm_sections::run::RunCursor;
+use fsm_sections::run::next_in;
 use numbers::MAX;
 
 // A number of sections, and the sum of their sizes.
@@ -39,15 +40,21 @@ pub enum Totalled {
 
 // The sections of a run's regions, in closed form per region, added to others.
 fn sums_in(run: &[u64], count: usize, part: Part, page: u64, from: Sums) -> Summed
-    requires { ⌜ 2 * count ≤ length (now run) ⌝ }
     ensures { λ r. ⌜ summedOutcome r ≡ summed (from .count + length (sectionsOf (chainsIn part page (decode count (now (run .entry))))))
         (from .space + space (sectionsOf (chainsIn part page (decode count (now (run .entry)))))) ⌝ }
 {
     let mut n = from.count;
     let mut sum = from.space;
-    let mut i = 0;
-    while i < count {
-        let r = part_chain(part, page, run[2 * i], run[2 * i + 1]);
+    let mut at = RunCursor::start();
+    loop {
+        let t = next_in(run, count, at);
+        if t.end {
+            return Summed::Are(Sums {
+                count: n,
+                space: sum,
+            });
+        }
+        let r = part_chain(part, page, t.region.addr, t.region.size);
         let more = r.count * r.size;
         if MAX - sum < more {
             return Summed::Refused(Refusal::Overflow);
@@ -57,12 +64,8 @@ fn sums_in(run: &[u64], count: usize, part: Part, page: u64, from: Sums) -> Summ
         }
         sum = sum + more;
         n = n + r.count;
-        i += 1;
+        at = t.at;
     }
-    Summed::Are(Sums {
-        count: n,
-        space: sum,
-    })
 }
 
 // How many sections a source has, and the sum of their sizes. Pairs that a run does not have count nothing.
@@ -75,13 +78,13 @@ pub fn sums_of(a: &[u64], b: &[u64], c: &[u64], s: Source) -> Summed
     let pc = s.pc;
     let page = s.page;
     let none = Sums { count: 0, space: 0 };
-    let Summed::Are(x) = sums_in(a, pairs_in(a, s.na), pa, page, none) else {
+    let Summed::Are(x) = sums_in(a, s.na, pa, page, none) else {
         return Summed::Refused(Refusal::Overflow);
     };
-    let Summed::Are(y) = sums_in(b, pairs_in(b, s.nb), pb, page, x) else {
+    let Summed::Are(y) = sums_in(b, s.nb, pb, page, x) else {
         return Summed::Refused(Refusal::Overflow);
     };
-    sums_in(c, pairs_in(c, s.nc), pc, page, y)
+    sums_in(c, s.nc, pc, page, y)
 }
 
 // The totals of a source's sections.

@@ -1,12 +1,11 @@
 // The number of sizes that the sections of a source have, window by window.
 ghost use mathlib.Core.Path.{_≡_};
-ghost use Prim.Native.Nat.{_+_, _*_, _<_, _≤_};
+ghost use Prim.Native.Nat.{_≤_};
 ghost use lib.ListN.{length, take};
 ghost use Rattle.error.specs.Outcome.{sat};
 ghost use Rattle.fsm_sections.specs.Sections.{decode, ofSize, distinct};
 ghost use Rattle.fsm_sections.specs.Chains.{sectionsOf};
-ghost use Rattle.fsm_sections.specs.Sources.{chainsIn, chainsOf, sectionsFrom};
-ghost use Rattle.fsm_sizes.specs.Windows.{InRuns};
+ghost use Rattle.fsm_sections.specs.Sources.{chainsIn, sectionsFrom};
 ghost use Rattle.fsm_sizes.specs.Chained.{Cleared, Room, Stands};
 ghost use Rattle.fsm_sizes.specs.Ordered.{Windowed};
 use crate::FEW;
@@ -15,9 +14,10 @@ use crate::Span;
 use crate::clear;
 use crate::nearer;
 use crate::note;
-use crate::rows::next_row;
 use fsm_sections::Part;
 use fsm_sections::Source;
+use fsm_sections::run::RunCursor;
+use fsm_sections::run::next_row;
 use numbers::MAX;
 use numbers::saturating_add;
 
@@ -34,23 +34,24 @@ fn gather_run(
     slot: &mut [u16],
     w: Span,
 ) -> usize
-    requires given { ⌜ 2 * count ≤ length (now run) ⌝ }
     requires room { ⌜ Room (now of) (now link) (now slot) × (w .from ≤ w .reach) ⌝ }
     requires stands { ⌜ Stands (w .from) (w .reach) (λ x. 0) (take (w .found) (now of)) (now of) (now link) (now slot) (length (now of)) (w .found) ⌝ }
     ensures { λ r. ⌜ Stands (w .from) (w .reach) (λ x. ofSize x (sectionsOf (chainsIn part page (decode count (now (run .entry)))))) (take (w .found)
         (now (of .entry))) (now (of .exit)) (now (link .exit)) (now (slot .exit)) (length (now (of .entry))) r ⌝ }
 {
     let mut found = w.found;
-    let mut i = 0;
-    while i < count {
+    let mut at = RunCursor::start();
+    loop {
         if of.len() < found {
             return found;
         }
-        let r = next_row(run, count, i, part, page);
+        let r = next_row(run, count, at, part, page);
+        if r.end {
+            return found;
+        }
         found = note(of, link, slot, found, w.from, w.reach, r.size, r.count);
-        i = r.end;
+        at = r.at;
     }
-    found
 }
 
 // The sizes of a source's sections that lie in a window, put to the sizes that it has.
@@ -64,7 +65,6 @@ fn sweep(
     slot: &mut [u16],
     w: Span,
 ) -> usize
-    requires given { ⌜ InRuns s (now a) (now b) (now c) ⌝ }
     requires room { ⌜ Room (now of) (now link) (now slot) × (w .from ≤ w .reach) ⌝ }
     requires stands { ⌜ Stands (w .from) (w .reach) (λ x. 0) (take (w .found) (now of)) (now of) (now link) (now slot) (length (now of)) (w .found) ⌝ }
     ensures { λ r. ⌜ Stands (w .from) (w .reach) (λ x. ofSize x (sectionsFrom s (now (a .entry)) (now (b .entry)) (now (c .entry)))) (take (w .found)
@@ -107,7 +107,6 @@ pub(crate) fn window_of(
     slot: &mut [u16],
     from: u64,
 ) -> Span
-    requires given { ⌜ InRuns s (now a) (now b) (now c) ⌝ }
     requires room { ⌜ Room (now of) (now link) (now slot) × Cleared (now slot) ⌝ }
     ensures { λ r. ⌜ Windowed from (sectionsFrom s (now (a .entry)) (now (b .entry)) (now (c .entry))) (now (of .exit)) (now (link .exit))
         (now (slot .exit)) (length (now (of .entry))) r ⌝ }
@@ -142,7 +141,6 @@ fn count_of(
     link: &mut [u16],
     slot: &mut [u16],
 ) -> u64
-    requires given { ⌜ InRuns s (now a) (now b) (now c) ⌝ }
     requires room { ⌜ Room (now of) (now link) (now slot) × Cleared (now slot) ⌝ }
     ensures { λ r. ⌜ r ≡ sat (distinct (sectionsFrom s (now (a .entry)) (now (b .entry)) (now (c .entry)))) ⌝ }
 {
@@ -163,7 +161,6 @@ fn count_of(
 
 // The same by arrays for few sizes, which take less time to make.
 fn few_of(a: &[u64], b: &[u64], c: &[u64], s: Source) -> u64
-    requires given { ⌜ InRuns s (now a) (now b) (now c) ⌝ }
     ensures { λ r. ⌜ r ≡ sat (distinct (sectionsFrom s (now (a .entry)) (now (b .entry)) (now (c .entry)))) ⌝ }
 {
     let mut of: [u64; FEW] = [0; FEW];
@@ -174,7 +171,6 @@ fn few_of(a: &[u64], b: &[u64], c: &[u64], s: Source) -> u64
 
 // The same by arrays for many.
 fn many_of(a: &[u64], b: &[u64], c: &[u64], s: Source) -> u64
-    requires given { ⌜ InRuns s (now a) (now b) (now c) ⌝ }
     ensures { λ r. ⌜ r ≡ sat (distinct (sectionsFrom s (now (a .entry)) (now (b .entry)) (now (c .entry)))) ⌝ }
 {
     let mut of: [u64; MANY] = [0; MANY];
@@ -183,50 +179,12 @@ fn many_of(a: &[u64], b: &[u64], c: &[u64], s: Source) -> u64
     count_of(a, b, c, s, &mut of, &mut link, &mut slot)
 }
 
-// How many of `count` pairs a run has.
-pub(crate) fn pairs_in(run: &[u64], count: usize) -> usize
-    ensures { λ r. ⌜ (2 * r ≤ length (now (run .entry))) × (decode r (now (run .entry)) ≡ decode count (now (run .entry))) ⌝ }
-{
-    let pairs = run.len() / 2;
-    if count <= pairs {
-        return count;
-    }
-    pairs
-}
-
-// The same by whichever arrays.
-fn count_in_runs(a: &[u64], b: &[u64], c: &[u64], s: Source) -> u64
-    requires given { ⌜ InRuns s (now a) (now b) (now c) ⌝ }
-    ensures { λ r. ⌜ r ≡ sat (distinct (sectionsFrom s (now (a .entry)) (now (b .entry)) (now (c .entry)))) ⌝ }
-{
-    if s.na + s.nb + s.nc <= FEW {
-        return few_of(a, b, c, s);
-    }
-    many_of(a, b, c, s)
-}
-
-// A source with as many regions of each run as the run has.
-pub(crate) fn in_runs(a: &[u64], b: &[u64], c: &[u64], s: Source) -> Source
-    ensures { λ r. ⌜ InRuns r (now (a .entry)) (now (b .entry)) (now (c .entry)) × (chainsOf r (now (a .entry)) (now (b .entry))
-        (now (c .entry)) ≡ chainsOf s (now (a .entry)) (now (b .entry)) (now (c .entry))) ⌝ }
-{
-    let pa = s.pa;
-    let pb = s.pb;
-    let pc = s.pc;
-    Source {
-        na: pairs_in(a, s.na),
-        pa: pa,
-        nb: pairs_in(b, s.nb),
-        pb: pb,
-        nc: pairs_in(c, s.nc),
-        pc: pc,
-        page: s.page,
-    }
-}
-
 // How many sizes the sections of a source have, at most 2^64 - 1. Pairs that a run does not have count nothing.
 pub fn distinct_sizes(a: &[u64], b: &[u64], c: &[u64], s: Source) -> u64
     ensures { λ r. ⌜ r ≡ sat (distinct (sectionsFrom s (now (a .entry)) (now (b .entry)) (now (c .entry)))) ⌝ }
 {
-    count_in_runs(a, b, c, in_runs(a, b, c, s))
+    if s.has_at_most(FEW) {
+        return few_of(a, b, c, s);
+    }
+    many_of(a, b, c, s)
 }

@@ -227,9 +227,9 @@ module _ (a b c : List ℕ) (n : Counts) (page start O : ℕ) (p : BlocksPlan) (
 
   pub first-asked : (s : Source) → s ≡ smallSource page (n .meta) → p .managers .«end_of_managers» ≤ start + length out → Asked a a a s (p .measures .slot0) start (length out)
   first-asked s e room = (
-    subst (λ (x : Source). Given x a a a) (sym e) (small-given page (n .meta) a (t .some) (t .room-x) (t .ends-x)),
+    subst (λ (x : Source). Given x a a a) (sym e) (small-given page (n .meta) a (t .some) (t .ends-x)),
     (
-      subst (λ (x : Source). Numbers (sectionsOf (chainsOf x a a a))) (sym e) (small-numbers page (n .meta) a (t .some) (t .room-x) (t .ends-x)),
+      subst (λ (x : Source). Numbers (sectionsOf (chainsOf x a a a))) (sym e) (small-numbers page (n .meta) a (t .some) (t .ends-x)),
       ((t .low, t .high, sorted-narrow O _ _ (order0 s e) (sections .0)), (ap (λ (q : BlocksPlan). q .measures .slot0) (acc .plan) ∙ same-measure O _ _ (order0 s e), (omega (arith, ends), omega (arith, len0, all-room room)))),
     ),
   )
@@ -248,9 +248,9 @@ module _ (a b c : List ℕ) (n : Counts) (page start O : ℕ) (p : BlocksPlan) (
       second-start O start page (decode (n .meta) a) (decode (n .raw) b) (decode (n .unclassified) c) out _ _ _ (order0 S0 f0) (order2 S2 f2) (order6 S6 f6) k j len0
           (omega (arith, len2)) (all-room room) u ue,
       (
-        subst (λ (x : Source). Given x b b b) (sym f2) (small-given page (n .raw) b (t .some) (t .room-y) (t .ends-y)),
+        subst (λ (x : Source). Given x b b b) (sym f2) (small-given page (n .raw) b (t .some) (t .ends-y)),
         (
-          subst (λ (x : Source). Numbers (sectionsOf (chainsOf x b b b))) (sym f2) (small-numbers page (n .raw) b (t .some) (t .room-y) (t .ends-y)),
+          subst (λ (x : Source). Numbers (sectionsOf (chainsOf x b b b))) (sym f2) (small-numbers page (n .raw) b (t .some) (t .ends-y)),
           (
             (t .low, t .high, sorted-narrow O _ _ (order2 S2 f2) (others .0)),
             (

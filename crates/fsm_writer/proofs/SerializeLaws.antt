@@ -53,12 +53,9 @@ whole-fits [] = tt
 whole-fits (x ∷ l) = (tt, whole-fits l)
 
 module _ (n : ℕ) (run : List ℕ) where
-  pub plain-given : 2 * n ≤ length run → Given (plainSource n) run run run
-  plain-given h = record {
+  pub plain-given : Given (plainSource n) run run run
+  plain-given = record {
     some = omega arith;
-    room-a = h;
-    room-b = omega arith;
-    room-c = omega arith;
     fit-a = whole-fits (decode n run);
     fit-b = tt;
     fit-c = tt;
@@ -346,4 +343,4 @@ pub run-asked : (O : ℕ) (run : List ℕ) (n sum : ℕ) → Accepted O run n su
 run-asked O run n sum h numbers m u k f s e w =
     rw e
     (rw (plain-all n run)
-    (plain-given n run (h .room), (run-numbers n run numbers, (all-narrow O (decode n run) w, ((h .low, h .high), (sym (length-decode section n run (h .room)), (u, f)))))))
+    (plain-given n run, (run-numbers n run numbers, (all-narrow O (decode n run) w, ((h .low, h .high), (sym (length-decode section n run (h .room)), (u, f)))))))

@@ -14,7 +14,7 @@ use Rattle.error.proofs.TestLaws.{le-or-lt}
 use Rattle.pairs.proofs.PairLaws.{decode-drop, decode-end}
 use Rattle.fsm_sections.specs.declared.FreeSection.{FreeSection}
 use Rattle.fsm_sections.specs.Sections.{section, decode, sectionAt}
-use Rattle.fsm_sections.proofs.AnyLaws.{decode-present}
+use Rattle.fsm_sections.proofs.RunStepLaws.{decode-present}
 use Rattle.text.specs.Text.{written}
 use Rattle.holes_text.specs.Listing.{rowText, slotText, slotsText, slotsOf}
 use Rattle.text.proofs.TextLaws.{Printing, piece, printed}

@@ -3,21 +3,23 @@
 --   ways    a region of a list does
 use mathlib.Core.Path.{_≡_, refl, sym, ap, _∙_}
 use mathlib.Core.Logic.{_⊎_, inl, inr, ⊎-elim}
-use Prim.Native.Nat.{ℕ, _+_, _-_, _*_, _≤_, _<_, min, max}
+use Prim.Native.Nat.{ℕ, suc, _+_, _-_, _≤_, _<_, min, max}
 use native.Mathlib.Omega.{arith}
 use mathlib.Core.Bool.{Bool, true, false, _||_}
-use mathlib.Core.List.{List, _∷_}
+use mathlib.Core.List.{List, [], _∷_, map}
 use borrow.Author.Tests.{lt-ltb, le-ltb, le-leb, lt-leb, ltb-false}
 use lib.Dec.{ltb, leb}
-use lib.ListN.{length, drop}
-use Rattle.error.proofs.TestLaws.{le-or-lt, and-false, or-false, or-decides, or-leaves}
+use lib.ListN.{length}
+use Rattle.error.proofs.TestLaws.{le-or-lt, and-true, and-false, or-false, or-decides, or-leaves}
 use Rattle.free_regions.specs.declared.FreeRegion.{FreeRegion}
-use Rattle.free_regions.specs.Regions.{region, end, meets, shares}
-use Rattle.free_regions.proofs.OkLaws.{Fit}
+use Rattle.free_regions.specs.Regions.{region, end, fitsFrom, okFrom, meets, shares}
+use Rattle.free_regions.proofs.OkLaws.{Fit, fit}
 use Rattle.free_space.specs.declared.list.FreeList.{FreeList}
-use Rattle.free_space.specs.Runs.{isList, regionAt, decode}
-use Rattle.free_space.proofs.ListLaws.{listed, region-fits}
-use Rattle.pairs.proofs.PairLaws.{decode-drop, decode-end}
+use Rattle.free_space.specs.Runs.{isList, regions}
+use Rattle.free_space.proofs.ListLaws.{listed}
+use Rattle.pairs.proofs.PairLaws.{decode-map}
+use Rattle.fsm_sections.specs.declared.FreeSection.{FreeSection}
+use Rattle.fsm_sections.specs.Sections.{section, decode}
 use Rattle.save.specs.Saving.{endsPast, messageIn, blocksOut}
 
 -- two comparisons that say the same
@@ -95,18 +97,15 @@ not-longer len start place image b e f =
 
 -- ---- regions in the way
 
-module _ (xs : List ℕ) (l : FreeList) (e : isList xs l ≡ true) (i : ℕ) (h : i < l .count) where
-  pub way-asks : Fit 0 (regionAt xs i)
-  way-asks = region-fits xs l i e h
-
-  pub way-room : 2 * i + 1 < length xs
-  way-room = omega (arith, listed xs l e .room)
+-- a pass over a run gives sections: the same pairs as regions
+abbrev asRegion : FreeSection → FreeRegion
+asRegion s = region (s .addr) (s .size)
 
 module _ (start place : ℕ) where
   abbrev way : FreeRegion → Bool
   way r = ltb start (end r) || meets (region place 125) r
 
-  abbrev pub ways : List FreeRegion → Bool
+  abbrev ways : List FreeRegion → Bool
   ways rs = endsPast start rs || shares (region place 125) rs
 
   ways-more : (r : FreeRegion) (rs : List FreeRegion) → ways (r ∷ rs) ≡ (way r || ways rs)
@@ -118,19 +117,39 @@ module _ (start place : ℕ) where
       swap false true false d = refl
       swap false false c d = refl
 
-  module _ (xs : List ℕ) (l : FreeList) (e : isList xs l ≡ true) (i : ℕ) (inv : ways (drop i (decode (l .count) xs)) ≡ ways (decode (l .count) xs)) where
-    abbrev all : List FreeRegion
-    all = decode (l .count) xs
+  -- at the head of the loop, where the regions of l are left
+  pub record Ways (all : List FreeRegion) (l : List FreeSection) : Type 0 where
+    pub low : ℕ
+    pub ok : okFrom low (map asRegion l) ≡ true
+    pub same : ways (map asRegion l) ≡ ways all
 
-    module _ (h : i < l .count) (t : Bool) (te : t ≡ way (regionAt xs i)) where
-      head : ways all ≡ (way (regionAt xs i) || ways (drop (i + 1) all))
-      head = sym inv ∙ ap ways (decode-drop region (l .count) i xs h (listed xs l e .room)) ∙ ways-more (regionAt xs i) (drop (i + 1) all)
+  pub way-start : (xs : List ℕ) (r : FreeList) → isList xs r ≡ true → (l : List FreeSection) → l ≡ decode (r .count) xs → Ways (regions xs r) l
+  way-start xs r e l f =
+      let g : map asRegion l ≡ regions xs r = ap (map asRegion) f ∙ decode-map section asRegion (r .count) xs in
+      record { low = 0; ok = ap (okFrom 0) g ∙ listed xs r e .ok; same = ap ways g }
 
-      pub way-found : t ≡ true → true ≡ ways all
-      way-found f = or-decides t (way (regionAt xs i)) (ways (drop (i + 1) all)) te f ∙ sym head
+  module _ (all : List FreeRegion) (l : List FreeSection) (now : Ways all l) where
+    pub way-none : l ≡ [] → false ≡ ways all
+    way-none e = ap (λ (k : List FreeSection). ways (map asRegion k)) (sym e) ∙ now .same
 
-      pub way-step : t ≡ false → ways (drop (i + 1) all) ≡ ways all
-      way-step f = or-leaves t (way (regionAt xs i)) (ways (drop (i + 1) all)) te f ∙ sym head
+    module _ (x : FreeSection) (m : List FreeSection) (e : l ≡ x ∷ m) where
+      abbrev rest : List FreeRegion
+      rest = map asRegion m
 
-    pub way-none : l .count ≤ i → false ≡ ways all
-    way-none h = sym (sym inv ∙ ap ways (decode-end region (l .count) i xs h (listed xs l e .room)))
+      tests : (fitsFrom (now .low) (asRegion x) ≡ true) × (okFrom (suc (end (asRegion x))) rest ≡ true)
+      tests =
+          and-true (fitsFrom (now .low) (asRegion x)) (okFrom (suc (end (asRegion x))) rest)
+          (sym (ap (λ (k : List FreeSection). okFrom (now .low) (map asRegion k)) e) ∙ now .ok)
+
+      pub way-asks : Fit (now .low) (asRegion x)
+      way-asks = fit (now .low) (asRegion x) (tests .0)
+
+      module _ (t : Bool) (te : t ≡ way (asRegion x)) where
+        head : (way (asRegion x) || ways rest) ≡ ways all
+        head = sym (ap (λ (k : List FreeSection). ways (map asRegion k)) e ∙ ways-more (asRegion x) rest) ∙ now .same
+
+        pub way-found : t ≡ true → true ≡ ways all
+        way-found f = or-decides t (way (asRegion x)) (ways rest) te f ∙ head
+
+        pub way-step : t ≡ false → Ways all m
+        way-step f = record { low = suc (end (asRegion x)); ok = tests .1; same = or-leaves t (way (asRegion x)) (ways rest) te f ∙ head }

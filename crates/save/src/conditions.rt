@@ -18,6 +18,8 @@ use error::Refusal;
 use file_space_info::MESSAGE_LEN;
 use free_lists::check_lists;
 use free_space::list::FreeList;
+use fsm_sections::run::RunCursor;
+use fsm_sections::run::next_in;
 use numbers::min;
 use numbers::saturating_sub;
 
@@ -72,15 +74,17 @@ fn in_the_way(run: &[u64], list: FreeList, start: u64, place: u64) -> bool
     requires { ⌜ (isList (now run) list ≡ true) × (place + 125 ≤ top) ⌝ }
     ensures { λ r. ⌜ r ≡ inTheWay start place (regions (now (run .entry)) list) ⌝ }
 {
-    let count = list.count;
-    let mut i = 0;
-    while i < count {
-        if is_in_the_way(run[2 * i], run[2 * i + 1], start, place) {
+    let mut at = RunCursor::start();
+    loop {
+        let t = next_in(run, list.count, at);
+        if t.end {
+            return false;
+        }
+        if is_in_the_way(t.region.addr, t.region.size, start, place) {
             return true;
         }
-        i += 1;
+        at = t.at;
     }
-    false
 }
 
 // Whether some region of three lists does.

@@ -16,7 +16,7 @@ use Rattle.fsm_sections.specs.Pages.{end, pieces, split}
 use Rattle.fsm_sections.proofs.PagesLaws.{pieces-none}
 use Rattle.fsm_sections.specs.Runs.{endsAbove}
 use Rattle.fsm_pages.proofs.PieceLaws.{left, pieceSize, left-more, left-all}
-use Rattle.fsm_sections.proofs.RunLaws.{fits-at}
+use Rattle.fsm_sections.proofs.RunLaws.{fits-first}
 use Rattle.split_records.specs.Records.{cutOff, piecesLeft}
 
 -- nothing is cut off
@@ -37,7 +37,7 @@ fits-after (suc i) (s ∷ l) h = fits-after i l (or-false (ltb top (end s)) (end
 
 -- the end of section i is a number
 pub fits-here : (n : ℕ) (xs : List ℕ) → 2 * n ≤ length xs → endsAbove (decode n xs) ≡ false → (i : ℕ) → i < n → sectionAt xs i .addr + sectionAt xs i .size < 2 ^ 64
-fits-here n xs run f i h = fits-at n xs run i h (fits-after i (decode n xs) f) .0
+fits-here n xs run f i h = fits-first _ _ _ (decode-drop section n i xs h run) (fits-after i (decode n xs) f) .0
 
 -- where nothing is left of a section, it has no piece
 no-piece : (page a z : ℕ) → z ≡ 0 → pieces page (section a z) ≡ []

@@ -1,80 +1,80 @@
-use mathlib.Core.Logic.{⊎-elim}
-use Prim.Native.Nat.{_+_, _-_, _*_, min}
 use mathlib.Core.Path.{_≡_, _∙_}
+use mathlib.Core.Logic.{⊎-elim}
+use Prim.Native.Nat.{_+_, _-_, min}
 use native.Mathlib.Nat.{div-le-self}
 use native.Mathlib.Omega.{arith}
 use denote.Ref.{now}
+use lib.ListN.{length}
 use borrow.Author.Needs.{needs}
-use lib.ListN.{getD}
 use Rattle.error.specs.Outcome.{sat}
+use Rattle.fsm_sections.specs.RunSteps.{restIn}
+use Rattle.fsm_sections.proofs.RunStepLaws.{rest-start, ended, went, fewer}
 use Rattle.fsm_pages.proofs.PieceLaws.{piecesAfter}
-use Rattle.fsm_pages.proofs.SplitLaws.{Counting, count-start, count-more, count-same, count-step, count-end, count-above}
+use Rattle.fsm_pages.proofs.SplitLaws.{Counting, count-start, count-few, count-above, count-more, count-same, count-step, count-end}
 use Rattle.fsm_pages.proofs.pages.pieces_in.Statement.{statement}
 use Rattle.fsm_pages.proofs.pages.pieces_in.Tie as tie
 
 abbrev Inv-loop : tie.InvT-loop
-Inv-loop sections count page some₀ more₀ i₀ some more i = Counting page count sections some more i
+Inv-loop sections count page some₀ more₀ at₀ some more at = Counting page count sections (restIn count sections at) some more
 
 abbrev μ-loop : tie.MeasureT-loop
-μ-loop sections count page some₀ more₀ i₀ some more i = count - i
+μ-loop sections count page some₀ more₀ at₀ some more at = length (restIn count sections at)
 
 loop-holds : tie.Need-loop-holds Inv-loop μ-loop
-loop-holds c = let s = c .before in count-start (s .args .page) (s .args .count) (now (s .args .sections)) (s .pre .1)
-
-sub-if1 : tie.Need-sub-if1 Inv-loop μ-loop
-sub-if1 c = omega (arith, c .shared-slice-known3 .given (2 * c .before .before .before .loop .i + 1))
+loop-holds c =
+    let a = c .before .before .args in
+    rw (c .start .ensures) (count-start (a .page) (a .count) (now (a .sections)) _ (rest-start (a .count) (now (a .sections))))
 
 returns : tie.Need-returns Inv-loop μ-loop
 returns c =
-    let s = c .before .before .before .before .before .before in
-    let l = c .before .before .before .before .loop in
-    count-above (s .args .page) (s .args .count) (now (s .args .sections)) (s .pre .1) (l .some) (l .more) (l .i) (l .inv) (c .before .before .before .loop-test .taken) (c .if1 .taken)
-
-add-saturating-add : tie.Need-add-saturating-add Inv-loop μ-loop
-add-saturating-add c =
-    let s = c .before .before .before .before .before .before .before .before .before in
-    let i = c .before .before .before .before .before .before .before .loop .i in
-    let size = getD (now (s .args .sections)) (2 * i + 1) 0 in
-    omega (arith, c .quotient .ensures, div-le-self (size - c .before .before .room-in .result - 1) (s .args .page), c .before .before .before .before .shared-slice-known3 .given (2 * i + 1))
-
-add-some : tie.Need-add-some Inv-loop μ-loop
-add-some c = let l = c .before .before .before .before .before .before .before .loop in omega (arith, l .inv .few)
-
--- the pieces after the first of the section
-more-is : (c : tie.Joined3 Inv-loop μ-loop)
-    → let p = c .before .before .before .before .before .before .before in
-    let a = p .before .before .args in
-    c .before .if2 .more ≡ sat (p .loop .more + piecesAfter (a .page) (getD (now (a .sections)) (2 * p .loop .i) 0) (getD (now (a .sections)) (2 * p .loop .i + 1) 0))
-more-is c =
-    let d = c .before .before in
-    let p = d .before .before .before .before .before in
-    let s = p .before .before in
-    let l = p .loop in
-    let t = d .before .before .before .before .loop-test .taken in
-    ⊎-elim
-    (λ w. count-more (s .args .page) (s .args .count) (now (s .args .sections)) (s .pre .1) (l .some) (l .more) (l .i) (l .inv) (s .pre .0) t _ (d .room-in .ensures) (w .0 .taken) _ _ (w .1 .ensures) (w .3 ∙ w .2 .ensures))
-    (λ w. count-same (s .args .page) (s .args .count) (now (s .args .sections)) (s .pre .1) (l .some) (l .more) (l .i) (l .inv) (s .pre .0) t _ (d .room-in .ensures) (w .0 .left) _ (w .1))
-    (c .before .if2 .came)
-
-some-is : (c : tie.Joined3 Inv-loop μ-loop)
-    → let p = c .before .before .before .before .before .before .before in
-    let a = p .before .before .args in
-    c .if3 .some ≡ p .loop .some + min (getD (now (a .sections)) (2 * p .loop .i + 1) 0) 1
-some-is c = ⊎-elim (λ w. omega (arith, w .0 .taken, w .1)) (λ w. omega (arith, w .0 .left, w .1)) (c .if3 .came)
-
-loop-again : tie.Need-loop-again Inv-loop μ-loop
-loop-again c =
-    let p = c .before .before .before .before .before .before .before in
-    let s = p .before .before in
-    let l = p .loop in
-    count-step (s .args .page) (s .args .count) (now (s .args .sections)) (s .pre .1) (l .some) (l .more) (l .i) (l .inv) (s .pre .0) (c .before .before .before .before .before .before .loop-test .taken)
-    _ _ (some-is c) (more-is c) (c .before .before .before .if1 .left) (omega (arith, c .before .before .before .before .shared-slice-known3 .given (2 * l .i + 1)))
+    let a = c .before .before .before .before .before .before .args in
+    let l = c .before .before .before .loop in
+    count-end (a .page) (a .count) (now (a .sections)) _ (l .some) (l .more) (l .inv) (ended (a .count) (now (a .sections)) _ _ (c .before .before .next-in .ensures) (c .before .if1 .taken))
+    _ (c .saturating-add .ensures)
 
 returns-2 : tie.Need-returns-2 Inv-loop μ-loop
 returns-2 c =
-    let s = c .before .before .before .before in
-    let l = c .before .before .loop in
-    count-end (s .args .page) (s .args .count) (now (s .args .sections)) (s .pre .1) (l .some) (l .more) (l .i) (l .inv) (c .before .loop-test .left) _ (c .saturating-add2 .ensures)
+    let a = c .before .before .before .before .before .before .args in
+    let l = c .before .before .before .loop in
+    count-above (a .page) (a .count) (now (a .sections)) _ (l .some) (l .more) (l .inv) _ _ (went (a .count) (now (a .sections)) _ _ (c .before .before .next-in .ensures) (c .before .if1 .left))
+    (c .if2 .taken)
+
+add-saturating-add : tie.Need-add-saturating-add Inv-loop μ-loop
+add-saturating-add c =
+    let size = c .before .before .before .before .before .next-in .result .region .size in
+    omega (arith, c .quotient .ensures, div-le-self (size - c .before .before .room-in .result - 1) (c .before .before .before .before .before .before .before .before .before .args .page))
+
+add-some : tie.Need-add-some Inv-loop μ-loop
+add-some c =
+    let a = c .before .before .before .before .before .before .before .before .before .args in
+    let l = c .before .before .before .before .before .before .loop in
+    omega (arith, count-few (a .page) (a .count) (now (a .sections)) _ (l .some) (l .more) (l .inv) _ _ (went (a .count) (now (a .sections)) _ _ (c .before .before .before .before .before .next-in .ensures) (c .before .before .before .before .if1 .left)))
+
+loop-less : tie.Need-loop-less Inv-loop μ-loop
+loop-less c = let a = c .before .before .before .before .before .before .before .before .before .before .args in fewer (a .count) (now (a .sections)) _ _ (c .before .before .before .before .before .before .next-in .ensures) (c .before .before .before .before .before .if1 .left)
+
+-- the pieces after the first of the section
+more-is : (c : tie.Joined4 Inv-loop μ-loop)
+    → let x = c .before .before .before .before .before .next-in .result .region in
+    c .before .if3 .more ≡ sat (c .before .before .before .before .before .before .loop .more + piecesAfter (c .before .before .before .before .before .before .before .before .before .args .page) (x .addr) (x .size))
+more-is c =
+    let a = c .before .before .before .before .before .before .before .before .before .args in
+    let l = c .before .before .before .before .before .before .loop in
+    let e = went (a .count) (now (a .sections)) _ _ (c .before .before .before .before .before .next-in .ensures) (c .before .before .before .before .if1 .left) in
+    ⊎-elim
+    (λ w. count-more (a .page) (a .count) (now (a .sections)) _ (l .some) (l .more) (l .inv) _ _ e (c .before .before .before .before .before .before .before .before .before .pre) _ (c .before .before .room-in .ensures) (w .0 .taken) _ _ (w .1 .ensures) (w .3 ∙ w .2 .ensures))
+    (λ w. count-same (a .page) (a .count) (now (a .sections)) _ (l .some) (l .more) (l .inv) _ _ e (c .before .before .before .before .before .before .before .before .before .pre) _ (c .before .before .room-in .ensures) (w .0 .left) _ (w .1))
+    (c .before .if3 .came)
+
+some-is : (c : tie.Joined4 Inv-loop μ-loop) → c .if4 .some ≡ c .before .before .before .before .before .before .loop .some + min (c .before .before .before .before .before .next-in .result .region .size) 1
+some-is c = ⊎-elim (λ w. omega (arith, w .0 .taken, w .1)) (λ w. omega (arith, w .0 .left, w .1)) (c .if4 .came)
+
+loop-again : tie.Need-loop-again Inv-loop μ-loop
+loop-again c =
+    let a = c .before .before .before .before .before .before .before .before .before .before .args in
+    let l = c .before .before .before .before .before .before .before .loop in
+    count-step (a .page) (a .count) (now (a .sections)) _ (l .some) (l .more) (l .inv) _ _ (went (a .count) (now (a .sections)) _ _ (c .before .before .before .before .before .before .next-in .ensures) (c .before .before .before .before .before .if1 .left))
+    (c .before .before .before .before .before .before .before .before .before .before .pre) _ _ (some-is (c .before)) (more-is (c .before)) (c .before .before .before .before .if2 .left) (omega arith)
 
 pub pieces-in-spec : {M : Type 1} → statement M
 pieces-in-spec =
@@ -82,16 +82,13 @@ pieces-in-spec =
     (tie.spec
     Inv-loop
     μ-loop
+    (search needs)
     loop-holds
     (search needs)
     (search needs)
-    (search needs)
-    (search needs)
-    (search needs)
-    (search needs)
-    (search needs)
-    sub-if1
     returns
+    (search needs)
+    returns-2
     (search needs)
     (search needs)
     (search needs)
@@ -99,8 +96,5 @@ pieces-in-spec =
     add-saturating-add
     (search needs)
     add-some
-    (search needs)
-    (search needs)
-    loop-again
-    (search needs)
-    returns-2)
+    loop-less
+    loop-again)

@@ -36,7 +36,7 @@ put-split-requires c κs =
     let a = s .args in
     let n = split-number (now (a .sections)) (a .count) (a .page) (now (a .out)) (e .if2 .left) _ (told q) (c .before .if3 .left) (omega (arith, s .good)) in
     let h : 0 < a .page = omega (arith, e .before .if1 .left) in
-    (h, (told q .run, (told q .fits, omega (arith, n, c .before .if3 .left))))
+    (h, (told q .fits, omega (arith, n, c .before .if3 .left)))
 
 returns-4 : tie.Need-returns-4
 returns-4 c =

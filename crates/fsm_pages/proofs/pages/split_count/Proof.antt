@@ -1,13 +1,11 @@
 use mathlib.Core.Path.{sym, ap, _∙_}
 use mathlib.Core.Bool.{not}
 use native.Mathlib.Omega.{arith}
-use borrow.Author.Tests.{not-false}
 use denote.Ref.{now}
 use Rattle.fsm_pages.proofs.SplitLaws.{count-page, count-no-run, count-run}
 use borrow.Author.Needs.{needs}
 use Rattle.fsm_pages.proofs.pages.split_count.Statement.{statement}
 use Rattle.fsm_pages.proofs.pages.split_count.Tie as tie
-use Rattle.pairs.proofs.RunLaws.{run-room}
 
 returns : tie.Need-returns
 returns c = let a = c .before .before .args in count-page (now (a .sections)) (a .count) (a .page) (c .if1 .taken)
@@ -18,9 +16,7 @@ returns-2 c =
     count-no-run (now (a .sections)) (a .count) (a .page) (c .before .before .if1 .left) (ap not (sym (c .before .is-run .ensures)) ∙ c .if2 .taken)
 
 pieces-in-requires : tie.Need-pieces-in-requires
-pieces-in-requires c κs =
-    let a = c .before .before .before .before .args in
-    (omega (arith, c .before .before .if1 .left), run-room (now (a .sections)) (a .count) (sym (c .before .is-run .ensures) ∙ not-false (c .before .is-run .result) (c .if2 .left)))
+pieces-in-requires c κs = omega (arith, c .before .before .if1 .left)
 
 returns-3 : tie.Need-returns-3
 returns-3 c =

@@ -6,12 +6,12 @@ use Rattle.fsm_plan.proofs.plan.put_slots.Statement.{statement}
 use Rattle.fsm_plan.proofs.plan.put_slots.Tie as tie
 
 put-small-requires : tie.Need-put-small-requires
-put-small-requires c κs = let p = c .before .before .before .before .before .pre in (p .0 .some, (p .0 .room-a, (p .1 .0 .0, omega (arith, p .1 .1))))
+put-small-requires c κs = let p = c .before .before .before .before .before .pre in (p .0 .some, (p .1 .0 .0, omega (arith, p .1 .1)))
 
 put-small-requires-2 : tie.Need-put-small-requires-2
 put-small-requires-2 c κs = let a = c .before .before .before .before .before .before .before .before .before .args in
     let p = c .before .before .before .before .before .before .before .before .before .pre in
-    (p .0 .some, (p .0 .room-b, (p .1 .0 .1, second-room (a .s) (now (a .meta)) (now (a .raw)) (now (a .unclassified)) (now (a .out)) (p .0 .some) (p .1 .1) _ _ (c .before .before .before .put-small .ensures .0) (c .before .before .before .put-small .ensures .1))))
+    (p .0 .some, (p .1 .0 .1, second-room (a .s) (now (a .meta)) (now (a .raw)) (now (a .unclassified)) (now (a .out)) (p .0 .some) (p .1 .1) _ _ (c .before .before .before .put-small .ensures .0) (c .before .before .before .put-small .ensures .1)))
 
 put-large-requires : tie.Need-put-large-requires
 put-large-requires c κs = let a = c .before .before .before .before .before .before .before .before .before .before .before .before .before .before .args in

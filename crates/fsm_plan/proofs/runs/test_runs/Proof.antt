@@ -2,7 +2,7 @@ use mathlib.Core.Path.{sym, ap, _∙_}
 use mathlib.Core.Bool.{not}
 use borrow.Author.Tests.{not-true, not-false}
 use denote.Ref.{now}
-use Rattle.fsm_plan.proofs.RunsLaws.{test-width, test-page, test-lists, test-ends, test-fine, runs-room}
+use Rattle.fsm_plan.proofs.RunsLaws.{test-width, test-page, test-lists, test-ends, test-fine}
 use borrow.Author.Needs.{needs}
 use Rattle.fsm_plan.proofs.runs.test_runs.Statement.{statement}
 use Rattle.fsm_plan.proofs.runs.test_runs.Tie as tie
@@ -18,10 +18,6 @@ returns-2 c = let a = c .before .before .before .before .before .before .args in
 returns-3 : tie.Need-returns-3
 returns-3 c = let a = c .before .before .before .before .before .before .before .before .args in
     test-lists (now (a .a)) (now (a .b)) (now (a .c)) (a .n) (a .page) (a .offset-size) (ap not (sym (c .before .before .before .before .is-width .ensures)) ∙ c .before .before .before .if1 .left) (c .before .before .if2 .left) (c .before .are-runs .result) (c .before .are-runs .ensures) (not-true (c .before .are-runs .result) (c .if3 .taken))
-
-are-late-requires : tie.Need-are-late-requires
-are-late-requires c κs = let a = c .before .before .before .before .before .before .before .before .args in
-    runs-room (now (a .a)) (now (a .b)) (now (a .c)) (a .n) (a .page) (a .offset-size) (c .before .are-runs .result) (c .before .are-runs .ensures) (not-false (c .before .are-runs .result) (c .if3 .left))
 
 returns-4 : tie.Need-returns-4
 returns-4 c = let a = c .before .before .before .before .before .before .before .before .before .before .args in
@@ -42,6 +38,6 @@ test-runs-spec =
     returns-2
     (search needs)
     returns-3
-    are-late-requires
+    (search needs)
     returns-4
     returns-5)

@@ -11,7 +11,7 @@ abbrev Inv-loop : tie.InvT-loop
 Inv-loop a b c s floor₀ at₀ floor at = Below s a b c floor at
 
 abbrev μ-loop : tie.MeasureT-loop
-μ-loop a b c s floor₀ at₀ floor at = left s at
+μ-loop a b c s floor₀ at₀ floor at = left s a b c at
 
 loop-holds : tie.Need-loop-holds Inv-loop μ-loop
 loop-holds c = let s = c .before .before .before .before in

@@ -10,7 +10,7 @@ abbrev Inv-loop : tie.InvT-loop
 Inv-loop a b c s t at₀ at = Unmet s a b c t at
 
 abbrev μ-loop : tie.MeasureT-loop
-μ-loop a b c s t at₀ at = left s at
+μ-loop a b c s t at₀ at = left s a b c at
 
 loop-holds : tie.Need-loop-holds Inv-loop μ-loop
 loop-holds c = λ x h. refl

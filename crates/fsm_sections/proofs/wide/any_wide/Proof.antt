@@ -1,58 +1,43 @@
-use mathlib.Core.Path.{_≡_, refl, ap, _∙_}
-use Prim.Native.Nat.{_-_, _≤_}
-use native.Mathlib.Omega.{arith}
+use mathlib.Core.Path.{_≡_, ap}
 use denote.Ref.{now}
-use lib.ListN.{drop}
+use lib.ListN.{length}
 use borrow.Author.Needs.{needs}
 use Rattle.fsm_sections.specs.Sections.{decode}
 use Rattle.fsm_sections.specs.Runs.{wide, anyWide}
-use Rattle.fsm_sections.proofs.AnyLaws.{decode-present, any-found, any-step, any-none}
+use Rattle.fsm_sections.specs.RunSteps.{restIn}
+use Rattle.fsm_sections.proofs.RunStepLaws.{rest-start, ended, went, fewer}
+use Rattle.fsm_sections.proofs.AnyLaws.{any-found, any-step, any-none}
 use Rattle.fsm_sections.proofs.wide.any_wide.Statement.{statement}
 use Rattle.fsm_sections.proofs.wide.any_wide.Tie as tie
 
 abbrev Inv-loop : tie.InvT-loop
-Inv-loop sections count o n i₀ i = (i ≤ n) × (anyWide o (drop i (decode n sections)) ≡ anyWide o (decode n sections))
+Inv-loop sections count o at₀ at = anyWide o (restIn count sections at) ≡ anyWide o (decode count sections)
 
 abbrev μ-loop : tie.MeasureT-loop
-μ-loop sections count o n i₀ i = n - i
+μ-loop sections count o at₀ at = length (restIn count sections at)
 
 loop-holds : tie.Need-loop-holds Inv-loop μ-loop
-loop-holds c = (omega arith, refl)
-
-read : tie.Need-shared-slice-read-is-wide Inv-loop μ-loop
-read c = omega (arith, c .before .before .before .min .ensures, c .before .loop-test .taken)
-
--- the run's pairs are those of the count
-same : (c : tie.After-min Inv-loop μ-loop) →
-    let a = c .before .before .args in
-    anyWide (a .o) (decode (c .min .result) (now (a .sections))) ≡ anyWide (a .o) (decode (a .count) (now (a .sections)))
-same c = let a = c .before .before .args in ap (anyWide (a .o)) (decode-present (c .min .result) (a .count) (now (a .sections)) (c .min .ensures))
+loop-holds c = let a = c .before .before .args in rw (c .start .ensures) (ap (anyWide (a .o)) (rest-start (a .count) (now (a .sections))))
 
 returns : tie.Need-returns Inv-loop μ-loop
 returns c =
-    let m = c .before .before .before .before .before in
-    let a = m .before .before .args in
-    let loop = c .before .before .before .before .loop in
-    any-found (λ s. wide (a .o) (s .addr)) (m .min .result) (now (a .sections)) (omega (arith, m .min .ensures)) (loop .i) (c .before .before .before .loop-test .taken) _
-    (c .before .is-wide .ensures) (c .if1 .taken) (loop .inv .1)
-    ∙ same m
-
-loop-again : tie.Need-loop-again Inv-loop μ-loop
-loop-again c =
-    let m = c .before .before .before .before .before in
-    let a = m .before .before .args in
-    let loop = c .before .before .before .before .loop in (
-      omega arith,
-      any-step (λ s. wide (a .o) (s .addr)) (m .min .result) (now (a .sections)) (omega (arith, m .min .ensures)) (loop .i) (c .before .before .before .loop-test .taken) _
-          (c .before .is-wide .ensures) (c .if1 .left) (loop .inv .1),
-    )
+    let a = c .before .before .before .before .before .args in
+    any-none (λ s. wide (a .o) (s .addr)) _ _ (c .before .before .loop .inv) (ended (a .count) (now (a .sections)) _ _ (c .before .next-in .ensures) (c .if1 .taken))
 
 returns-2 : tie.Need-returns-2 Inv-loop μ-loop
 returns-2 c =
-    let m = c .before .before in
-    let a = m .before .before .args in
-    any-none (λ s. wide (a .o) (s .addr)) (m .min .result) (c .before .loop .i) (now (a .sections)) (omega (arith, m .min .ensures)) (omega arith) (c .before .loop .inv .1)
-    ∙ same m
+    let a = c .before .before .before .before .before .before .before .args in
+    any-found (λ s. wide (a .o) (s .addr)) _ _ (c .before .before .before .before .loop .inv) _ _ (went (a .count) (now (a .sections)) _ _ (c .before .before .before .next-in .ensures) (c .before .before .if1 .left))
+    _ (c .before .is-wide .ensures) (c .if2 .taken)
+
+loop-less : tie.Need-loop-less Inv-loop μ-loop
+loop-less c = let a = c .before .before .before .before .before .before .before .before .args in fewer (a .count) (now (a .sections)) _ _ (c .before .before .before .before .next-in .ensures) (c .before .before .before .if1 .left)
+
+loop-again : tie.Need-loop-again Inv-loop μ-loop
+loop-again c =
+    let a = c .before .before .before .before .before .before .before .before .args in
+    any-step (λ s. wide (a .o) (s .addr)) _ _ (c .before .before .before .before .before .loop .inv) _ _ (went (a .count) (now (a .sections)) _ _ (c .before .before .before .before .next-in .ensures) (c .before .before .before .if1 .left))
+    _ (c .before .before .is-wide .ensures) (c .before .if2 .left)
 
 pub any-wide-spec : {M : Type 1} → statement M
 any-wide-spec =
@@ -63,11 +48,8 @@ any-wide-spec =
     (search needs)
     loop-holds
     (search needs)
-    (search needs)
-    read
-    (search needs)
     returns
     (search needs)
-    (search needs)
-    loop-again
-    returns-2)
+    returns-2
+    loop-less
+    loop-again)

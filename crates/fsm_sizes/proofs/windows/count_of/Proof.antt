@@ -33,19 +33,19 @@ loop-holds c =
     let s = c .before .before .before .before .before .before in
     let a = s .args in
     let l : List FreeSection = sectionsOf (chainsOf (a .s) (now (a .a)) (now (a .b)) (now (a .c))) in
-    (s .pre .1 .0, s .pre .1 .1, refl, ap sat (omega (arith, from-all l)))
+    (s .pre .0, s .pre .1, refl, ap sat (omega (arith, from-all l)))
 
 window-of-requires : tie.Need-window-of-requires Inv-loop μ-loop
-window-of-requires c κs = let i = c .before .before .before .loop .inv in (c .before .before .before .before .before .before .before .before .before .before .pre .0, (i .0, i .1))
+window-of-requires c κs = let i = c .before .before .before .loop .inv in (i .0, i .1)
 
 same-length : tie.Need-same-length Inv-loop μ-loop
 same-length c = c .before .before .before .before .before .before .before .before .window-of .ensures .stands .same ∙ c .before .before .before .before .before .before .before .before .before .before .before .before .loop .inv .2
 
 same-length-2 : tie.Need-same-length-2 Inv-loop μ-loop
-same-length-2 c = let e = c .before .before .before .before .before .before .before .before .window-of .ensures .stands in e .room .alike ∙ e .same ∙ c .before .before .before .before .before .before .before .before .before .before .before .before .loop .inv .2 ∙ sym (c .before .before .before .before .before .before .before .before .before .before .before .before .before .before .before .before .before .before .before .pre .1 .0 .alike)
+same-length-2 c = let e = c .before .before .before .before .before .before .before .before .window-of .ensures .stands in e .room .alike ∙ e .same ∙ c .before .before .before .before .before .before .before .before .before .before .before .before .loop .inv .2 ∙ sym (c .before .before .before .before .before .before .before .before .before .before .before .before .before .before .before .before .before .before .before .pre .0 .alike)
 
 same-length-3 : tie.Need-same-length-3 Inv-loop μ-loop
-same-length-3 c = let e = c .before .before .before .before .before .before .before .before .window-of .ensures .stands in e .room .slots ∙ e .same ∙ c .before .before .before .before .before .before .before .before .before .before .before .before .loop .inv .2 ∙ sym (c .before .before .before .before .before .before .before .before .before .before .before .before .before .before .before .before .before .before .before .pre .1 .0 .slots)
+same-length-3 c = let e = c .before .before .before .before .before .before .before .before .window-of .ensures .stands in e .room .slots ∙ e .same ∙ c .before .before .before .before .before .before .before .before .before .before .before .before .loop .inv .2 ∙ sym (c .before .before .before .before .before .before .before .before .before .before .before .before .before .before .before .before .before .before .before .pre .0 .slots)
 
 returns : tie.Need-returns Inv-loop μ-loop
 returns c =

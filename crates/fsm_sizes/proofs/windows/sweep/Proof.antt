@@ -13,16 +13,16 @@ use Rattle.fsm_sizes.proofs.windows.sweep.Tie as tie
 gather-run-requires : tie.Need-gather-run-requires
 gather-run-requires c κs = let s = c .before .before .before .before .before .before .before .before .before in
     let a = s .args in
-    (s .pre .0 .room-a, (s .pre .1 .0, s .pre .1 .1))
+    (s .pre .0, s .pre .1)
 
 same-length : tie.Need-same-length
 same-length c = c .before .before .before .before .before .before .before .gather-run .ensures .same
 
 same-length-2 : tie.Need-same-length-2
-same-length-2 c = c .before .before .before .before .before .before .before .gather-run .ensures .room .alike ∙ c .before .before .before .before .before .before .before .gather-run .ensures .same ∙ sym (c .before .before .before .before .before .before .before .before .before .before .before .before .before .before .before .before .before .pre .1 .0 .0 .alike)
+same-length-2 c = c .before .before .before .before .before .before .before .gather-run .ensures .room .alike ∙ c .before .before .before .before .before .before .before .gather-run .ensures .same ∙ sym (c .before .before .before .before .before .before .before .before .before .before .before .before .before .before .before .before .before .pre .0 .0 .alike)
 
 same-length-3 : tie.Need-same-length-3
-same-length-3 c = c .before .before .before .before .before .before .before .gather-run .ensures .room .slots ∙ c .before .before .before .before .before .before .before .gather-run .ensures .same ∙ sym (c .before .before .before .before .before .before .before .before .before .before .before .before .before .before .before .before .before .pre .1 .0 .0 .slots)
+same-length-3 c = c .before .before .before .before .before .before .before .gather-run .ensures .room .slots ∙ c .before .before .before .before .before .before .before .gather-run .ensures .same ∙ sym (c .before .before .before .before .before .before .before .before .before .before .before .before .before .before .before .before .before .pre .0 .0 .slots)
 
 returns : tie.Need-returns
 returns c = let s = c .before .before .before .before .before .before .before .before .before .before .before .before .before .before .before .before .before in
@@ -33,16 +33,16 @@ gather-run-requires-2 : tie.Need-gather-run-requires-2
 gather-run-requires-2 c κs = let s = c .before .before .before .before .before .before .before .before .before .before .before .before .before .before .before .before .before .before .before .before in
     let a = s .args in
     let e = c .before .before .before .before .before .before .before .before .before .before .gather-run .ensures in
-    (s .pre .0 .room-b, ((e .room, s .pre .1 .0 .1), stands-again (a .w .from) (a .w .reach) (λ x. ofSize x (A (a .s) (now (a .a)) (now (a .b)) (now (a .c)))) _ _ _ _ _ _ e))
+    ((e .room, s .pre .0 .1), stands-again (a .w .from) (a .w .reach) (λ x. ofSize x (A (a .s) (now (a .a)) (now (a .b)) (now (a .c)))) _ _ _ _ _ _ e)
 
 same-length-4 : tie.Need-same-length-4
 same-length-4 c = c .before .before .before .before .before .before .before .gather-run2 .ensures .same ∙ c .before .before .before .before .before .before .before .before .before .before .before .before .before .before .before .before .before .before .gather-run .ensures .same
 
 same-length-5 : tie.Need-same-length-5
-same-length-5 c = c .before .before .before .before .before .before .before .gather-run2 .ensures .room .alike ∙ c .before .before .before .before .before .before .before .gather-run2 .ensures .same ∙ c .before .before .before .before .before .before .before .before .before .before .before .before .before .before .before .before .before .before .gather-run .ensures .same ∙ sym (c .before .before .before .before .before .before .before .before .before .before .before .before .before .before .before .before .before .before .before .before .before .before .before .before .before .before .before .before .pre .1 .0 .0 .alike)
+same-length-5 c = c .before .before .before .before .before .before .before .gather-run2 .ensures .room .alike ∙ c .before .before .before .before .before .before .before .gather-run2 .ensures .same ∙ c .before .before .before .before .before .before .before .before .before .before .before .before .before .before .before .before .before .before .gather-run .ensures .same ∙ sym (c .before .before .before .before .before .before .before .before .before .before .before .before .before .before .before .before .before .before .before .before .before .before .before .before .before .before .before .before .pre .0 .0 .alike)
 
 same-length-6 : tie.Need-same-length-6
-same-length-6 c = c .before .before .before .before .before .before .before .gather-run2 .ensures .room .slots ∙ c .before .before .before .before .before .before .before .gather-run2 .ensures .same ∙ c .before .before .before .before .before .before .before .before .before .before .before .before .before .before .before .before .before .before .gather-run .ensures .same ∙ sym (c .before .before .before .before .before .before .before .before .before .before .before .before .before .before .before .before .before .before .before .before .before .before .before .before .before .before .before .before .pre .1 .0 .0 .slots)
+same-length-6 c = c .before .before .before .before .before .before .before .gather-run2 .ensures .room .slots ∙ c .before .before .before .before .before .before .before .gather-run2 .ensures .same ∙ c .before .before .before .before .before .before .before .before .before .before .before .before .before .before .before .before .before .before .gather-run .ensures .same ∙ sym (c .before .before .before .before .before .before .before .before .before .before .before .before .before .before .before .before .before .before .before .before .before .before .before .before .before .before .before .before .pre .0 .0 .slots)
 
 returns-2 : tie.Need-returns-2
 returns-2 c = let s = c .before .before .before .before .before .before .before .before .before .before .before .before .before .before .before .before .before .before .before .before .before .before .before .before .before .before .before .before in
@@ -54,16 +54,16 @@ gather-run-requires-3 : tie.Need-gather-run-requires-3
 gather-run-requires-3 c κs = let s = c .before .before .before .before .before .before .before .before .before .before .before .before .before .before .before .before .before .before .before .before .before .before .before .before .before .before .before .before .before .before .before in
     let a = s .args in
     let e = c .before .before .before .before .before .before .before .before .before .before .gather-run2 .ensures in
-    (s .pre .0 .room-c, ((e .room, s .pre .1 .0 .1), stands-again (a .w .from) (a .w .reach) (λ x. ofSize x (B (a .s) (now (a .a)) (now (a .b)) (now (a .c)))) _ _ _ _ _ _ e))
+    ((e .room, s .pre .0 .1), stands-again (a .w .from) (a .w .reach) (λ x. ofSize x (B (a .s) (now (a .a)) (now (a .b)) (now (a .c)))) _ _ _ _ _ _ e)
 
 same-length-7 : tie.Need-same-length-7
 same-length-7 c = c .before .before .before .before .before .before .gather-run3 .ensures .same ∙ c .before .before .before .before .before .before .before .before .before .before .before .before .before .before .before .before .before .gather-run2 .ensures .same ∙ c .before .before .before .before .before .before .before .before .before .before .before .before .before .before .before .before .before .before .before .before .before .before .before .before .before .before .before .before .gather-run .ensures .same
 
 same-length-8 : tie.Need-same-length-8
-same-length-8 c = c .before .before .before .before .before .before .gather-run3 .ensures .room .alike ∙ c .before .before .before .before .before .before .gather-run3 .ensures .same ∙ c .before .before .before .before .before .before .before .before .before .before .before .before .before .before .before .before .before .gather-run2 .ensures .same ∙ c .before .before .before .before .before .before .before .before .before .before .before .before .before .before .before .before .before .before .before .before .before .before .before .before .before .before .before .before .gather-run .ensures .same ∙ sym (c .before .before .before .before .before .before .before .before .before .before .before .before .before .before .before .before .before .before .before .before .before .before .before .before .before .before .before .before .before .before .before .before .before .before .before .before .before .before .pre .1 .0 .0 .alike)
+same-length-8 c = c .before .before .before .before .before .before .gather-run3 .ensures .room .alike ∙ c .before .before .before .before .before .before .gather-run3 .ensures .same ∙ c .before .before .before .before .before .before .before .before .before .before .before .before .before .before .before .before .before .gather-run2 .ensures .same ∙ c .before .before .before .before .before .before .before .before .before .before .before .before .before .before .before .before .before .before .before .before .before .before .before .before .before .before .before .before .gather-run .ensures .same ∙ sym (c .before .before .before .before .before .before .before .before .before .before .before .before .before .before .before .before .before .before .before .before .before .before .before .before .before .before .before .before .before .before .before .before .before .before .before .before .before .before .pre .0 .0 .alike)
 
 same-length-9 : tie.Need-same-length-9
-same-length-9 c = c .before .before .before .before .before .before .gather-run3 .ensures .room .slots ∙ c .before .before .before .before .before .before .gather-run3 .ensures .same ∙ c .before .before .before .before .before .before .before .before .before .before .before .before .before .before .before .before .before .gather-run2 .ensures .same ∙ c .before .before .before .before .before .before .before .before .before .before .before .before .before .before .before .before .before .before .before .before .before .before .before .before .before .before .before .before .gather-run .ensures .same ∙ sym (c .before .before .before .before .before .before .before .before .before .before .before .before .before .before .before .before .before .before .before .before .before .before .before .before .before .before .before .before .before .before .before .before .before .before .before .before .before .before .pre .1 .0 .0 .slots)
+same-length-9 c = c .before .before .before .before .before .before .gather-run3 .ensures .room .slots ∙ c .before .before .before .before .before .before .gather-run3 .ensures .same ∙ c .before .before .before .before .before .before .before .before .before .before .before .before .before .before .before .before .before .gather-run2 .ensures .same ∙ c .before .before .before .before .before .before .before .before .before .before .before .before .before .before .before .before .before .before .before .before .before .before .before .before .before .before .before .before .gather-run .ensures .same ∙ sym (c .before .before .before .before .before .before .before .before .before .before .before .before .before .before .before .before .before .before .before .before .before .before .before .before .before .before .before .before .before .before .before .before .before .before .before .before .before .before .pre .0 .0 .slots)
 
 returns-3 : tie.Need-returns-3
 returns-3 c = let s = c .before .before .before .before .before .before .before .before .before .before .before .before .before .before .before .before .before .before .before .before .before .before .before .before .before .before .before .before .before .before .before .before .before .before .before .before .before .before in

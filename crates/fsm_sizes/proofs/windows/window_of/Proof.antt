@@ -16,22 +16,22 @@ abbrev μ-loop : tie.MeasureT-loop
 μ-loop a b c s of₀ link₀ slot₀ from reach₀ of link slot reach = reach
 
 loop-holds : tie.Need-loop-holds Inv-loop μ-loop
-loop-holds c = let p = c .before .before .before .before .before .before .pre .1 in (p .0, p .1, omega arith, refl, omega arith)
+loop-holds c = let p = c .before .before .before .before .before .before .pre in (p .0, p .1, omega arith, refl, omega arith)
 
 sweep-requires : tie.Need-sweep-requires Inv-loop μ-loop
 sweep-requires c κs =
     let s = c .before .before .before .before .before .before .before .before .before .before in
     let l = c .before .before .before .loop in
-    (s .pre .0, ((l .inv .0, l .inv .2), stands-first (s .args .from) (l .reach) (l .of) (l .link) (l .slot) (l .inv .0) (l .inv .1)))
+    ((l .inv .0, l .inv .2), stands-first (s .args .from) (l .reach) (l .of) (l .link) (l .slot) (l .inv .0) (l .inv .1))
 
 same-length : tie.Need-same-length Inv-loop μ-loop
 same-length c = c .before .before .before .before .before .before .before .sweep .ensures .same ∙ c .before .before .before .before .before .before .before .before .before .before .before .loop .inv .3
 
 same-length-2 : tie.Need-same-length-2 Inv-loop μ-loop
-same-length-2 c = let e = c .before .before .before .before .before .before .before .sweep .ensures in e .room .alike ∙ e .same ∙ c .before .before .before .before .before .before .before .before .before .before .before .loop .inv .3 ∙ sym (c .before .before .before .before .before .before .before .before .before .before .before .before .before .before .before .before .before .before .pre .1 .0 .alike)
+same-length-2 c = let e = c .before .before .before .before .before .before .before .sweep .ensures in e .room .alike ∙ e .same ∙ c .before .before .before .before .before .before .before .before .before .before .before .loop .inv .3 ∙ sym (c .before .before .before .before .before .before .before .before .before .before .before .before .before .before .before .before .before .before .pre .0 .alike)
 
 same-length-3 : tie.Need-same-length-3 Inv-loop μ-loop
-same-length-3 c = let e = c .before .before .before .before .before .before .before .sweep .ensures in e .room .slots ∙ e .same ∙ c .before .before .before .before .before .before .before .before .before .before .before .loop .inv .3 ∙ sym (c .before .before .before .before .before .before .before .before .before .before .before .before .before .before .before .before .before .before .pre .1 .0 .slots)
+same-length-3 c = let e = c .before .before .before .before .before .before .before .sweep .ensures in e .room .slots ∙ e .same ∙ c .before .before .before .before .before .before .before .before .before .before .before .loop .inv .3 ∙ sym (c .before .before .before .before .before .before .before .before .before .before .before .before .before .before .before .before .before .before .pre .0 .slots)
 
 returns : tie.Need-returns Inv-loop μ-loop
 returns c =

@@ -1,106 +1,49 @@
-use borrow.Author.Needs.{needs}
-use mathlib.Core.Path.{_≡_, refl}
-use Prim.Native.Nat.{_-_, _≤_}
-use native.Mathlib.Omega.{arith}
 use denote.Ref.{now}
-use lib.ListN.{drop}
-use Rattle.free_space.specs.Runs.{decode}
-use Rattle.save.proofs.PlaceLaws.{ways, way-asks, way-room, way-found, way-step, way-none}
+use lib.ListN.{length}
+use borrow.Author.Needs.{needs}
+use Rattle.free_space.specs.Runs.{regions}
+use Rattle.fsm_sections.specs.RunSteps.{restIn}
+use Rattle.fsm_sections.proofs.RunStepLaws.{rest-start, ended, went, fewer}
+use Rattle.save.proofs.PlaceLaws.{Ways, way-start, way-asks, way-found, way-step, way-none}
 use Rattle.save.proofs.conditions.in_the_way.Statement.{statement}
 use Rattle.save.proofs.conditions.in_the_way.Tie as tie
 
 abbrev Inv-loop : tie.InvT-loop
-Inv-loop run start place count i₀ i = (i ≤ count) × (ways start place (drop i (decode count run)) ≡ ways start place (decode count run))
+Inv-loop run list start place at₀ at = Ways start place (regions run list) (restIn (list .count) run at)
 
 abbrev μ-loop : tie.MeasureT-loop
-μ-loop run start place count i₀ i = count - i
+μ-loop run list start place at₀ at = length (restIn (list .count) run at)
 
 loop-holds : tie.Need-loop-holds Inv-loop μ-loop
-loop-holds c = (omega arith, refl)
+loop-holds c =
+    let a = c .before .before .args in
+    rw (c .start .ensures) (way-start (a .start) (a .place) (now (a .run)) (a .list) (c .before .before .pre .0) _ (rest-start (a .list .count) (now (a .run))))
 
-mul-is-in-the-way : tie.Need-mul-is-in-the-way Inv-loop μ-loop
-mul-is-in-the-way c =
-    let a = c .before .before .before .args in
-    let pre = c .before .before .before .pre in
-    let r = way-room (now (a .run)) (a .list) (pre .0) (c .before .loop .i) (c .loop-test .taken) in
-    search needs
-
-mul-is-in-the-way-2 : tie.Need-mul-is-in-the-way-2 Inv-loop μ-loop
-mul-is-in-the-way-2 c =
-    let a = c .before .before .before .args in
-    let pre = c .before .before .before .pre in
-    let r = way-room (now (a .run)) (a .list) (pre .0) (c .before .loop .i) (c .loop-test .taken) in
-    search needs
-
-shared-slice-read-is-in-the-way : tie.Need-shared-slice-read-is-in-the-way Inv-loop μ-loop
-shared-slice-read-is-in-the-way c =
-    let a = c .before .before .before .before .args in
-    let pre = c .before .before .before .before .pre in
-    let l = c .before .before .loop in
-    omega (arith, way-room (now (a .run)) (a .list) (pre .0) (l .i) (c .before .loop-test .taken))
-
-mul-is-in-the-way-3 : tie.Need-mul-is-in-the-way-3 Inv-loop μ-loop
-mul-is-in-the-way-3 c =
-    let a = c .before .before .before .before .args in
-    let pre = c .before .before .before .before .pre in
-    let l = c .before .before .loop in
-    let r = way-room (now (a .run)) (a .list) (pre .0) (l .i) (c .before .loop-test .taken) in
-    search needs
-
-add-is-in-the-way : tie.Need-add-is-in-the-way Inv-loop μ-loop
-add-is-in-the-way c =
-    let a = c .before .before .before .before .args in
-    let pre = c .before .before .before .before .pre in
-    let l = c .before .before .loop in
-    let r = way-room (now (a .run)) (a .list) (pre .0) (l .i) (c .before .loop-test .taken) in
-    search needs
-
-mul-is-in-the-way-4 : tie.Need-mul-is-in-the-way-4 Inv-loop μ-loop
-mul-is-in-the-way-4 c =
-    let a = c .before .before .before .before .args in
-    let pre = c .before .before .before .before .pre in
-    let l = c .before .before .loop in
-    let r = way-room (now (a .run)) (a .list) (pre .0) (l .i) (c .before .loop-test .taken) in
-    search needs
-
-shared-slice-read-is-in-the-way-2 : tie.Need-shared-slice-read-is-in-the-way-2 Inv-loop μ-loop
-shared-slice-read-is-in-the-way-2 c =
+returns : tie.Need-returns Inv-loop μ-loop
+returns c =
     let a = c .before .before .before .before .before .args in
-    let pre = c .before .before .before .before .before .pre in
-    let l = c .before .before .before .loop in
-    let t = c .before .before .loop-test in
-    omega (arith, way-room (now (a .run)) (a .list) (pre .0) (l .i) (t .taken))
+    way-none (a .start) (a .place) _ _ (c .before .before .loop .inv) (ended (a .list .count) (now (a .run)) _ _ (c .before .next-in .ensures) (c .if1 .taken))
 
 is-in-the-way-requires : tie.Need-is-in-the-way-requires Inv-loop μ-loop
 is-in-the-way-requires c κs =
     let a = c .before .before .before .before .before .args in
-    let pre = c .before .before .before .before .before .pre in
-    let l = c .before .before .before .loop in
-    let t = c .before .before .loop-test in
-    let f = way-asks (now (a .run)) (a .list) (pre .0) (l .i) (t .taken) in
-    (f .some, f .within, pre .1)
-
-returns : tie.Need-returns Inv-loop μ-loop
-returns c =
-    let a = c .before .before .before .before .before .before .before .args in
-    let pre = c .before .before .before .before .before .before .before .pre in
-    let l = c .before .before .before .before .before .loop in
-    let t = c .before .before .before .before .loop-test in
-    way-found (a .start) (a .place) (now (a .run)) (a .list) (pre .0) (l .i) (l .inv .1) (t .taken) _ (c .before .is-in-the-way .ensures) (c .if1 .taken)
-
-loop-again : tie.Need-loop-again Inv-loop μ-loop
-loop-again c =
-    let a = c .before .before .before .before .before .before .before .args in
-    let pre = c .before .before .before .before .before .before .before .pre in
-    let l = c .before .before .before .before .before .loop in
-    let t = c .before .before .before .before .loop-test in
-    (omega arith, way-step (a .start) (a .place) (now (a .run)) (a .list) (pre .0) (l .i) (l .inv .1) (t .taken) _ (c .before .is-in-the-way .ensures) (c .if1 .left))
+    let f = way-asks (a .start) (a .place) _ _ (c .before .before .loop .inv) _ _ (went (a .list .count) (now (a .run)) _ _ (c .before .next-in .ensures) (c .if1 .left)) in
+    (f .some, f .within, c .before .before .before .before .before .pre .1)
 
 returns-2 : tie.Need-returns-2 Inv-loop μ-loop
 returns-2 c =
-    let a = c .before .before .before .args in
-    let pre = c .before .before .before .pre in
-    way-none (a .start) (a .place) (now (a .run)) (a .list) (pre .0) (c .before .loop .i) (c .before .loop .inv .1) (omega arith)
+    let a = c .before .before .before .before .before .before .before .args in
+    way-found (a .start) (a .place) _ _ (c .before .before .before .before .loop .inv) _ _ (went (a .list .count) (now (a .run)) _ _ (c .before .before .before .next-in .ensures) (c .before .before .if1 .left))
+    _ (c .before .is-in-the-way .ensures) (c .if2 .taken)
+
+loop-less : tie.Need-loop-less Inv-loop μ-loop
+loop-less c = let a = c .before .before .before .before .before .before .before .before .args in fewer (a .list .count) (now (a .run)) _ _ (c .before .before .before .before .next-in .ensures) (c .before .before .before .if1 .left)
+
+loop-again : tie.Need-loop-again Inv-loop μ-loop
+loop-again c =
+    let a = c .before .before .before .before .before .before .before .before .args in
+    way-step (a .start) (a .place) _ _ (c .before .before .before .before .before .loop .inv) _ _ (went (a .list .count) (now (a .run)) _ _ (c .before .before .before .before .next-in .ensures) (c .before .before .before .if1 .left))
+    _ (c .before .before .is-in-the-way .ensures) (c .before .if2 .left)
 
 pub in-the-way-spec : {M : Type 1} → statement M
 in-the-way-spec =
@@ -108,17 +51,11 @@ in-the-way-spec =
     (tie.spec
     Inv-loop
     μ-loop
+    (search needs)
     loop-holds
-    mul-is-in-the-way
-    mul-is-in-the-way-2
-    shared-slice-read-is-in-the-way
-    mul-is-in-the-way-3
-    add-is-in-the-way
-    mul-is-in-the-way-4
-    shared-slice-read-is-in-the-way-2
-    is-in-the-way-requires
+    (search needs)
     returns
-    (search needs)
-    (search needs)
-    loop-again
-    returns-2)
+    is-in-the-way-requires
+    returns-2
+    loop-less
+    loop-again)
