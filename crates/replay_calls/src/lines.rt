@@ -1,7 +1,7 @@
 // The words of a long answer. Each is followed by a space, and the last space of a line becomes its end. What passes the end of the
 // lent bytes is dropped.
 ghost use mathlib.Core.Path.{_≡_};
-ghost use Prim.Native.Nat.{_<_, _≤_};
+ghost use Prim.Native.Nat.{_<_};
 ghost use Rattle.error.specs.Lent.{with};
 ghost use Rattle.text.specs.Text.{written};
 ghost use Rattle.replay_lines.specs.Words.{halfDigit, hexByte};
