@@ -6,48 +6,69 @@ use crate::free_space::FreeList;
 
 mod c {
     unsafe extern "C" {
-        pub fn bench_free(run: *mut u64, len: usize, count: usize, addr: u64, size: u64) -> usize;
-        pub fn bench_take_range(run: *mut u64, len: usize, count: usize, addr: u64, size: u64) -> usize;
-        pub fn bench_alloc(run: *mut u64, len: usize, count: usize, size: u64) -> usize;
-        pub fn bench_alloc_whole_units(run: *mut u64, len: usize, count: usize, size: u64, unit: u64) -> usize;
-        pub fn bench_take_trailing(run: *mut u64, len: usize, count: usize, eof: u64) -> usize;
+        pub fn bench_free(run: *mut u64, len: usize, count: usize, total: u64, addr: u64, size: u64) -> u64;
+        pub fn bench_take_range(run: *mut u64, len: usize, count: usize, total: u64, addr: u64, size: u64) -> u64;
+        pub fn bench_alloc(run: *mut u64, len: usize, count: usize, total: u64, size: u64) -> u64;
+        pub fn bench_alloc_whole_units(run: *mut u64, len: usize, count: usize, total: u64, size: u64, unit: u64) -> u64;
+        pub fn bench_take_trailing(run: *mut u64, len: usize, count: usize, total: u64, eof: u64) -> u64;
     }
 }
 
 const UNIT: u64 = 4096;
 
-/// A list as lent pairs and a count, with room for two regions more.
+/// A list as lent pairs and a record, with room for two regions more. A call answers the total that it leaves; the count is known, since
+/// each figure takes a whole region, or bytes from the middle of one, and puts them back.
 struct Lent {
     run: Vec<u64>,
     count: usize,
+    total: u64,
 }
 
 impl Lent {
     fn of(regions: &[(u64, u64)]) -> Self {
         let mut run: Vec<u64> = regions.iter().flat_map(|&(addr, len)| [addr, len]).collect();
         run.extend([0; 4]);
-        Lent { run, count: regions.len() }
+        Lent { run, count: regions.len(), total: sum(regions) }
+    }
+
+    fn put(&mut self, addr: u64, len: u64) {
+        self.total = unsafe { c::bench_free(self.run.as_mut_ptr(), self.run.len(), self.count, self.total, addr, len) };
     }
 
     fn free(&mut self, addr: u64, len: u64) {
-        self.count = unsafe { c::bench_free(self.run.as_mut_ptr(), self.run.len(), self.count, addr, len) };
+        self.put(addr, len);
+        self.count += 1;
+    }
+
+    /// Between two regions, which fold with it into one.
+    fn free_between(&mut self, addr: u64, len: u64) {
+        self.put(addr, len);
+        self.count -= 1;
     }
 
     fn take_range(&mut self, addr: u64, len: u64) {
-        self.count = unsafe { c::bench_take_range(self.run.as_mut_ptr(), self.run.len(), self.count, addr, len) };
+        self.total = unsafe { c::bench_take_range(self.run.as_mut_ptr(), self.run.len(), self.count, self.total, addr, len) };
+        self.count += 1;
     }
 
     fn alloc(&mut self, len: u64) {
-        self.count = unsafe { c::bench_alloc(self.run.as_mut_ptr(), self.run.len(), self.count, len) };
+        self.total = unsafe { c::bench_alloc(self.run.as_mut_ptr(), self.run.len(), self.count, self.total, len) };
+        self.count -= 1;
     }
 
     fn alloc_whole_units(&mut self, len: u64) {
-        self.count = unsafe { c::bench_alloc_whole_units(self.run.as_mut_ptr(), self.run.len(), self.count, len, UNIT) };
+        self.total = unsafe { c::bench_alloc_whole_units(self.run.as_mut_ptr(), self.run.len(), self.count, self.total, len, UNIT) };
+        self.count -= 1;
     }
 
     fn take_trailing(&mut self, eof: u64) {
-        self.count = unsafe { c::bench_take_trailing(self.run.as_mut_ptr(), self.run.len(), self.count, eof) };
+        self.total = unsafe { c::bench_take_trailing(self.run.as_mut_ptr(), self.run.len(), self.count, self.total, eof) };
+        self.count -= 1;
     }
+}
+
+fn sum(regions: &[(u64, u64)]) -> u64 {
+    regions.iter().map(|&(_, len)| len).sum()
 }
 
 fn built(regions: &[(u64, u64)]) -> FreeList {
@@ -101,7 +122,7 @@ pub fn run(figures: &Figures) {
             &format!("range and free in the middle, {count}"),
             || {
                 ours.take_range(addr + 16, 16);
-                ours.free(addr + 16, 16);
+                ours.free_between(addr + 16, 16);
                 ours.count == 0
             },
             || {
@@ -125,5 +146,6 @@ pub fn run(figures: &Figures) {
         );
         let left: Vec<u64> = rust.sections().into_iter().flat_map(|(addr, len)| [addr, len]).collect();
         assert_eq!(ours.run[..2 * ours.count], left[..]);
+        assert_eq!(ours.total, sum(&all));
     }
 }

@@ -26,6 +26,8 @@ mod c {
             raw_len: usize,
             unclassified: *const u64,
             unclassified_len: usize,
+            totals: *const u64,
+            totals_len: usize,
             page: u64,
             start: u64,
             image: *const u8,
@@ -44,6 +46,7 @@ const MESSAGE_LEN: u64 = 125;
 struct Lists {
     of: [Vec<FreeSection>; 3],
     pairs: [Vec<u64>; 3],
+    totals: [u64; 3],
     start: u64,
 }
 
@@ -56,7 +59,8 @@ impl Lists {
                 .collect()
         });
         let pairs = [0, 1, 2].map(|k| of[k].iter().flat_map(|s| [s.addr, s.size]).collect());
-        Lists { of, pairs, start: PAGE + count * STEP }
+        let totals = [0, 1, 2].map(|k| of[k].iter().map(|s| s.size).sum());
+        Lists { of, pairs, totals, start: PAGE + count * STEP }
     }
 
     fn plan(&self, out: &mut [u64]) -> u64 {
@@ -72,8 +76,8 @@ impl Lists {
         let [m, r, u] = &self.pairs;
         unsafe {
             c::bench_save_begin(
-                m.as_ptr(), m.len(), r.as_ptr(), r.len(), u.as_ptr(), u.len(), PAGE, self.start, image.as_ptr(), image.len(),
-                scratch.as_mut_ptr(), scratch.len(),
+                m.as_ptr(), m.len(), r.as_ptr(), r.len(), u.as_ptr(), u.len(), self.totals.as_ptr(), self.totals.len(), PAGE, self.start,
+                image.as_ptr(), image.len(), scratch.as_mut_ptr(), scratch.len(),
             )
         }
     }

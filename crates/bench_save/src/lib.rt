@@ -1,6 +1,7 @@
 // The plan and the beginning of a save through the C interface, for the benchmarks alone: whole runs, offset size 8, message at 0; the end
 // of the managers and the length of the blocks, all ones where it is refused.
 ghost use mathlib.Core.Path.{_≡_};
+ghost use lib.ListN.{getD};
 ghost use Rattle.error.specs.Lent.{with, leaving};
 ghost use Rattle.fsm_plan.specs.Plan.{plannedOutcome, planned};
 ghost use Rattle.free_lists.specs.Lists.{listsIn};
@@ -34,18 +35,31 @@ fn len_of(b: Begin) -> u64
     }
 }
 
-fn lists_of(meta: &[u64], raw: &[u64], unclassified: &[u64]) -> FileLists
-    ensures { λ r. ⌜ r ≡ wholeLists (now (meta .entry)) (now (raw .entry)) (now (unclassified .entry)) ⌝ }
+// The i-th total; 0 where there is none.
+fn total_at(totals: &[u64], i: usize) -> u64
+    ensures { λ r. ⌜ r ≡ getD (now (totals .entry)) i 0 ⌝ }
+{
+    if totals.len() <= i {
+        return 0;
+    }
+    totals[i]
+}
+
+fn lists_of(meta: &[u64], raw: &[u64], unclassified: &[u64], totals: &[u64]) -> FileLists
+    ensures { λ r. ⌜ r ≡ wholeLists (now (meta .entry)) (now (raw .entry)) (now (unclassified .entry)) (now (totals .entry)) ⌝ }
 {
     FileLists {
         metadata: FreeList {
             count: meta.len() / 2,
+            total: total_at(totals, 0),
         },
         raw: FreeList {
             count: raw.len() / 2,
+            total: total_at(totals, 1),
         },
         unclassified: FreeList {
             count: unclassified.len() / 2,
+            total: total_at(totals, 2),
         },
     }
 }
@@ -77,6 +91,7 @@ pub extern "C" fn bench_save_begin(
     meta: &[u64],
     raw: &[u64],
     unclassified: &[u64],
+    totals: &[u64],
     page: u64,
     start: u64,
     image: &[u8],
@@ -85,9 +100,9 @@ pub extern "C" fn bench_save_begin(
     ensures { λ r. ⌜ with r (now (scratch .exit))
         ≡ saveLeft (leaving (now (scratch .entry))
         (begun (listsIn (now (meta .entry)) (now (raw .entry)) (now (unclassified .entry))
-        (wholeLists (now (meta .entry)) (now (raw .entry)) (now (unclassified .entry)))) page start 0 (now (image .entry)) (now (scratch .entry)))) ⌝ }
+        (wholeLists (now (meta .entry)) (now (raw .entry)) (now (unclassified .entry)) (now (totals .entry)))) page start 0 (now (image .entry)) (now (scratch .entry)))) ⌝ }
 {
-    let lists = lists_of(meta, raw, unclassified);
+    let lists = lists_of(meta, raw, unclassified, totals);
     let to = Target {
         page: page,
         start: start,

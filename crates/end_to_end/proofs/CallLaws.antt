@@ -1,18 +1,22 @@
--- Calls that numbers encode, made one after another on three lists. Assumes nothing.
+-- Calls that numbers encode, made one after another on three lists, and the free bytes after them. Assumes nothing.
 use mathlib.Core.Path.{_≡_, refl, sym, ap, ap₂, _∙_}
-use Prim.Native.Nat.{ℕ, suc, _+_, _≤_, _<_}
+use Prim.Native.Nat.{ℕ, suc, _+_, _^_, _≤_, _<_}
 use native.Mathlib.Omega.{arith}
 use mathlib.Core.List.{List, [], _∷_}
 use lib.ListN.{length, getD, drop, length-drop}
 use lib.Seq.{drop-cons}
+use Rattle.free_regions.specs.Sets.{howMany}
 use Rattle.free_space.specs.declared.list.FreeList.{FreeList}
 use Rattle.free_space.specs.Runs.{recordOf}
+use Rattle.free_space.specs.Questions.{freeBytes}
+use Rattle.free_lists.specs.declared.FileLists.{FileLists}
 use Rattle.free_lists.specs.declared.calls.Which.{Which}
 use Rattle.free_lists.specs.declared.calls.Which.the-variants.{Metadata, Raw, Unclassified}
 use Rattle.free_lists.specs.declared.calls.ListCall.{ListCall}
 use Rattle.free_lists.specs.Lists.{Lists, listsIn}
-use Rattle.free_lists.specs.History.{CallOn, on, next, listsAfter, emptyLists}
-use Rattle.end_to_end.specs.Encoding.{whichOf, callOf, callOnOf, callsOf, runsOf}
+use Rattle.free_lists.specs.History.{CallOn, on, next, listsAfter, emptyLists, lastOver, wasFree}
+use Rattle.free_lists.proofs.HistoryLaws.{history}
+use Rattle.end_to_end.specs.Encoding.{whichOf, callOf, callOnOf, callsOf, runsOf, afterCalls, runsAfter}
 
 pub empty-three : (m r u : List ℕ) (x y z : FreeList) → x ≡ recordOf [] → y ≡ recordOf [] → z ≡ recordOf []
     → emptyLists (runsOf m r u) ≡ listsIn m r u (record { metadata = x; raw = y; unclassified = z })
@@ -65,3 +69,22 @@ none-on (w ∷ n ∷ a ∷ b ∷ l) h = absurd (omega arith)
 pub after-end : (calls : List ℕ) (at : ℕ) (ls : Lists) → length calls < at + 4 → listsAfter (callsOf (drop at calls)) ls ≡ ls
 unfolding listsAfter
 after-end calls at ls h = ap (λ (cs : List CallOn). listsAfter cs ls) (none-on (drop at calls) (omega (arith, length-drop at calls)))
+
+-- ---- the free bytes of a list after the calls
+
+module _ (calls m r u : List ℕ) (ls : Lists) (e : ls ≡ afterCalls calls m r u) where
+  pub counted-after : (i : Which) (number n : ℕ) → whichOf number ≡ i → n ≡ freeBytes (ls i .list)
+      → n ≡ howMany (2 ^ 64) (λ b. wasFree (lastOver (whichOf number) b (callsOf calls) (emptyLists (runsOf m r u))))
+  counted-after i number n is answer =
+      answer
+      ∙ ap (λ (l : Lists). freeBytes (l i .list)) e
+      ∙ history (runsOf m r u) (callsOf calls) .counted i
+      ∙ ap (λ (j : Which). howMany (2 ^ 64) (λ b. wasFree (lastOver j b (callsOf calls) (emptyLists (runsOf m r u))))) (sym is)
+
+  pub runs-after : (xs ys zs : List ℕ) (f : FileLists) → ls ≡ listsIn xs ys zs f → runsOf xs ys zs ≡ runsAfter calls m r u
+  runs-after xs ys zs f is = let runs : Lists → Which → List ℕ = λ l i. l i .run in (λ j i. all i j) ∙ ap runs (sym is ∙ e)
+    where
+      all : (i : Which) → runsOf xs ys zs i ≡ listsIn xs ys zs f i .run
+      all Metadata = refl
+      all Raw = refl
+      all Unclassified = refl

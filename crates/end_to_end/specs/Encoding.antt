@@ -8,6 +8,7 @@
 --   runsOf         three lent runs by list
 --   afterCalls     `make_calls`: "three lists, each begun empty", after the calls of a run, each of which "gets its list as the last call on it
 --                  left it"
+--   runsAfter      the runs of the three lists then
 --   numbersOf      the numbers of a call and its arguments, in front of others
 --   encoded        the numbers of calls in a row
 --   InWord         all numbers are below 2^64, as those of a lent run are
@@ -51,6 +52,9 @@ runsOf m r u Unclassified = u
 
 abbrev pub afterCalls : List ℕ → List ℕ → List ℕ → List ℕ → Lists
 afterCalls calls m r u = listsAfter (callsOf calls) (emptyLists (runsOf m r u))
+
+abbrev pub runsAfter : List ℕ → List ℕ → List ℕ → List ℕ → Which → List ℕ
+runsAfter calls m r u i = afterCalls calls m r u i .run
 
 -- ---- calls to numbers
 

@@ -1,7 +1,10 @@
 // List calls in a row on three lists that begin empty, read from a run of numbers.
 ghost use mathlib.Core.Path.{_≡_};
+ghost use Prim.Native.Nat.{_^_};
+ghost use Rattle.free_regions.specs.Sets.{howMany};
 ghost use Rattle.free_lists.specs.Lists.{listsIn};
-ghost use Rattle.end_to_end.specs.Encoding.{whichOf, callOf, afterCalls};
+ghost use Rattle.free_lists.specs.History.{emptyLists, lastOver, wasFree};
+ghost use Rattle.end_to_end.specs.Encoding.{whichOf, callOf, callsOf, runsOf, afterCalls, runsAfter};
 use free_lists::FileLists;
 use free_lists::calls::ListCall;
 use free_lists::calls::Which;
@@ -64,4 +67,35 @@ pub fn make_calls(
         at += 4;
     }
     lists
+}
+
+// Makes the calls, and asks the list of a number how many bytes it then has free: as many as addresses are free by history in it.
+pub fn free_bytes_after(
+    calls: &[u64],
+    metadata: &mut [u64],
+    raw: &mut [u64],
+    unclassified: &mut [u64],
+    number: u64,
+) -> u64
+    ensures answer { λ r. ⌜ r ≡ howMany (2 ^ 64) (λ b. wasFree (lastOver (whichOf number) b (callsOf (now (calls .entry)))
+        (emptyLists (runsOf (now (metadata .entry)) (now (raw .entry)) (now (unclassified .entry)))))) ⌝ }
+    ensures memory { λ _. ⌜ runsOf (now (metadata .exit)) (now (raw .exit)) (now (unclassified .exit))
+        ≡ runsAfter (now (calls .entry)) (now (metadata .entry)) (now (raw .entry)) (now (unclassified .entry)) ⌝ }
+{
+    let lists = make_calls(calls, metadata, raw, unclassified);
+    let which = which_of(number);
+    match which {
+        Which::Metadata => {
+            let list = lists.metadata;
+            list.free_bytes()
+        }
+        Which::Raw => {
+            let list = lists.raw;
+            list.free_bytes()
+        }
+        Which::Unclassified => {
+            let list = lists.unclassified;
+            list.free_bytes()
+        }
+    }
 }

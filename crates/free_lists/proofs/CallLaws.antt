@@ -28,7 +28,7 @@ use Rattle.free_space.specs.declared.list.FreeList.{FreeList}
 use Rattle.free_space.specs.Runs.{flat, recordOf, regions, isList, stored}
 use Rattle.free_space.specs.Calls.{notList, overflows, partUnit, noRoom, placed, keeping, giving, freed, rangeTaken, serve, allocated, allocatedUnits, trailingTaken}
 use Rattle.free_space.proofs.DecodeLaws.{decode-stored, region-form}
-use Rattle.free_space.proofs.ListLaws.{listed, is-list-else}
+use Rattle.free_space.proofs.ListLaws.{listed, record-is-list}
 use Rattle.pairs.specs.Pairs.{capacity}
 use Rattle.pairs.proofs.PairLaws.{length-decode, length-flat}
 use Rattle.free_lists.specs.CallsSay.{Passes, Refuses, three, four, five, six, fourteen, CallSays, Leaves, FreeSays, TakeRangeSays, TwoLeft, ServeSays, AllocSays, PartUnit, UnitsSays, lastOf, TrailingSays, CallsSay}
@@ -71,7 +71,7 @@ leaves Change xs l rs ok w room c =
     let back : regions ys (recordOf rs) ≡ rs = decode-stored xs (l .count) rs (omega arith) in
     record {
       given = ok;
-      left = is-list-else ys (recordOf rs) (ap (λ (k : ℕ). k % 2) same ∙ listed xs l ok .even) (omega arith) ∙ rw back (ok-prop 0 rs .1 w);
+      left = record-is-list ys rs (ap (λ (k : ℕ). k % 2) same ∙ listed xs l ok .even) (omega arith) back (ok-prop 0 rs .1 w);
       bytes = rw back c;
       long = same;
       cleared = stored-cleared xs (l .count) rs;

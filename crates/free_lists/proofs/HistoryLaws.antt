@@ -1,4 +1,6 @@
--- The history theorem: the free bytes of a list are those over which its last accepted call was a `free`. Assumes nothing.
+-- The history theorem: the free bytes of a list are those over which its last accepted call was a `free`, and its total is their number.
+-- Assumes nothing.
+--   Sums   a list's total is the sum of its lengths, and its regions are in order
 use mathlib.Core.Path.{_≡_, refl, sym, _∙_}
 use mathlib.Core.List.{List, [], _∷_}
 use mathlib.Core.Bool.{Bool, true, false, cond, _&&_, _||_}
@@ -26,6 +28,7 @@ use Rattle.free_lists.specs.declared.calls.ListCall.the-variants as call
 use Rattle.free_lists.specs.Lists.{LentList, listIn, regionsOf, same, Lists}
 use Rattle.free_lists.specs.History.{Effect, effect, bytes, perform, CallOn, next, listsAfter, emptyLists, Last, never, was, holds, goesOver, later, lastOver, wasFree, ByHistory}
 use Rattle.free_lists.specs.CallsSay.{Leaves}
+use Rattle.free_lists.proofs.FreeBytesLaws.{AddsUp, adds-up, counts}
 use Rattle.free_lists.proofs.CallLaws.{free-law, take-law, alloc-law, units-law, trailing-law}
 
 -- whether a byte is free after the last call over it, where F tells whether it was before all of them
@@ -35,7 +38,11 @@ Now (was c) F = wasFree (was c) ≡ true
 
 -- ---- one call
 
+abbrev Sums : LentList → Type 0
+Sums l = AddsUp (l .run) (l .list)
+
 record Good (c : ListCall) (l : LentList) (d : Effect) : Type 0 where
+  sum : Sums l → Sums (d .left)
   list : isList (d .left .run) (d .left .list) ≡ isList (l .run) (l .list)
   free : (b : ℕ) → Free (regionsOf (d .left)) b ↔ Now (goesOver c (d .outcome) b) (Free (regionsOf l) b)
 
@@ -48,6 +55,7 @@ holds-or s e b =
 module _ (c : ListCall) (l : LentList) (s e : ℕ) (ys : List ℕ) (m : FreeList) where
   adds : wasFree (was c) ≡ true → Leaves (Adds s e) (l .run) (l .list) ys m → Good c l (record { outcome = answer (bytes s e); left = listIn ys m })
   adds y p = record {
+    sum = λ q. adds-up ys m (p .left);
     list = p .left ∙ sym (p .given);
     free = λ b.
         let q = p .bytes b in
@@ -59,6 +67,7 @@ module _ (c : ListCall) (l : LentList) (s e : ℕ) (ys : List ℕ) (m : FreeList
 
   removes : wasFree (was c) ≡ false → Leaves (Removes s e) (l .run) (l .list) ys m → Good c l (record { outcome = answer (bytes s e); left = listIn ys m })
   removes y p = record {
+    sum = λ q. adds-up ys m (p .left);
     list = p .left ∙ sym (p .given);
     free = λ b.
         let q = p .bytes b in
@@ -74,8 +83,8 @@ module _ {A : Type 0} {P : With A (List ℕ) → Type 0} {N : Type 0} {R : ℕ �
       → ((w : With A (List ℕ)) → P w → Good c l (record { outcome = answer (over (w .value)); left = listIn (w .memory) (list (w .value)) }))
       → Good c l (effect list over (l .list) (leaving (l .run) o))
   goes (answer w) e f = f w (e .says)
-  goes nothing e f = record { list = refl; free = λ b. (λ t. t, λ t. t) }
-  goes (refuse n vs) e f = record { list = refl; free = λ b. (λ t. t, λ t. t) }
+  goes nothing e f = record { sum = λ q. q; list = refl; free = λ b. (λ t. t, λ t. t) }
+  goes (refuse n vs) e f = record { sum = λ q. q; list = refl; free = λ b. (λ t. t, λ t. t) }
 
 performed : (c : ListCall) (l : LentList) → Good c l (perform c l)
 performed (call.Free a n) l = goes keeping _ (call.Free a n) l _ (free-law (l .run) (l .list) a n) (λ w p. adds (call.Free a n) l a (a + n) (w .memory) (w .value) refl (p .1))
@@ -100,25 +109,31 @@ module _ (i : Which) where
   Word c ls b = cond (same i (c .list)) (goesOver (c .what) (perform (c .what) (ls i) .outcome) b) never
 
   record Iteration (c : CallOn) (ls : Lists) : Type 0 where
+    sum : Sums (ls i) → Sums (next c ls i)
     list : isList (next c ls i .run) (next c ls i .list) ≡ isList (ls i .run) (ls i .list)
     free : (b : ℕ) → Free (regionsOf (next c ls i)) b ↔ Now (Word c ls b) (Free (regionsOf (ls i)) b)
 
   iteration : (c : CallOn) (ls : Lists) → Iteration c ls
-  iteration c ls = let g = pick (same i (c .list)) in record { list = g .0; free = g .1 }
+  iteration c ls = let g = pick (same i (c .list)) in record { sum = g .0; list = g .1; free = g .2 }
     where
       d : Effect
       d = perform (c .what) (ls i)
 
-      pick : (t : Bool) → (isList (cond t (d .left) (ls i) .run) (cond t (d .left) (ls i) .list) ≡ isList (ls i .run) (ls i .list))
+      pick : (t : Bool) → (Sums (ls i) → Sums (cond t (d .left) (ls i))) × (isList (cond t (d .left) (ls i) .run) (cond t (d .left) (ls i) .list) ≡ isList (ls i .run) (ls i .list))
           × ((b : ℕ) → Free (regionsOf (cond t (d .left) (ls i))) b ↔ Now (cond t (goesOver (c .what) (d .outcome) b) never) (Free (regionsOf (ls i)) b))
-      pick true = let g = performed (c .what) (ls i) in (g .list, g .free)
-      pick false = (refl, λ b. (λ f. f, λ f. f))
+      pick true = let g = performed (c .what) (ls i) in (g .sum, g .list, g .free)
+      pick false = ((λ q. q), refl, λ b. (λ f. f, λ f. f))
 
   -- from any lists on
   after-list : (cs : List CallOn) (ls : Lists) → isList (listsAfter cs ls i .run) (listsAfter cs ls i .list) ≡ isList (ls i .run) (ls i .list)
   unfolding listsAfter
   after-list [] ls = refl
   after-list (c ∷ cs) ls = after-list cs (next c ls) ∙ iteration c ls .list
+
+  after-sum : (cs : List CallOn) (ls : Lists) → Sums (ls i) → Sums (listsAfter cs ls i)
+  unfolding listsAfter
+  after-sum [] ls q = q
+  after-sum (c ∷ cs) ls q = after-sum cs (next c ls) (iteration c ls .sum q)
 
   after-free : (cs : List CallOn) (ls : Lists) (b : ℕ) → Free (regionsOf (listsAfter cs ls i)) b ↔ Now (lastOver i b cs ls) (Free (regionsOf (ls i)) b)
   unfolding listsAfter lastOver
@@ -141,7 +156,7 @@ empty-list : (runs : Which → List ℕ) (i : Which) → isList (emptyLists runs
 unfolding isList
 empty-list runs i = rw (le-leb 0 (capacity (runs i)) (omega arith)) (go (eqb (length (runs i) % 2) 0))
   where
-    go : (t : Bool) → (t && (true && true)) ≡ t
+    go : (t : Bool) → (t && (true && (true && true))) ≡ t
     go true = refl
     go false = refl
 
@@ -179,8 +194,13 @@ module _ (runs : Which → List ℕ) (cs : List CallOn) where
       let q = now-empty (lastOver i b cs (emptyLists runs)) in
       (λ f. q .0 (r .0 f), λ f. r .1 (q .1 f))
 
+  sums : (i : Which) → Sums (listsAfter cs (emptyLists runs) i)
+  sums i = after-sum i cs (emptyLists runs) (record { order = tt; total = refl })
+
   pub history : ByHistory runs cs
   history = record {
+    total = λ i. sums i .total;
+    counted = λ i. counts (listsAfter cs (emptyLists runs) i .run) (listsAfter cs (emptyLists runs) i .list) (sums i) _ (in-one i);
     lists = λ i. after-list i cs (emptyLists runs) ∙ empty-list runs i;
     inOne = in-one;
     inAny = λ b.

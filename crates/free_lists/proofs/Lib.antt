@@ -1,4 +1,5 @@
 pub mod CallLaws
+pub mod FreeBytesLaws
 pub mod HistoryLaws
 pub mod SharingLaws
 pub mod TrailingLaws

@@ -23,7 +23,8 @@ use Rattle.free_regions.proofs.OrderLaws.{drop-within}
 use Rattle.free_regions.proofs.ShareLaws.{meets-both, shares-above, share-past, share-nil}
 use Rattle.free_space.specs.declared.list.FreeList.{FreeList}
 use Rattle.free_space.specs.Runs.{regionAt, decode, isList}
-use Rattle.free_space.proofs.QuestionLaws.{denied, held, here}
+use Rattle.free_space.proofs.DecodeLaws.{here}
+use Rattle.free_space.proofs.CheckLaws.{denied, held}
 use Rattle.free_space.proofs.ListLaws.{listed}
 use Rattle.pairs.proofs.PairLaws.{length-decode, decode-at, decode-end}
 use Rattle.free_lists.specs.declared.Cursors.{Cursors}

@@ -19,8 +19,9 @@
 --   lastOver        "the last accepted call over that byte made on that list"
 --   wasFree         that call "was a `free`"
 --   freeByHistory   "Free by history"
---   ByHistory       what calls in a row on lists begun empty leave: lists, which hold what is free by history (the law `history`)
-use Prim.Native.Nat.{ℕ, _+_, _%_}
+--   ByHistory       what calls in a row on lists begun empty leave: lists, which hold what is free by history, and whose totals are its count
+--                   (the law `history`)
+use Prim.Native.Nat.{ℕ, _+_, _%_, _^_}
 use mathlib.Core.Path.{_≡_}
 use mathlib.Core.Logic.{_↔_}
 use mathlib.Core.Bool.{Bool, true, false, cond, _&&_, _||_}
@@ -30,9 +31,11 @@ use lib.ListN.{length}
 use Rattle.error.specs.Outcome.{Outcome, answer, nothing, refuse, refused}
 use Rattle.error.specs.Lent.{With, Left, leaving}
 use Rattle.fields.specs.Ranges.{Range}
-use Rattle.free_regions.specs.Regions.{Free}
+use Rattle.free_regions.specs.Regions.{Free, sumOfLengths}
+use Rattle.free_regions.specs.Sets.{howMany}
 use Rattle.free_space.specs.declared.list.FreeList.{FreeList}
 use Rattle.free_space.specs.Runs.{recordOf, isList}
+use Rattle.free_space.specs.Questions.{freeBytes}
 use Rattle.free_space.specs.Calls.{Gave, keeping, freed, allocated, allocatedUnits, rangeTaken, trailingTaken}
 use Rattle.free_lists.specs.declared.calls.Which.{Which}
 use Rattle.free_lists.specs.declared.calls.Which.the-variants.{Metadata, Raw, Unclassified}
@@ -155,4 +158,7 @@ pub record ByHistory (runs : Which → List ℕ) (cs : List CallOn) : Type 0 whe
   -- refusal 3's test then fails for an odd run alone
   pub lists : (i : Which) → isList (listsAfter cs (emptyLists runs) i .run) (listsAfter cs (emptyLists runs) i .list) ≡ eqb (length (runs i) % 2) 0
   pub inOne : (i : Which) (b : ℕ) → Free (regionsOf (listsAfter cs (emptyLists runs) i)) b ↔ (wasFree (lastOver i b cs (emptyLists runs)) ≡ true)
+  -- document 02, P1: the total that `free_bytes` reads "is what adding all lengths would give", and the number of addresses free by history
+  pub total : (i : Which) → freeBytes (listsAfter cs (emptyLists runs) i .list) ≡ sumOfLengths (regionsOf (listsAfter cs (emptyLists runs) i))
+  pub counted : (i : Which) → freeBytes (listsAfter cs (emptyLists runs) i .list) ≡ howMany (2 ^ 64) (λ b. wasFree (lastOver i b cs (emptyLists runs)))
   pub inAny : (b : ℕ) → ((i : Which) × Free (regionsOf (listsAfter cs (emptyLists runs) i)) b) ↔ (freeByHistory cs (emptyLists runs) b ≡ true)

@@ -3,4 +3,5 @@ pub mod Trailing
 pub mod History
 pub mod Walks
 pub mod CallsSay
+pub mod FreeBytesSay
 pub mod ListsSay

@@ -6,9 +6,9 @@ ghost use Prim.Native.Nat.{max};
 ghost use Rattle.error.specs.Answers.{checkedOutcome, numberOutcome};
 ghost use Rattle.free_regions.specs.Regions.{shareBytes};
 ghost use Rattle.free_space.specs.Runs.{regionAt, decode};
-ghost use Rattle.free_lists.specs.Lists.{listsIn, regionsIn, areLists, sharedByte, together};
+ghost use Rattle.free_lists.specs.Lists.{listsIn, areLists, sharedByte, together};
 ghost use Rattle.free_lists.specs.Trailing.{falling, walk, runStart};
-ghost use Rattle.free_lists.specs.Walks.{InOrder, AllInOrder, listsTo, remaining, height, Onward};
+ghost use Rattle.free_lists.specs.Walks.{InOrder, AllInOrder, regionsTo, remaining, height, Onward};
 use error::Checked;
 use error::Number;
 use error::Refusal;
@@ -84,7 +84,7 @@ struct Cursors {
 // Whether two of three lists share a byte.
 fn share_any(meta: &[u64], raw: &[u64], unclassified: &[u64], all: Cursors) -> bool
     requires { ⌜ AllInOrder (now meta) (now raw) (now unclassified) all ⌝ }
-    ensures { λ r. ⌜ r ≡ sharedByte (regionsIn (listsTo (now (meta .entry)) (now (raw .entry)) (now (unclassified .entry)) all)) ⌝ }
+    ensures { λ r. ⌜ r ≡ sharedByte (regionsTo (now (meta .entry)) (now (raw .entry)) (now (unclassified .entry)) all) ⌝ }
 {
     if share_two(meta, all.meta, raw, all.raw) {
         return true;

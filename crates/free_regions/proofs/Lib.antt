@@ -1,6 +1,7 @@
 pub mod BestLaws
 pub mod CutSets
 pub mod InteriorLaws
+pub mod LengthLaws
 pub mod OkLaws
 pub mod OrderLaws
 pub mod SetLaws

@@ -3,6 +3,7 @@
 --   region     the region of an address and a length ("address then length")
 --   end        one past a region's last byte ("FreeRegion answers its end")
 --   In, Free   a byte lies in a region; in some region of a list: the free bytes
+--   sumOfLengths   what the lengths of a list of regions add up to (document 02, P1: "what adding all lengths would give")
 --   fitsFrom   a region that begins at a place or later, is not empty and ends within 64 bits (refusal 3: "length 0 or ends above 2^64−1")
 --   okFrom     regions in order, each after the end of the one before (refusal 3: "with a gap of at least one byte")
 --   meets      two regions share a byte (refusal 13: "meets the message")
@@ -41,6 +42,10 @@ In r x = (r .addr ≤ x) × (x < end r)
 abbrev pub Free : List FreeRegion → ℕ → Type 0
 Free [] x = ⊥
 Free (r ∷ rs) x = In r x ⊎ Free rs x
+
+abbrev pub sumOfLengths : List FreeRegion → ℕ
+sumOfLengths [] = 0
+sumOfLengths (r ∷ rs) = r .len + sumOfLengths rs
 
 -- ---- refusals 3 and 5
 

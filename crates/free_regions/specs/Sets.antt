@@ -1,4 +1,5 @@
 -- Free bytes, ranges and multiples as facts: what the laws of the list calls are stated in. Assumes nothing.
+--   howMany          the number of places below a bound for which a test holds
 --   Between          a byte lies from a place up to another
 --   Common           some byte is one of two sets
 --   Shared           some byte from a place up to another is free
@@ -16,9 +17,10 @@
 --   Outside          refusal 4, which comes before Nothing: the region ends above 2^64 - 1
 --   InteriorSays     what pins `aligned_interior`
 use mathlib.Core.Path.{_≡_}
+use mathlib.Core.Bool.{Bool, cond}
 use mathlib.Core.List.{List, [], _∷_}
 use mathlib.Core.Logic.{_⊎_, _↔_}
-use Prim.Native.Nat.{ℕ, _+_, _%_, _≤_, _<_}
+use Prim.Native.Nat.{ℕ, zero, suc, _+_, _%_, _≤_, _<_}
 use lib.ListN.{length, getD}
 use Rattle.error.specs.Ends.{Ends}
 use Rattle.fields.specs.Ranges.{top}
@@ -27,6 +29,10 @@ use Rattle.free_regions.specs.Regions.{region, end, Free}
 use Rattle.free_regions.specs.Units.{Whole, interior}
 
 -- ---- free bytes
+
+unfoldable pub howMany : ℕ → (ℕ → Bool) → ℕ
+howMany zero P = 0
+howMany (suc n) P = cond (P n) 1 0 + howMany n P
 
 abbrev pub Between : ℕ → ℕ → ℕ → Type 0
 Between a e x = (a ≤ x) × (x < e)

@@ -1,5 +1,5 @@
 -- The cases of what each call answers. Assumes nothing.
-use mathlib.Core.Path.{_≡_, refl, sym, ap, ap₂, _∙_}
+use mathlib.Core.Path.{_≡_, refl, sym, ap, ap₂, _∙_, subst⁻¹}
 use mathlib.Core.List.{List, []}
 use mathlib.Core.Bool.{Bool, true, false, cond, _&&_, not}
 use Prim.Native.Nat.{ℕ, suc, _+_, _-_, _*_, _≤_, _<_}
@@ -19,12 +19,23 @@ use Rattle.free_regions.specs.Units.{interiorStart, interiorSpan}
 use Rattle.free_regions.proofs.ShareLaws.{shares-empty}
 use Rattle.pairs.proofs.PairLaws.{length-decode, decode-at}
 use Rattle.free_space.specs.declared.list.FreeList.{FreeList}
+use Rattle.free_space.specs.declared.decide.Decision.{Decision}
 use Rattle.free_space.specs.declared.decide.Decision.the-variants.{Refused, Nothing}
 use Rattle.free_space.specs.Runs.{regionAt, regions, isList}
 use Rattle.free_space.specs.Calls.{Gave, giving, placed, without, serve, keeping, freedRegions, leftRegions, allocated, allocatedUnits, freed, rangeTaken, trailingTaken, partUnit}
-use Rattle.free_space.specs.Decisions.{ifList, givenBy}
+use Rattle.free_space.specs.Decisions.{ifList, givenBy, Applicable, Gives}
 use Rattle.free_space.proofs.ListLaws.{listed}
 use Rattle.free_space.proofs.SpliceLaws.{kept-same}
+
+-- ---- a decision that looks at no region
+
+pub if-gives : (xs : List ℕ) (l : FreeList) (o : Outcome (With Gave (List ℕ))) (t : Bool) (d e : Decision) → d ≡ ifList t e → t ≡ isList xs l
+    → givenBy xs l (ifList (isList xs l) e) ≡ o → Applicable xs l e → Gives xs l o d
+if-gives xs l o t d e is tested outcome can = subst⁻¹ (Gives xs l o) is (ap (λ (b : Bool). givenBy xs l (ifList b e)) tested ∙ outcome, go t)
+  where
+    go : (b : Bool) → Applicable xs l (ifList b e)
+    go true = can
+    go false = tt
 
 -- ---- allocations
 

@@ -1,21 +1,24 @@
--- Laws of the functions that test for refusal 3: one region, and the whole. Assumes nothing.
+-- Laws of the functions that test for refusal 3: one region, an iteration of a pass, and the whole. Assumes nothing.
 use mathlib.Core.Path.{_≡_, refl, sym, ap, _∙_, subst}
 use mathlib.Core.List.{List}
 use mathlib.Core.Bool.{Bool, true, false, _&&_, not}
-use Prim.Native.Nat.{ℕ, suc, _+_, _*_, _%_, _^_, _≤_, _<_}
+use Prim.Native.Nat.{ℕ, suc, _+_, _%_, _^_, _≤_, _<_}
 use native.Mathlib.Omega.{arith}
 use borrow.Author.Tests.{le-leb, lt-ltb, ltb-true, not-true, not-false}
-use lib.ListN.{length, drop}
-use lib.Dec.{leb, ltb}
+use lib.ListN.{drop}
+use lib.Dec.{leb, ltb, eqb}
 use Rattle.error.proofs.TestLaws.{and-true, true-not-false}
 use Rattle.pairs.specs.Pairs.{capacity, isEven, isRun}
 use Rattle.free_regions.specs.declared.FreeRegion.{FreeRegion}
-use Rattle.free_regions.specs.Regions.{end, fitsFrom, okFrom, region}
+use Rattle.free_regions.specs.Regions.{region, end, sumOfLengths, fitsFrom, okFrom}
 use Rattle.free_regions.proofs.OkLaws.{Fit, fit, fit-back}
 use Rattle.pairs.proofs.PairLaws.{decode-end}
+use Rattle.pairs.proofs.RunLaws.{run-room}
 use Rattle.free_space.specs.declared.list.FreeList.{FreeList}
-use Rattle.free_space.specs.Runs.{regionAt, decode, isList}
-use Rattle.free_space.proofs.ListLaws.{ok-step, ok-stop, region-fits}
+use Rattle.free_space.specs.Runs.{regionAt, decode, regions, isList}
+use Rattle.free_space.specs.Splices.{goesOn, Tested, First}
+use Rattle.free_space.proofs.DecodeLaws.{here}
+use Rattle.free_space.proofs.ListLaws.{region-fits}
 
 -- two tests that hold together are one
 pub same-test : (a b : Bool) → (a ≡ true → b ≡ true) → (b ≡ true → a ≡ true) → a ≡ b
@@ -44,55 +47,89 @@ module _ (prev : ℕ) (r : FreeRegion) where
   pub follows-else : prev < r .addr → fitsFrom 0 r ≡ fitsFrom (suc prev) r
   follows-else h = rw (le-leb (suc prev) (r .addr) h, le-leb 0 (r .addr) (omega arith))
 
--- ---- an iteration of a pass, from what the code reads and tests
+-- ---- a flag that the code tests by `if !..`, and what its function ensures of it
 
-module _ (n i prev : ℕ) (xs : List ℕ) (l : i < n) (room : 2 * n ≤ length xs) (r : FreeRegion) (got : r ≡ regionAt xs i) (b : Bool) (test : b ≡ fitsFrom (suc prev) r) where
-  at-i : fitsFrom (suc prev) (regionAt xs i) ≡ b
-  at-i = ap (fitsFrom (suc prev)) (sym got) ∙ sym test
+pub denied : {b t : Bool} → b ≡ t → not b ≡ true → t ≡ false
+denied {b} e h = sym e ∙ not-true b h
 
-  pub pass-stops : not b ≡ true → false ≡ okFrom (suc prev) (drop i (decode n xs))
-  pass-stops h = sym (ok-stop n i (suc prev) xs l room (at-i ∙ not-true b h))
+pub held : {b t : Bool} → b ≡ t → not b ≡ false → t ≡ true
+held {b} e h = sym e ∙ not-false b h
 
-  pub pass-fits : not b ≡ false → Fit (suc prev) r
-  pass-fits h = fit (suc prev) r (sym test ∙ not-false b h)
+-- ---- an iteration of a pass that tests the regions and adds their lengths, from what the code reads
 
-  pub pass-goes : not b ≡ false → okFrom (suc prev) (drop i (decode n xs)) ≡ okFrom (suc (end r)) (drop (i + 1) (decode n xs))
-  pass-goes h = ok-step n i (suc prev) xs l room (at-i ∙ not-false b h) ∙ ap (λ (q : FreeRegion). okFrom (suc (end q)) (drop (i + 1) (decode n xs))) (sym got)
+module _ {xs : List ℕ} {l : FreeList} {i prev sum : ℕ} (t : Tested xs l i prev sum) where
+  module _ (h : i < l .count) (r : FreeRegion) (got : r ≡ regionAt xs i) where
+    abbrev rest : List FreeRegion
+    rest = drop (i + 1) (regions xs l)
 
-pub pass-ends : (n i prev : ℕ) (xs : List ℕ) → n ≤ i → 2 * n ≤ length xs → okFrom (suc prev) (drop i (decode n xs)) ≡ true
-pass-ends n i prev xs l room = ap (okFrom (suc prev)) (decode-end region n i xs l room)
+    goes-on : (b : Bool) → fitsFrom (suc prev) r ≡ b → isList xs l ≡ ((b && okFrom (suc (end r)) rest) && eqb (l .total) (sum + (r .len + sumOfLengths rest)))
+    goes-on b e =
+        t .rest
+        ∙ ap (goesOn prev sum (l .total)) (here (l .count) i xs r got h (t .room))
+        ∙ ap (λ (c : Bool). (c && okFrom (suc (end r)) rest) && eqb (l .total) (sum + (r .len + sumOfLengths rest))) e
 
--- the first region, which follows none
-module _ (n : ℕ) (xs : List ℕ) (l : 0 < n) (room : 2 * n ≤ length xs) (r : FreeRegion) (got : r ≡ regionAt xs 0) (b : Bool) (test : b ≡ fitsFrom 0 r) where
-  at-0 : fitsFrom 0 (regionAt xs 0) ≡ b
-  at-0 = ap (fitsFrom 0) (sym got) ∙ sym test
+    pub pass-stops : fitsFrom (suc prev) r ≡ false → isList xs l ≡ false
+    pass-stops e = goes-on false e
 
-  pub first-stops : not b ≡ true → false ≡ okFrom 0 (decode n xs)
-  first-stops h = sym (ok-stop n 0 0 xs l room (at-0 ∙ not-true b h))
+    pub pass-goes : fitsFrom (suc prev) r ≡ true → Tested xs l (i + 1) (end r) (sum + r .len)
+    pass-goes e =
+        let f = fit (suc prev) r e in
+        let s : sum + (r .len + sumOfLengths rest) ≡ sum + r .len + sumOfLengths rest = omega arith in record {
+          room = t .room;
+          within = f .within;
+          less = omega (arith, f .above, t .less);
+          rest = goes-on true e ∙ ap (λ (n : ℕ). okFrom (suc (end r)) rest && eqb (l .total) n) s;
+        }
 
-  pub first-fits : not b ≡ false → Fit 0 r
-  first-fits h = fit 0 r (sym test ∙ not-false b h)
-
-  pub first-goes : not b ≡ false → okFrom 0 (decode n xs) ≡ okFrom (suc (end r)) (drop 1 (decode n xs))
-  first-goes h = ok-step n 0 0 xs l room (at-0 ∙ not-false b h) ∙ ap (λ (q : FreeRegion). okFrom (suc (end q)) (drop 1 (decode n xs))) (sym got)
+  -- the lengths of a list whose end the pass has come to
+  pub pass-ends : l .count ≤ i → isList xs l ≡ eqb (l .total) sum
+  pass-ends h =
+      let s : sum + 0 ≡ sum = omega arith in
+      t .rest ∙ ap (goesOn prev sum (l .total)) (decode-end region (l .count) i xs h (t .room)) ∙ ap (eqb (l .total)) s
 
 -- ---- the whole
 
 module _ (xs : List ℕ) (l : FreeList) where
-  pub list-no-room : isRun xs (l .count) ≡ false → false ≡ isList xs l
+  pub list-no-room : isRun xs (l .count) ≡ false → isList xs l ≡ false
   unfolding isList
   list-no-room e = go (isEven xs) (leb (l .count) (capacity xs)) e
     where
-      go : (a b : Bool) → (a && b) ≡ false → false ≡ (a && (b && okFrom 0 (decode (l .count) xs)))
+      go : (a b : Bool) → (a && b) ≡ false → (a && (b && (okFrom 0 (regions xs l) && eqb (l .total) (sumOfLengths (regions xs l))))) ≡ false
       go true true e = true-not-false true refl e
       go true false e = refl
       go false b e = refl
 
-  pub list-room : isRun xs (l .count) ≡ true → okFrom 0 (decode (l .count) xs) ≡ isList xs l
-  unfolding isList
-  list-room e =
-      let p = and-true (isEven xs) (leb (l .count) (capacity xs)) e in
-      rw (p .0, p .1)
+  module _ (has : isRun xs (l .count) ≡ true) where
+    list-room : isList xs l ≡ (okFrom 0 (regions xs l) && eqb (l .total) (sumOfLengths (regions xs l)))
+    unfolding isList
+    list-room = let p = and-true (isEven xs) (leb (l .count) (capacity xs)) has in rw (p .0, p .1)
+
+    -- no regions: their lengths add up to 0
+    pub list-empty : l .count ≡ 0 → isList xs l ≡ eqb (l .total) 0
+    list-empty z = list-room ∙ ap (λ (n : ℕ). okFrom 0 (decode n xs) && eqb (l .total) (sumOfLengths (decode n xs))) z
+
+    -- the first region, which follows none
+    module _ (some : 0 < l .count) (r : FreeRegion) (got : r ≡ regionAt xs 0) where
+      abbrev after : List FreeRegion
+      after = drop 1 (regions xs l)
+
+      begins : (b : Bool) → fitsFrom 0 r ≡ b → isList xs l ≡ ((b && okFrom (suc (end r)) after) && eqb (l .total) (r .len + sumOfLengths after))
+      begins b e =
+          list-room
+          ∙ ap (λ (rs : List FreeRegion). okFrom 0 rs && eqb (l .total) (sumOfLengths rs))
+          (here (l .count) 0 xs r got some (run-room xs (l .count) has))
+          ∙ ap (λ (c : Bool). (c && okFrom (suc (end r)) after) && eqb (l .total) (r .len + sumOfLengths after)) e
+
+      pub first-stops : fitsFrom 0 r ≡ false → isList xs l ≡ false
+      first-stops e = begins false e
+
+      pub first-goes : fitsFrom 0 r ≡ true → First xs l r
+      first-goes e =
+          let f = fit 0 r e in record {
+            is = got;
+            some = some;
+            tested = record { room = run-room xs (l .count) has; within = f .within; less = omega arith; rest = begins true e };
+          }
 
 -- a region that the code reads
 pub read-fits : (xs : List ℕ) (l : FreeList) (i : ℕ) (r : FreeRegion) → isList xs l ≡ true → i < l .count → r ≡ regionAt xs i → Fit 0 r

@@ -9,16 +9,18 @@ use lib.ListN.{take, drop, take-append-drop}
 use Rattle.error.proofs.TestLaws.{le-or-lt}
 use Rattle.fields.specs.Ranges.{top}
 use Rattle.free_regions.specs.declared.FreeRegion.{FreeRegion}
-use Rattle.free_regions.specs.Regions.{end, piece, cut, cutAll, spliced, region}
-use Rattle.free_regions.proofs.OkLaws.{Within}
+use Rattle.free_regions.specs.Regions.{region, end, sumOfLengths, piece, cut, cutAll, spliced}
+use Rattle.free_regions.proofs.OkLaws.{Within, ok-prop}
+use Rattle.free_regions.proofs.LengthLaws.{sum-pieces, sum-drop, sum-within}
 use Rattle.free_regions.proofs.OrderLaws.{keep-prefix}
 use Rattle.pairs.proofs.PairLaws.{decode-drop, decode-end}
 use Rattle.free_space.specs.declared.list.FreeList.{FreeList}
 use Rattle.free_space.specs.Runs.{regionAt, regions, isList}
-use Rattle.free_space.specs.Splices.{Apart}
+use Rattle.free_space.specs.Splices.{Apart, Goes, Stays}
 use Rattle.free_space.proofs.ListLaws.{listed, region-fits}
 use Rattle.free_space.proofs.PlaceLaws.{rest-within, next-above, later, all-before}
-use Rattle.free_regions.proofs.CutSets.{piece-none, piece-some}
+use Rattle.free_regions.proofs.CutSets.{piece-none, piece-some, cut-all-within}
+use Rattle.free_space.proofs.SpliceLaws.{new-total}
 
 module _ (a e : ℕ) (h : a ≤ e) where
   -- ---- one region
@@ -131,3 +133,21 @@ module _ (xs : List ℕ) (l : FreeList) (a e lo hi : ℕ) (h : a ≤ e) (apart :
       (c .1 ∙ ap₂ (λ (u v : ℕ). piece e (end (regionAt xs u) - e) ++ cutAll a e (drop v (regions xs l))) y z
       ∙ ap (λ (q : List FreeRegion). back ++ q) above)
       ∙ sym (append-assoc front back (drop hi (regions xs l))))
+
+-- the total of what a range leaves: kept bytes stay without the regions that share a byte with it, and what is left of the first and of the last comes
+pub cut-total : (xs : List ℕ) (l : FreeList) (a e lo hi kept : ℕ) → a < e → Apart xs l a e lo hi → lo < hi → Stays xs l lo hi kept
+    → kept + (a - regionAt xs lo .addr + (end (regionAt xs (hi - 1)) - e)) ≡ sumOfLengths (cutAll a e (regions xs l))
+cut-total xs l a e lo hi kept h apart m stays =
+    let r = regionAt xs lo in
+    let last = end (regionAt xs (hi - 1)) in
+    let p = piece (r .addr) (a - r .addr) ++ piece e (last - e) in
+    let gone = l .total - kept in
+    let less = sum-drop lo hi (regions xs l) (apart .high .order) in
+    let goes : Goes (regions xs l) lo hi gone = omega (arith, stays, less) in
+    new-total xs l lo hi gone (kept + (a - r .addr + (last - e))) p (apart .list) goes (omega (arith, stays, less, sum-pieces (r .addr) (a - r .addr) e (last - e)))
+    ∙ ap sumOfLengths (sym (cut-some xs l a e lo hi (omega arith) apart m))
+
+pub cut-fits : (xs : List ℕ) (l : FreeList) (a e : ℕ) → isList xs l ≡ true → a < e → sumOfLengths (cutAll a e (regions xs l)) ≤ top
+cut-fits xs l a e ok h =
+    let rs = regions xs l in
+    sum-within 0 top (cutAll a e rs) (cut-all-within a e h 0 top rs (ok-prop 0 rs .0 (listed xs l ok .ok)))

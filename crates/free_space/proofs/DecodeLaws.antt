@@ -1,18 +1,18 @@
 -- A run's pairs as regions, and what is stored when regions are replaced by others. Assumes nothing.
 --   region-form   a region is a pair of numbers
 use mathlib.Core.Path.{_≡_, refl, sym, ap, _∙_}
-use mathlib.Core.List.{List}
-use Prim.Native.Nat.{ℕ, _+_, _-_, _*_, _≤_}
+use mathlib.Core.List.{List, _∷_}
+use Prim.Native.Nat.{ℕ, _+_, _-_, _*_, _≤_, _<_}
 use native.Mathlib.Nat.{zero-add}
 use native.Mathlib.Omega.{arith}
-use lib.ListN.{length, replicate}
+use lib.ListN.{length, drop, replicate}
 use lib.Seq.{slice}
 use Rattle.error.specs.Lent.{over}
 use Rattle.error.proofs.OverLaws.{over-right}
-use Rattle.pairs.proofs.PairLaws.{Form, length-flat, decode-over, length-spliced, spliced-over}
+use Rattle.pairs.proofs.PairLaws.{Form, length-flat, decode-drop, decode-over, length-spliced, spliced-over}
 use Rattle.free_regions.specs.declared.FreeRegion.{FreeRegion}
 use Rattle.free_regions.specs.Regions.{region, spliced}
-use Rattle.free_space.specs.Runs.{decode, flat, stored}
+use Rattle.free_space.specs.Runs.{regionAt, decode, flat, stored}
 
 abbrev pub region-form : Form FreeRegion
 region-form = record {
@@ -23,6 +23,10 @@ region-form = record {
   second-made = λ a b. refl;
   made = λ r. refl;
 }
+
+-- the regions from i on, of which r is the one that the code reads
+pub here : (n i : ℕ) (xs : List ℕ) (r : FreeRegion) → r ≡ regionAt xs i → i < n → 2 * n ≤ length xs → drop i (decode n xs) ≡ r ∷ drop (i + 1) (decode n xs)
+here n i xs r is l h = decode-drop region n i xs l h ∙ ap (λ (q : FreeRegion). q ∷ drop (i + 1) (decode n xs)) (sym is)
 
 -- what a call left is what the next one finds
 pub decode-stored : (xs : List ℕ) (n : ℕ) (rs : List FreeRegion) → 2 * length rs ≤ length xs → decode (length rs) (stored xs n rs) ≡ rs

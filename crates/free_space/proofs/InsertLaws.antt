@@ -16,28 +16,22 @@ use Rattle.free_regions.proofs.ShareLaws.{shares-at, shares-prefix, shares-abov
 use Rattle.pairs.proofs.PairLaws.{length-decode, decode-at, decode-drop, decode-end}
 use Rattle.free_space.specs.declared.list.FreeList.{FreeList}
 use Rattle.free_space.specs.Runs.{regionAt, regions, isList}
-use Rattle.free_space.specs.Splices.{Apart}
+use Rattle.free_space.specs.Splices.{Past, Apart}
 use Rattle.free_space.proofs.ListLaws.{listed, region-fits}
-use Rattle.free_space.proofs.PlaceLaws.{rest-within, next-above, later, all-before}
+use Rattle.free_space.proofs.PlaceLaws.{rest-within, next-above, all-before}
 
 -- ---- `shares`
 
 module _ (xs : List ℕ) (l : FreeList) (new : FreeRegion) (some : 0 < new .len) where
-  pub shares-some : (lo hi : ℕ) → Apart xs l (new .addr) (end new) lo hi → lo < hi → shares new (regions xs l) ≡ true
-  shares-some lo hi apart h =
-      let ok = apart .list in
+  -- the first region that ends past the new one's start begins below its end
+  pub shares-some : (i : ℕ) → isList xs l ≡ true → Past xs l (new .addr) i → i < l .count → regionAt xs i .addr < end new → shares new (regions xs l) ≡ true
+  shares-some i ok past h below =
       let room = listed xs l ok .room in
-      let within = apart .high .within in
-      let n : lo < l .count = omega arith in
-      let r = getD (regions xs l) lo (region 0 0) in
-      let e : r ≡ regionAt xs lo = decode-at region (l .count) lo xs (region 0 0) n room in
-      let s = later xs l ok lo (hi - 1) (omega arith) (omega arith) in
-      let i = apart .high .inside h in
-      let p = apart .low .past n in
-      let f = region-fits xs l lo ok n in
-      shares-at new lo (regions xs l) (region 0 0) (omega (arith, length-decode region (l .count) xs room))
-      (lt-ltb (max (new .addr) (r .addr)) (min (end new) (end r))
-      (omega (arith, ap end e, ap (λ (q : FreeRegion). q .addr) e, s .0, i, p, f .some)))
+      let r = getD (regions xs l) i (region 0 0) in
+      let e : r ≡ regionAt xs i = decode-at region (l .count) i xs (region 0 0) h room in
+      let f = region-fits xs l i ok h in
+      shares-at new i (regions xs l) (region 0 0) (omega (arith, length-decode region (l .count) xs room))
+      (lt-ltb (max (new .addr) (r .addr)) (min (end new) (end r)) (omega (arith, ap end e, ap (λ (q : FreeRegion). q .addr) e, below, past .past h, f .some)))
 
   -- ---- `insert`, where no region shares a byte
 

@@ -1,52 +1,60 @@
--- Laws of refusal 3's test: its three parts, an iteration of a loop that tests, and that a list is determined by its free bytes. Assumes nothing.
+-- Laws of refusal 3's test: its parts, and that a list is determined by its free bytes. Assumes nothing.
 --   Listed    a run and a record that are a list, as facts
-use mathlib.Core.Path.{_≡_, ap, _∙_, subst}
+use mathlib.Core.Path.{_≡_, refl, ap, ap₂, _∙_, subst}
 use mathlib.Core.List.{List}
-use mathlib.Core.Bool.{Bool, true, false, _&&_}
+use mathlib.Core.Bool.{Bool, true, _&&_}
 use mathlib.Core.Logic.{_↔_}
-use Prim.Native.Nat.{ℕ, suc, _+_, _*_, _/_, _%_, _≤_, _<_}
+use Prim.Native.Nat.{ℕ, _*_, _/_, _%_, _≤_, _<_}
 use native.Mathlib.Omega.{arith}
 use borrow.Author.Tests.{le-leb, leb-true, eq-eqb, eqb-true}
-use lib.ListN.{length, drop}
+use lib.ListN.{length}
 use lib.Dec.{leb, eqb}
 use Rattle.error.proofs.TestLaws.{and-true}
 use Rattle.fields.specs.Ranges.{top}
-use Rattle.free_regions.specs.Regions.{region, end, Free, fitsFrom, okFrom}
+use Rattle.free_regions.specs.declared.FreeRegion.{FreeRegion}
+use Rattle.free_regions.specs.Regions.{region, Free, sumOfLengths, okFrom}
 use Rattle.free_regions.proofs.OkLaws.{Fit, ok-at, ok-prop}
+use Rattle.free_regions.proofs.LengthLaws.{sum-within}
 use Rattle.free_regions.proofs.UniqueLaws.{list-unique}
-use Rattle.pairs.proofs.PairLaws.{length-decode, decode-at, decode-drop}
+use Rattle.pairs.proofs.PairLaws.{length-decode, decode-at}
 use Rattle.pairs.specs.Pairs.{capacity}
 use Rattle.free_space.specs.declared.list.FreeList.{FreeList}
-use Rattle.free_space.specs.Runs.{regionAt, decode, regions, isList}
+use Rattle.free_space.specs.Runs.{recordOf, regionAt, decode, regions, isList}
 
--- ---- an iteration of a loop that tests
+-- ---- a list as its parts
 
-module _ (n i low : ℕ) (xs : List ℕ) (l : i < n) (room : 2 * n ≤ length xs) where
-  pub ok-step : fitsFrom low (regionAt xs i) ≡ true → okFrom low (drop i (decode n xs)) ≡ okFrom (suc (end (regionAt xs i))) (drop (i + 1) (decode n xs))
-  ok-step e = ap (okFrom low) (decode-drop region n i xs l room) ∙ ap (λ (b : Bool). b && okFrom (suc (end (regionAt xs i))) (drop (i + 1) (decode n xs))) e
-
-  pub ok-stop : fitsFrom low (regionAt xs i) ≡ false → okFrom low (drop i (decode n xs)) ≡ false
-  ok-stop e = ap (okFrom low) (decode-drop region n i xs l room) ∙ ap (λ (b : Bool). b && okFrom (suc (end (regionAt xs i))) (drop (i + 1) (decode n xs))) e
-
--- ---- a list as its three parts
-
-pub is-list-else : (xs : List ℕ) (l : FreeList) → length xs % 2 ≡ 0 → l .count ≤ capacity xs → isList xs l ≡ okFrom 0 (decode (l .count) xs)
+pub is-list-else : (xs : List ℕ) (l : FreeList) → length xs % 2 ≡ 0 → l .count ≤ capacity xs
+    → isList xs l ≡ (okFrom 0 (regions xs l) && eqb (l .total) (sumOfLengths (regions xs l)))
 unfolding isList
 is-list-else xs l e h = rw (eq-eqb (length xs % 2) 0 e, le-leb (l .count) (length xs / 2) h)
+
+-- the record of regions, and a run that holds them
+pub record-is-list : (xs : List ℕ) (rs : List FreeRegion) → length xs % 2 ≡ 0 → length rs ≤ capacity xs → regions xs (recordOf rs) ≡ rs → okFrom 0 rs ≡ true
+    → isList xs (recordOf rs) ≡ true
+record-is-list xs rs e h back ok =
+    is-list-else xs (recordOf rs) e h
+    ∙ ap (λ (q : List FreeRegion). okFrom 0 q && eqb (sumOfLengths rs) (sumOfLengths q)) back
+    ∙ ap₂ (λ (a b : Bool). a && b) ok (eq-eqb (sumOfLengths rs) (sumOfLengths rs) refl)
 
 pub record Listed (xs : List ℕ) (l : FreeList) : Type 0 where
   pub even : length xs % 2 ≡ 0
   pub room : 2 * l .count ≤ length xs
-  pub ok : okFrom 0 (decode (l .count) xs) ≡ true
+  pub ok : okFrom 0 (regions xs l) ≡ true
+  pub total : l .total ≡ sumOfLengths (regions xs l)
 
 pub listed : (xs : List ℕ) (l : FreeList) → isList xs l ≡ true → Listed xs l
 unfolding isList
 listed xs l e =
     let n = l .count in
-    let p = and-true (eqb (length xs % 2) 0) (leb n (length xs / 2) && okFrom 0 (decode n xs)) e in
-    let q = and-true (leb n (length xs / 2)) (okFrom 0 (decode n xs)) (p .1) in
+    let p = and-true (eqb (length xs % 2) 0) _ e in
+    let q = and-true (leb n (length xs / 2)) _ (p .1) in
+    let r = and-true (okFrom 0 (regions xs l)) _ (q .1) in
     let h : n ≤ length xs / 2 = leb-true n (length xs / 2) (q .0) in
-    record { even = eqb-true (length xs % 2) 0 (p .0); room = omega arith; ok = q .1 }
+    record { even = eqb-true (length xs % 2) 0 (p .0); room = omega arith; ok = r .0; total = eqb-true (l .total) (sumOfLengths (regions xs l)) (r .1) }
+
+-- the sum has 64 bits
+pub list-sum : (xs : List ℕ) (l : FreeList) → isList xs l ≡ true → sumOfLengths (regions xs l) ≤ top
+list-sum xs l e = sum-within 0 top (regions xs l) (ok-prop 0 (regions xs l) .0 (listed xs l e .ok))
 
 -- ---- a region of a list
 

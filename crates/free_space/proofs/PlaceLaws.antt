@@ -1,5 +1,5 @@
 -- Regions of a list in order, by their places. Assumes nothing.
-use mathlib.Core.Path.{_≡_, ap, _∙_, subst}
+use mathlib.Core.Path.{_≡_, sym, ap, _∙_, subst}
 use mathlib.Core.List.{List}
 use mathlib.Core.Bool.{true}
 use Prim.Native.Nat.{ℕ, zero, suc, _+_, _-_, _*_, _≤_, _<_}
@@ -7,12 +7,14 @@ use native.Mathlib.Omega.{arith}
 use lib.ListN.{length, take, drop, getD}
 use Rattle.fields.specs.Ranges.{top}
 use Rattle.free_regions.specs.declared.FreeRegion.{FreeRegion}
-use Rattle.free_regions.specs.Regions.{region, end}
+use Rattle.free_regions.specs.Regions.{region, end, sumOfLengths}
 use Rattle.free_regions.proofs.OkLaws.{Within, ok-prop}
 use Rattle.free_regions.proofs.OrderLaws.{EndBefore, end-before, drop-within, next-in}
 use Rattle.pairs.proofs.PairLaws.{length-decode, decode-at}
 use Rattle.free_space.specs.declared.list.FreeList.{FreeList}
 use Rattle.free_space.specs.Runs.{regionAt, regions, isList}
+use Rattle.free_space.specs.Splices.{Goes}
+use Rattle.free_space.proofs.DecodeLaws.{here}
 use Rattle.free_space.proofs.ListLaws.{listed, region-fits}
 
 module _ (xs : List ℕ) (l : FreeList) (ok : isList xs l ≡ true) where
@@ -33,6 +35,10 @@ module _ (xs : List ℕ) (l : FreeList) (ok : isList xs l ≡ true) where
   rest-within i h =
       subst (λ (r : FreeRegion). Within (r .addr) top (drop i (regions xs l))) (at-is i h)
       (drop-within 0 top i (regions xs l) (region 0 0) ordered (omega (arith, long)))
+
+  -- what goes with one region
+  pub goes-one : (i : ℕ) (r : FreeRegion) → i < l .count → r ≡ regionAt xs i → Goes (regions xs l) i (i + 1) (r .len)
+  goes-one i r h got = sym (ap sumOfLengths (here (l .count) i xs r got h room))
 
   pub next-above : (i : ℕ) → i + 1 < l .count → end (regionAt xs i) < regionAt xs (i + 1) .addr
   next-above i h =

@@ -1,4 +1,4 @@
--- Laws of the inner functions: a run written over itself, and the outcome of a decision. Assumes nothing.
+-- Laws of the inner functions: a run written over itself, the new total, and the outcome of a decision. Assumes nothing.
 use mathlib.Core.Path.{_≡_, refl, sym, ap, ap₂, _∙_}
 use mathlib.Core.List.{List, [], _∷_, _++_}
 use mathlib.Core.Bool.{Bool, true, false, cond}
@@ -13,16 +13,17 @@ use Rattle.error.specs.Lent.{with, over}
 use Rattle.error.proofs.OverLaws.{over-nil, over-front}
 use Rattle.error.proofs.OutcomeLaws.{refuses, passes}
 use Rattle.free_regions.specs.declared.FreeRegion.{FreeRegion}
-use Rattle.free_regions.specs.Regions.{region, piece, spliced}
+use Rattle.free_regions.specs.Regions.{region, sumOfLengths, piece, spliced}
 use Rattle.pairs.proofs.PairLaws.{length-decode, length-flat, flat-decode, length-spliced}
 use Rattle.pairs.specs.Pairs.{capacity}
 use Rattle.free_regions.proofs.CutSets.{piece-none, piece-some}
+use Rattle.free_regions.proofs.LengthLaws.{sum-parts, sum-spliced}
 use Rattle.free_space.specs.declared.list.FreeList.{FreeList}
 use Rattle.free_space.specs.declared.run.Patch.{Patch}
 use Rattle.free_space.specs.declared.decide.Decision.the-variants.{Refused, Nothing, Change}
 use Rattle.free_space.specs.Runs.{recordOf, decode, flat, regions, isList, stored}
 use Rattle.free_space.specs.Calls.{leave, placed, giving, keeping}
-use Rattle.free_space.specs.Splices.{patch}
+use Rattle.free_space.specs.Splices.{Goes, patch, Replaces}
 use Rattle.free_space.specs.Decisions.{fitted, givenBy, keptBy}
 use Rattle.free_space.proofs.ListLaws.{listed}
 use Rattle.free_space.proofs.DecodeLaws.{region-form}
@@ -48,15 +49,15 @@ module _ (a x e y f b : ℕ) (p : f ≡ x) (q : b ≡ y) where
 
 -- ---- the test for room
 
-module _ (given n a lo hi : ℕ) (p : Patch) where
-  pub fitted-full : given < lo + length (patch p) + (n - hi) → Refused (OverCapacity (lo + length (patch p) + (n - hi)) given) ≡ fitted given n a lo hi p
+module _ (given n a lo hi total : ℕ) (p : Patch) where
+  pub fitted-full : given < lo + length (patch p) + (n - hi) → Refused (OverCapacity (lo + length (patch p) + (n - hi)) given) ≡ fitted given n a lo hi total p
   fitted-full h = rw (lt-ltb given (lo + length (patch p) + (n - hi)) h)
 
-  pub fitted-is : lo + length (patch p) + (n - hi) ≤ given → Change a lo hi p ≡ fitted given n a lo hi p
+  pub fitted-is : lo + length (patch p) + (n - hi) ≤ given → Change a lo hi total p ≡ fitted given n a lo hi total p
   fitted-is h = rw (le-ltb given (lo + length (patch p) + (n - hi)) h)
 
 -- a change that is fitted to the run leaves the regions, or is refused, as the definitions of the calls say
-module _ (xs : List ℕ) (l : FreeList) (a lo hi : ℕ) (p : Patch) (lo-hi : lo ≤ hi) (hi-n : hi ≤ l .count) (room : 2 * l .count ≤ length xs) where
+module _ (xs : List ℕ) (l : FreeList) (a lo hi total : ℕ) (p : Patch) (t : Replaces xs l lo hi total (patch p)) where
   rs : List FreeRegion
   rs = spliced (regions xs l) lo hi (patch p)
 
@@ -65,7 +66,7 @@ module _ (xs : List ℕ) (l : FreeList) (a lo hi : ℕ) (p : Patch) (lo-hi : lo 
 
   long : length rs ≡ needed
   unfolding rs needed
-  long = length-spliced region-form xs (l .count) lo hi (patch p) lo-hi hi-n room
+  long = length-spliced region-form xs (l .count) lo hi (patch p) (t .order) (t .within) (listed xs l (t .list) .room)
 
   refuse : {A : Type 0} (give : FreeList → A) → ltb (capacity xs) needed ≡ true → refused (OverCapacity needed (capacity xs)) ≡ placed give xs l rs
   refuse give e =
@@ -75,23 +76,32 @@ module _ (xs : List ℕ) (l : FreeList) (a lo hi : ℕ) (p : Patch) (lo-hi : lo 
   accept : {A : Type 0} (give : FreeList → A) → ltb (capacity xs) needed ≡ false → leave give xs l rs ≡ placed give xs l rs
   accept give e = passes _ _ _ (ap (ltb (capacity xs)) long ∙ e)
 
-  pub given-fitted : givenBy xs l (fitted (capacity xs) (l .count) a lo hi p) ≡ placed (giving a) xs l (spliced (regions xs l) lo hi (patch p))
+  pub given-fitted : givenBy xs l (fitted (capacity xs) (l .count) a lo hi total p) ≡ placed (giving a) xs l (spliced (regions xs l) lo hi (patch p))
   unfolding rs needed
   given-fitted = go (ltb (capacity xs) needed) refl
     where
       go : (t : Bool) → ltb (capacity xs) needed ≡ t
-          → givenBy xs l (cond t (Refused (OverCapacity needed (capacity xs))) (Change a lo hi p)) ≡ placed (giving a) xs l rs
+          → givenBy xs l (cond t (Refused (OverCapacity needed (capacity xs))) (Change a lo hi total p)) ≡ placed (giving a) xs l rs
       go true e = refuse (giving a) e
       go false e = accept (giving a) e
 
-  pub kept-fitted : keptBy xs l (fitted (capacity xs) (l .count) a lo hi p) ≡ placed keeping xs l (spliced (regions xs l) lo hi (patch p))
+  pub kept-fitted : keptBy xs l (fitted (capacity xs) (l .count) a lo hi total p) ≡ placed keeping xs l (spliced (regions xs l) lo hi (patch p))
   unfolding rs needed
   kept-fitted = go (ltb (capacity xs) needed) refl
     where
       go : (t : Bool) → ltb (capacity xs) needed ≡ t
-          → keptBy xs l (cond t (Refused (OverCapacity needed (capacity xs))) (Change a lo hi p)) ≡ placed keeping xs l rs
+          → keptBy xs l (cond t (Refused (OverCapacity needed (capacity xs))) (Change a lo hi total p)) ≡ placed keeping xs l rs
       go true e = refuse keeping e
       go false e = accept keeping e
+
+-- the new total of all five calls: the old, less what goes, plus what comes
+pub new-total : (xs : List ℕ) (l : FreeList) (lo hi gone total : ℕ) (p : List FreeRegion) → isList xs l ≡ true → Goes (regions xs l) lo hi gone
+    → total + gone ≡ l .total + sumOfLengths p → total ≡ sumOfLengths (spliced (regions xs l) lo hi p)
+new-total xs l lo hi gone total p ok goes e = omega (arith, e, listed xs l ok .total, sum-spliced (regions xs l) p lo hi gone goes)
+
+-- no more bytes go than there are
+pub gone-less : (xs : List ℕ) (l : FreeList) (lo hi gone : ℕ) → isList xs l ≡ true → Goes (regions xs l) lo hi gone → gone ≤ l .total
+gone-less xs l lo hi gone ok goes = omega (arith, listed xs l ok .total, sum-parts lo (regions xs l), goes)
 
 -- ---- a call that changes nothing
 
@@ -104,7 +114,9 @@ stored-same xs n h =
 
 -- a list's record is the one that its regions have
 pub record-same : (xs : List ℕ) (l : FreeList) → isList xs l ≡ true → recordOf (regions xs l) ≡ l
-record-same xs l ok = ap (λ (n : ℕ). record { count = n }) (length-decode region (l .count) xs (listed xs l ok .room))
+record-same xs l ok =
+    let q = listed xs l ok in
+    ap₂ (λ (n k : ℕ). record { count = n; total = k }) (length-decode region (l .count) xs (q .room)) (sym (q .total))
 
 pub kept-same : (xs : List ℕ) (l : FreeList) (rs : List FreeRegion) → isList xs l ≡ true → rs ≡ regions xs l → keptBy xs l Nothing ≡ placed keeping xs l rs
 kept-same xs l rs ok e =

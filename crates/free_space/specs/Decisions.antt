@@ -16,7 +16,7 @@ use lib.ListN.{length}
 use Rattle.error.specs.declared.Refusal.the-variants.{NotAList, OverCapacity}
 use Rattle.error.specs.Outcome.{Outcome, answer, nothing, refused}
 use Rattle.error.specs.Lent.{With, with}
-use Rattle.free_regions.specs.Regions.{spliced}
+use Rattle.free_regions.specs.Regions.{sumOfLengths, spliced}
 use Rattle.free_space.specs.declared.list.FreeList.{FreeList}
 use Rattle.free_space.specs.declared.run.Patch.{Patch}
 use Rattle.free_space.specs.declared.decide.Decision.{Decision}
@@ -25,10 +25,10 @@ use Rattle.free_space.specs.Runs.{regions}
 use Rattle.free_space.specs.Calls.{Gave, giving, keeping, leave}
 use Rattle.free_space.specs.Splices.{patch}
 
-abbrev pub fitted : ℕ → ℕ → ℕ → ℕ → ℕ → Patch → Decision
-fitted given n a lo hi p =
+abbrev pub fitted : ℕ → ℕ → ℕ → ℕ → ℕ → ℕ → Patch → Decision
+fitted given n a lo hi total p =
     let needed = lo + length (patch p) + (n - hi) in
-    cond (ltb given needed) (Refused (OverCapacity needed given)) (Change a lo hi p)
+    cond (ltb given needed) (Refused (OverCapacity needed given)) (Change a lo hi total p)
 
 abbrev pub ifList : Bool → Decision → Decision
 ifList isList d = cond isList d (Refused NotAList)
@@ -36,18 +36,19 @@ ifList isList d = cond isList d (Refused NotAList)
 abbrev pub givenBy : List ℕ → FreeList → Decision → Outcome (With Gave (List ℕ))
 givenBy xs l (Refused r) = refused r
 givenBy xs l Nothing = nothing
-givenBy xs l (Change a lo hi p) = leave (giving a) xs l (spliced (regions xs l) lo hi (patch p))
+givenBy xs l (Change a lo hi total p) = leave (giving a) xs l (spliced (regions xs l) lo hi (patch p))
 
 abbrev pub keptBy : List ℕ → FreeList → Decision → Outcome (With FreeList (List ℕ))
 keptBy xs l (Refused r) = refused r
 keptBy xs l Nothing = answer (with l xs)
-keptBy xs l (Change a lo hi p) = leave keeping xs l (spliced (regions xs l) lo hi (patch p))
+keptBy xs l (Change a lo hi total p) = leave keeping xs l (spliced (regions xs l) lo hi (patch p))
 
 abbrev pub Applicable : List ℕ → FreeList → Decision → Type 0
 Applicable xs l (Refused r) = Unit {0}
 Applicable xs l Nothing = Unit {0}
-Applicable xs l (Change a lo hi p) =
+Applicable xs l (Change a lo hi total p) =
     (lo ≤ hi) × (hi ≤ l .count) × (2 * l .count ≤ length xs) × (2 * (lo + length (patch p) + (l .count - hi)) ≤ length xs)
+    × (total ≡ sumOfLengths (spliced (regions xs l) lo hi (patch p)))
 
 abbrev pub Gives : List ℕ → FreeList → Outcome (With Gave (List ℕ)) → Decision → Type 0
 Gives xs l o d = (givenBy xs l d ≡ o) × Applicable xs l d

@@ -1,20 +1,26 @@
 -- What the inner functions of the calls know of a run, and what a patch holds. No public contract cites this file; it serves the contracts
 -- of private functions. Assumes nothing.
---   Stands     where a pass stands: at a region, with all up to it tested
+--   goesOn     the regions that are left follow one that ends at a place, and their lengths are what a sum lacks of the total
+--   Tested     where a pass stands: the regions before a place are tested
+--   First      a list's first region, tested
 --   Begins     what is known where the room and the first region were tested
 --   Past       the first region that ends past a place
 --   From       the first from a region on that begins at a place or above
 --   Apart      the regions between two places share a byte with a range, and no others
---   Meets      the answer of the search for the regions that share a byte with a range of so many bytes
+--   Goes       so many bytes go with the regions from a place up to another
+--   Stays      so many bytes of a total stay without them
+--   Meets      the answer of the search for the first region that can share a byte with a range of so many bytes
 --   patch      the regions that take the place of others
+--   Replaces   regions of a list can be replaced by a patch, and what is left then has a total
 use Prim.Native.Nat.{ℕ, suc, _+_, _-_, _*_, _≤_, _<_}
 use mathlib.Core.Path.{_≡_}
-use mathlib.Core.Bool.{true, false}
+use mathlib.Core.Bool.{Bool, true, false, _&&_}
 use mathlib.Core.List.{List, [], _∷_}
+use lib.Dec.{eqb}
 use lib.ListN.{length, drop}
 use Rattle.fields.specs.Ranges.{top}
 use Rattle.free_regions.specs.declared.FreeRegion.{FreeRegion}
-use Rattle.free_regions.specs.Regions.{end, okFrom}
+use Rattle.free_regions.specs.Regions.{end, sumOfLengths, okFrom, spliced}
 use Rattle.free_space.specs.declared.list.FreeList.{FreeList}
 use Rattle.free_space.specs.declared.check.Head.{Head}
 use Rattle.free_space.specs.declared.check.Head.the-variants as head
@@ -24,18 +30,25 @@ use Rattle.free_space.specs.declared.run.Patch.{Patch}
 use Rattle.free_space.specs.declared.run.Patch.the-variants.{Empty, One, Two}
 use Rattle.free_space.specs.Runs.{regionAt, regions, isList}
 
--- r is the region at i, and the regions up to it are tested
-pub record Stands (xs : List ℕ) (l : FreeList) (i : ℕ) (r : FreeRegion) : Type 0 where
-  pub is : r ≡ regionAt xs i
-  pub below : i < l .count
+abbrev pub goesOn : ℕ → ℕ → ℕ → List FreeRegion → Bool
+goesOn prev sum total rs = okFrom (suc prev) rs && eqb total (sum + sumOfLengths rs)
+
+-- the last region before i ends at prev, and the lengths up to there add up to sum
+pub record Tested (xs : List ℕ) (l : FreeList) (i prev sum : ℕ) : Type 0 where
   pub room : 2 * l .count ≤ length xs
-  pub within : end r ≤ top
-  pub rest : isList xs l ≡ okFrom (suc (end r)) (drop (i + 1) (regions xs l))
+  pub within : prev ≤ top
+  pub less : sum ≤ prev
+  pub rest : isList xs l ≡ goesOn prev sum (l .total) (drop i (regions xs l))
+
+pub record First (xs : List ℕ) (l : FreeList) (r : FreeRegion) : Type 0 where
+  pub is : r ≡ regionAt xs 0
+  pub some : 0 < l .count
+  pub tested : Tested xs l 1 (end r) (r .len)
 
 abbrev pub Begins : List ℕ → FreeList → Head → Type 0
 Begins xs l head.Bad = isList xs l ≡ false
 Begins xs l head.Empty = (isList xs l ≡ true) × (l .count ≡ 0)
-Begins xs l (head.First r) = Stands xs l 0 r
+Begins xs l (head.First r) = First xs l r
 
 -- i is the place of the first region that ends past a
 pub record Past (xs : List ℕ) (l : FreeList) (a i : ℕ) : Type 0 where
@@ -55,13 +68,24 @@ pub record Apart (xs : List ℕ) (l : FreeList) (a e lo hi : ℕ) : Type 0 where
   pub low : Past xs l a lo
   pub high : From xs l lo e hi
 
+abbrev pub Goes : List FreeRegion → ℕ → ℕ → ℕ → Type 0
+Goes rs lo hi gone = gone + sumOfLengths (drop hi rs) ≡ sumOfLengths (drop lo rs)
+
+abbrev pub Stays : List ℕ → FreeList → ℕ → ℕ → ℕ → Type 0
+Stays xs l lo hi kept = kept + sumOfLengths (drop lo (regions xs l)) ≡ l .total + sumOfLengths (drop hi (regions xs l))
+
 abbrev pub Meets : List ℕ → FreeList → ℕ → ℕ → Meet → Type 0
-Meets xs l a len meet.Bad = isList xs l ≡ false
-Meets xs l a len meet.Over = (isList xs l ≡ true) × (top < a + len)
-Meets xs l a len meet.Empty = (isList xs l ≡ true) × (a + len ≤ top) × (len ≡ 0)
-Meets xs l a len (meet.Between lo hi) = Apart xs l a (a + len) lo hi × (a + len ≤ top) × (0 < len)
+Meets xs l a len meet.Over = top < a + len
+Meets xs l a len meet.Empty = (a + len ≤ top) × (len ≡ 0)
+Meets xs l a len (meet.Past i) = (a + len ≤ top) × (0 < len) × Past xs l a i
 
 abbrev pub patch : Patch → List FreeRegion
 patch Empty = []
 patch (One r) = r ∷ []
 patch (Two r s) = r ∷ s ∷ []
+
+pub record Replaces (xs : List ℕ) (l : FreeList) (lo hi total : ℕ) (p : List FreeRegion) : Type 0 where
+  pub list : isList xs l ≡ true
+  pub order : lo ≤ hi
+  pub within : hi ≤ l .count
+  pub sum : total ≡ sumOfLengths (spliced (regions xs l) lo hi p)

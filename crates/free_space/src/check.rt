@@ -1,11 +1,10 @@
 // The test that a run and a record are a list. A call makes it in the pass that it makes anyway.
 ghost use mathlib.Core.Path.{_≡_};
 ghost use mathlib.Core.Bool.{true};
-ghost use Prim.Native.Nat.{suc, _*_, _≤_};
-ghost use lib.ListN.{length, drop};
-ghost use Rattle.free_regions.specs.Regions.{fitsFrom, okFrom};
-ghost use Rattle.free_space.specs.Runs.{decode, isList};
-ghost use Rattle.free_space.specs.Splices.{Begins};
+ghost use Prim.Native.Nat.{suc};
+ghost use Rattle.free_regions.specs.Regions.{fitsFrom};
+ghost use Rattle.free_space.specs.Runs.{isList};
+ghost use Rattle.free_space.specs.Splices.{First, Begins};
 use crate::list::FreeList;
 use crate::run::region_at;
 use free_regions::FreeRegion;
@@ -28,24 +27,6 @@ pub(crate) fn follows(prev: u64, r: FreeRegion) -> bool
     stands(r)
 }
 
-// Whether the regions from `from` on follow one that ends at `before`.
-pub(crate) fn rest_follows(run: &[u64], count: usize, from: usize, before: u64) -> bool
-    requires { ⌜ (2 * count ≤ length (now run)) ⌝ }
-    ensures { λ b. ⌜ b ≡ okFrom (suc before) (drop from (decode count (now (run .entry)))) ⌝ }
-{
-    let mut i = from;
-    let mut prev = before;
-    while i < count {
-        let r = region_at(run, i);
-        if !follows(prev, r) {
-            return false;
-        }
-        prev = r.addr + r.len;
-        i += 1;
-    }
-    true
-}
-
 // How a list begins.
 pub(crate) enum Head {
     Bad,
@@ -62,13 +43,53 @@ pub(crate) fn first_region(run: &[u64], list: FreeList) -> Head
         return Head::Bad;
     }
     if count == 0 {
-        return Head::Empty;
+        if list.total == 0 {
+            return Head::Empty;
+        }
+        return Head::Bad;
     }
     let r = region_at(run, 0);
     if !stands(r) {
         return Head::Bad;
     }
     Head::First(r)
+}
+
+// Whether the regions after the first follow, and all lengths add up to the total. The sum of the first lengths is at most
+// the end of the last of them, so that it does not overflow. Two regions in an iteration: with one, the sum takes a third more time.
+fn rest_is_list(run: &[u64], list: FreeList, first: FreeRegion) -> bool
+    requires { ⌜ First (now run) list first ⌝ }
+    ensures { λ b. ⌜ b ≡ isList (now (run .entry)) list ⌝ }
+{
+    let count = list.count;
+    let mut prev = first.addr + first.len;
+    let mut sum = first.len;
+    let mut i = 1;
+    // An even number of them, and then the last if one is left.
+    let stop = count - (count - 1) % 2;
+    while i < stop {
+        let r = region_at(run, i);
+        if !follows(prev, r) {
+            return false;
+        }
+        prev = r.addr + r.len;
+        sum += r.len;
+        let s = region_at(run, i + 1);
+        if !follows(prev, s) {
+            return false;
+        }
+        prev = s.addr + s.len;
+        sum += s.len;
+        i += 2;
+    }
+    if stop == count {
+        return list.total == sum;
+    }
+    let last = region_at(run, i);
+    if !follows(prev, last) {
+        return false;
+    }
+    list.total == sum + last.len
 }
 
 // Whether a run and a record are a list.
@@ -79,6 +100,6 @@ pub fn is_list(run: &[u64], list: FreeList) -> bool
     match h {
         Head::Bad => false,
         Head::Empty => true,
-        Head::First(r) => rest_follows(run, list.count, 1, r.addr + r.len),
+        Head::First(r) => rest_is_list(run, list, r),
     }
 }

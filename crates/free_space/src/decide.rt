@@ -2,14 +2,13 @@
 ghost use mathlib.Core.Path.{_≡_};
 ghost use mathlib.Core.Bool.{true};
 ghost use mathlib.Core.List.{_++_};
-ghost use Prim.Native.Nat.{_+_, _-_, _*_, _<_, _≤_};
-ghost use lib.ListN.{length};
+ghost use Prim.Native.Nat.{_+_, _-_, _<_, _≤_};
 ghost use Rattle.pairs.specs.Pairs.{capacity};
 ghost use Rattle.free_regions.specs.Regions.{end, piece, cutAll};
 ghost use Rattle.free_regions.specs.Units.{interiorStart, interiorSpan};
 ghost use Rattle.free_space.specs.Runs.{regionAt, regions, isList};
 ghost use Rattle.free_space.specs.Calls.{placed, keeping, giving, without, allocated, allocatedUnits, freed, rangeTaken, trailingTaken, partUnit};
-ghost use Rattle.free_space.specs.Splices.{Apart, patch};
+ghost use Rattle.free_space.specs.Splices.{Apart, Stays, patch, Replaces};
 ghost use Rattle.free_space.specs.Decisions.{fitted, ifList, Applicable, Gives, Keeps};
 use crate::check::is_list;
 use crate::fit::Search;
@@ -17,6 +16,8 @@ use crate::fit::best_fit;
 use crate::join::put_between;
 use crate::list::FreeList;
 use crate::meet::Meet;
+use crate::meet::begins_below;
+use crate::meet::first_from;
 use crate::meet::meeting;
 use crate::run::Patch;
 use crate::run::patch_len;
@@ -32,26 +33,29 @@ pub(crate) enum Decision {
     Refused(Refusal),
     // The list stays as it is, and no address is given out.
     Nothing,
-    // The regions from `lo` up to `hi` are replaced; `addr` is the first of the bytes that the call is about.
+    // The regions from `lo` up to `hi` are replaced, and then all lengths add up to `total`; `addr` is the first of the bytes that the
+    // call is about.
     Change {
         addr: u64,
         lo: usize,
         hi: usize,
+        total: u64,
         patch: Patch,
     },
 }
 
-// A change, if the run has room for the regions that it leaves.
+// A change, if the run has room for the regions that it leaves, of which `total` is the sum of the lengths.
 pub(crate) fn change(
     run: &[u64],
     list: FreeList,
     addr: u64,
     lo: usize,
     hi: usize,
+    total: u64,
     p: Patch,
 ) -> Decision
-    requires { ⌜ (lo ≤ hi) × (hi ≤ list .count) × (2 * list .count ≤ length (now run)) ⌝ }
-    ensures { λ d. ⌜ (d ≡ fitted (capacity (now (run .entry))) (list .count) addr lo hi p) × Applicable (now (run .entry)) list d ⌝ }
+    requires { ⌜ Replaces (now run) list lo hi total (patch p) ⌝ }
+    ensures { λ d. ⌜ (d ≡ fitted (capacity (now (run .entry))) (list .count) addr lo hi total p) × Applicable (now (run .entry)) list d ⌝ }
 {
     let needed = lo + patch_len(p) + (list.count - hi);
     let given = run.len() / 2;
@@ -65,16 +69,16 @@ pub(crate) fn change(
         addr: addr,
         lo: lo,
         hi: hi,
+        total: total,
         patch: p,
     }
 }
 
-// A decision that looks at no region, after the test for refusal 3.
-fn if_list(run: &[u64], list: FreeList, d: Decision) -> Decision
-    requires { ⌜ Applicable (now run) list d ⌝ }
-    ensures { λ r. ⌜ (r ≡ ifList (isList (now (run .entry)) list) d) × Applicable (now (run .entry)) list r ⌝ }
+// A decision that looks at no region, or refusal 3 where the test for it failed.
+fn if_list(passed: bool, d: Decision) -> Decision
+    ensures { λ r. ⌜ r ≡ ifList passed d ⌝ }
 {
-    if is_list(run, list) {
+    if passed {
         d
     } else {
         Decision::Refused(Refusal::NotAList)
@@ -110,7 +114,7 @@ fn edges(addr: u64, a: u64, e: u64, last: u64) -> Patch
 
 // Takes the `len` bytes from `start` on out of the region `r` at `i`.
 fn take_part(run: &[u64], list: FreeList, i: usize, r: FreeRegion, start: u64, len: u64) -> Decision
-    requires { ⌜ (isList (now run) list ≡ true) × (i < list .count) × (r ≡ regionAt (now run) i) × (start + len ≤ end r) ⌝ }
+    requires { ⌜ (isList (now run) list ≡ true) × (i < list .count) × (r ≡ regionAt (now run) i) × (r .addr ≤ start) × (start + len ≤ end r) ⌝ }
     ensures { λ d. ⌜ Gives (now (run .entry)) list (placed (giving start) (now (run .entry)) list
         (without (regions (now (run .entry)) list) i start len)) d ⌝ }
 {
@@ -120,6 +124,7 @@ fn take_part(run: &[u64], list: FreeList, i: usize, r: FreeRegion, start: u64, l
         start,
         i,
         i + 1,
+        list.total - len,
         edges(r.addr, start, start + len, r.addr + r.len),
     )
 }
@@ -139,7 +144,7 @@ pub(crate) fn decide_alloc(run: &[u64], list: FreeList, len: u64) -> Decision
     ensures { λ d. ⌜ Gives (now (run .entry)) list (allocated (now (run .entry)) list len) d ⌝ }
 {
     if len == 0 {
-        return if_list(run, list, Decision::Nothing);
+        return if_list(is_list(run, list), Decision::Nothing);
     }
     let s = best_fit(run, list, len, Measure::Length);
     match s {
@@ -167,10 +172,10 @@ pub(crate) fn decide_whole_units(run: &[u64], list: FreeList, len: u64, unit: u6
     ensures { λ d. ⌜ Gives (now (run .entry)) list (allocatedUnits (now (run .entry)) list len unit) d ⌝ }
 {
     if is_part(len, unit) {
-        return if_list(run, list, Decision::Refused(Refusal::PartUnit));
+        return if_list(is_list(run, list), Decision::Refused(Refusal::PartUnit));
     }
     if len == 0 {
-        return if_list(run, list, Decision::Nothing);
+        return if_list(is_list(run, list), Decision::Nothing);
     }
     let s = best_fit(run, list, len, Measure::Units(unit));
     match s {
@@ -183,9 +188,17 @@ pub(crate) fn decide_whole_units(run: &[u64], list: FreeList, len: u64, unit: u6
     }
 }
 
-// Cuts the range from `a` up to `e` out of the regions that share a byte with it.
-fn cut_between(run: &[u64], list: FreeList, lo: usize, hi: usize, a: u64, e: u64) -> Decision
-    requires { ⌜ Apart (now run) list a e lo hi × (a ≤ e) ⌝ }
+// Cuts the range from `a` up to `e` out of the regions that share a byte with it. The others have `kept` bytes.
+fn cut_between(
+    run: &[u64],
+    list: FreeList,
+    lo: usize,
+    hi: usize,
+    kept: u64,
+    a: u64,
+    e: u64,
+) -> Decision
+    requires { ⌜ Apart (now run) list a e lo hi × (a < e) × Stays (now run) list lo hi kept ⌝ }
     ensures { λ d. ⌜ Keeps (now (run .entry)) list (placed keeping (now (run .entry)) list (cutAll a e (regions (now (run .entry)) list))) d ⌝ }
 {
     if lo == hi {
@@ -193,13 +206,16 @@ fn cut_between(run: &[u64], list: FreeList, lo: usize, hi: usize, a: u64, e: u64
     }
     let first = region_at(run, lo);
     let last = region_at(run, hi - 1);
+    let end = last.addr + last.len;
+    let left = saturating_sub(a, first.addr) + saturating_sub(end, e);
     change(
         run,
         list,
         a,
         lo,
         hi,
-        edges(first.addr, a, e, last.addr + last.len),
+        kept + left,
+        edges(first.addr, a, e, end),
     )
 }
 
@@ -207,19 +223,21 @@ fn cut_between(run: &[u64], list: FreeList, lo: usize, hi: usize, a: u64, e: u64
 pub(crate) fn decide_free(run: &[u64], list: FreeList, addr: u64, len: u64) -> Decision
     ensures { λ d. ⌜ Keeps (now (run .entry)) list (freed (now (run .entry)) list addr len) d ⌝ }
 {
+    if !is_list(run, list) {
+        return Decision::Refused(Refusal::NotAList);
+    }
     let m = meeting(run, list, addr, len);
     match m {
-        Meet::Bad => Decision::Refused(Refusal::NotAList),
         Meet::Over => Decision::Refused(Refusal::Overflow),
         Meet::Empty => Decision::Nothing,
-        Meet::Between { lo, hi } => {
-            if lo < hi {
+        Meet::Past(i) => {
+            if begins_below(run, list, i, addr + len) {
                 return Decision::Refused(Refusal::SharedAddress);
             }
             put_between(
                 run,
                 list,
-                lo,
+                i,
                 FreeRegion {
                     addr: addr,
                     len: len,
@@ -233,12 +251,17 @@ pub(crate) fn decide_free(run: &[u64], list: FreeList, addr: u64, len: u64) -> D
 pub(crate) fn decide_range(run: &[u64], list: FreeList, addr: u64, len: u64) -> Decision
     ensures { λ d. ⌜ Keeps (now (run .entry)) list (rangeTaken (now (run .entry)) list addr len) d ⌝ }
 {
+    if !is_list(run, list) {
+        return Decision::Refused(Refusal::NotAList);
+    }
     let m = meeting(run, list, addr, len);
     match m {
-        Meet::Bad => Decision::Refused(Refusal::NotAList),
         Meet::Over => Decision::Refused(Refusal::Overflow),
         Meet::Empty => Decision::Nothing,
-        Meet::Between { lo, hi } => cut_between(run, list, lo, hi, addr, addr + len),
+        Meet::Past(i) => {
+            let met = first_from(run, list, i, addr + len);
+            cut_between(run, list, i, met.upto, met.kept, addr, addr + len)
+        }
     }
 }
 
@@ -257,5 +280,13 @@ pub(crate) fn decide_trailing(run: &[u64], list: FreeList, eof: u64) -> Decision
     if r.addr + r.len != eof {
         return Decision::Nothing;
     }
-    change(run, list, r.addr, count - 1, count, Patch::Empty)
+    change(
+        run,
+        list,
+        r.addr,
+        count - 1,
+        count,
+        list.total - r.len,
+        Patch::Empty,
+    )
 }

@@ -3,7 +3,7 @@ ghost use mathlib.Core.Path.{_≡_};
 ghost use Prim.Native.Nat.{_-_, _^_, _<_, _≤_};
 ghost use Rattle.free_regions.specs.Regions.{oneAt, lower};
 ghost use Rattle.free_space.specs.Passes.{measureOf};
-ghost use Rattle.free_space.specs.Splices.{Stands};
+ghost use Rattle.free_space.specs.Splices.{First};
 ghost use Rattle.free_space.specs.Searches.{soFar, answered, Finds};
 use crate::check::Head;
 use crate::check::first_region;
@@ -66,12 +66,13 @@ fn found(b: Best, len: u64) -> Search
 }
 
 fn best_after(run: &[u64], list: FreeList, first: FreeRegion, len: u64, what: Measure) -> Search
-    requires { ⌜ Stands (now run) list 0 first × (0 < len) ⌝ }
+    requires { ⌜ First (now run) list first × (0 < len) ⌝ }
     ensures { λ s. ⌜ Finds (measureOf what) (now (run .entry)) list len s ⌝ }
 {
     let count = list.count;
     let mut b = better_of(none_yet(len), 0, measured(what, first), len);
     let mut prev = first.addr + first.len;
+    let mut sum = first.len;
     let mut i = 1;
     while i < count {
         let r = region_at(run, i);
@@ -80,7 +81,11 @@ fn best_after(run: &[u64], list: FreeList, first: FreeRegion, len: u64, what: Me
         }
         b = better_of(b, i, measured(what, r), len);
         prev = r.addr + r.len;
+        sum += r.len;
         i += 1;
+    }
+    if list.total != sum {
+        return Search::Bad;
     }
     found(b, len)
 }

@@ -2,10 +2,10 @@
 ghost use mathlib.Core.Path.{_≡_};
 ghost use mathlib.Core.Bool.{true};
 ghost use mathlib.Core.List.{_∷_, _++_};
-ghost use Prim.Native.Nat.{_≤_, _<_};
+ghost use Prim.Native.Nat.{_+_, _≤_, _<_};
 ghost use lib.ListN.{take, drop};
 ghost use Rattle.fields.specs.Ranges.{top};
-ghost use Rattle.free_regions.specs.Regions.{region, end, absorb, insert};
+ghost use Rattle.free_regions.specs.Regions.{region, end, sumOfLengths, absorb, insert};
 ghost use Rattle.free_space.specs.Runs.{regionAt, regions, isList};
 ghost use Rattle.free_space.specs.Calls.{placed, keeping};
 ghost use Rattle.free_space.specs.Splices.{Apart};
@@ -41,7 +41,9 @@ fn join_below(run: &[u64], list: FreeList, i: usize, new: FreeRegion) -> Joined
     requires { ⌜ Apart (now run) list (new .addr) (end new) i i × (0 < new .len) × (end new ≤ top) ⌝ }
     ensures { λ j. ⌜ (j .index ≤ i) × (end (j .region) ≡ end new)
         × (insert new (regions (now (run .entry)) list)
-        ≡ take (j .index) (regions (now (run .entry)) list) ++ absorb (j .region) (drop i (regions (now (run .entry)) list))) ⌝ }
+        ≡ take (j .index) (regions (now (run .entry)) list) ++ absorb (j .region) (drop i (regions (now (run .entry)) list)))
+        × (j .region .len + sumOfLengths (drop i (regions (now (run .entry)) list))
+        ≡ new .len + sumOfLengths (drop (j .index) (regions (now (run .entry)) list))) ⌝ }
 {
     if 0 < i {
         let r = region_at(run, i - 1);
@@ -59,7 +61,9 @@ fn join_below(run: &[u64], list: FreeList, i: usize, new: FreeRegion) -> Joined
 fn join_above(run: &[u64], list: FreeList, i: usize, new: FreeRegion) -> Joined
     requires { ⌜ (isList (now run) list ≡ true) × (i ≤ list .count) × (i < list .count → end new ≤ (regionAt (now run) i) .addr) × (end new ≤ top) ⌝ }
     ensures { λ j. ⌜ (i ≤ j .index) × (j .index ≤ list .count)
-        × (absorb new (drop i (regions (now (run .entry)) list)) ≡ j .region ∷ drop (j .index) (regions (now (run .entry)) list)) ⌝ }
+        × (absorb new (drop i (regions (now (run .entry)) list)) ≡ j .region ∷ drop (j .index) (regions (now (run .entry)) list))
+        × (j .region .len + sumOfLengths (drop (j .index) (regions (now (run .entry)) list))
+        ≡ new .len + sumOfLengths (drop i (regions (now (run .entry)) list))) ⌝ }
 {
     if i < list.count {
         let r = region_at(run, i);
@@ -88,6 +92,7 @@ pub(crate) fn put_between(run: &[u64], list: FreeList, i: usize, new: FreeRegion
         new.addr,
         low.index,
         high.index,
+        list.total + new.len,
         Patch::One(with_both),
     )
 }

@@ -5,7 +5,7 @@ ghost use Prim.Native.Nat.{_+_, _-_, _*_, _≤_};
 ghost use lib.Dec.{eqb};
 ghost use lib.ListN.{length};
 ghost use Rattle.error.specs.Lent.{left, leaving};
-ghost use Rattle.free_regions.specs.Regions.{spliced};
+ghost use Rattle.free_regions.specs.Regions.{sumOfLengths, spliced};
 ghost use Rattle.free_space.specs.Runs.{recordOf, regions, stored};
 ghost use Rattle.free_space.specs.Calls.{keptOutcome, givenOutcome, freed, allocated, allocatedUnits, rangeTaken, trailingTaken};
 ghost use Rattle.free_space.specs.Splices.{patch};
@@ -21,9 +21,10 @@ use crate::run::patch_len;
 use crate::run::replace;
 use error::Refusal;
 
-// A list's record: how many pairs of its run count.
+// A list's record: how many pairs of its run count, and what their lengths add up to.
 pub struct FreeList {
     pub count: usize,
+    pub total: u64,
 }
 
 // The record after a call that gives nothing out.
@@ -44,7 +45,7 @@ impl FreeList {
     pub fn new() -> Self
         ensures { λ r. ⌜ r ≡ recordOf [] ⌝ }
     {
-        FreeList { count: 0 }
+        FreeList { count: 0, total: 0 }
     }
 
     pub fn is_empty(self) -> bool
@@ -95,10 +96,11 @@ impl FreeList {
     }
 }
 
-// Replaces the regions from `lo` up to `hi`, and makes the record of what is left.
-fn apply(run: &mut [u64], list: FreeList, lo: usize, hi: usize, p: Patch) -> FreeList
+// Replaces the regions from `lo` up to `hi`, and makes the record of what is left, of which `total` is the sum of the lengths.
+fn apply(run: &mut [u64], list: FreeList, lo: usize, hi: usize, total: u64, p: Patch) -> FreeList
     requires { ⌜ (lo ≤ hi) × (hi ≤ list .count) × (2 * list .count ≤ length (now run))
-        × (2 * (lo + length (patch p) + (list .count - hi)) ≤ length (now run)) ⌝ }
+        × (2 * (lo + length (patch p) + (list .count - hi)) ≤ length (now run))
+        × (total ≡ sumOfLengths (spliced (regions (now run) list) lo hi (patch p))) ⌝ }
     ensures record { λ r. ⌜ r ≡ recordOf (spliced (regions (now (run .entry)) list) lo hi (patch p)) ⌝ }
     ensures memory { λ r. ⌜ now (run .exit) ≡ stored (now (run .entry)) (list .count) (spliced (regions (now (run .entry)) list) lo hi (patch p)) ⌝ }
 {
@@ -107,6 +109,7 @@ fn apply(run: &mut [u64], list: FreeList, lo: usize, hi: usize, p: Patch) -> Fre
     replace(run, count, lo, hi, p);
     FreeList {
         count: lo + k + (count - hi),
+        total: total,
     }
 }
 
@@ -122,10 +125,11 @@ fn give(run: &mut [u64], list: FreeList, d: Decision) -> Given
             addr,
             lo,
             hi,
+            total,
             patch,
         } => Given::At {
             addr: addr,
-            list: apply(run, list, lo, hi, patch),
+            list: apply(run, list, lo, hi, total, patch),
         },
     }
 }
@@ -142,7 +146,8 @@ fn keep(run: &mut [u64], list: FreeList, d: Decision) -> Kept
             addr: _,
             lo,
             hi,
+            total,
             patch,
-        } => Kept::Done(apply(run, list, lo, hi, patch)),
+        } => Kept::Done(apply(run, list, lo, hi, total, patch)),
     }
 }

@@ -1,21 +1,20 @@
 // Which regions share a byte with a range.
 ghost use mathlib.Core.Path.{_≡_};
-ghost use mathlib.Core.Bool.{true};
-ghost use Prim.Native.Nat.{_≤_};
-ghost use Rattle.free_space.specs.Runs.{isList};
-ghost use Rattle.free_space.specs.Splices.{Past, From, Meets};
-use crate::check::is_list;
+ghost use mathlib.Core.Bool.{true, _&&_};
+ghost use Prim.Native.Nat.{_*_, _≤_};
+ghost use lib.Dec.{ltb};
+ghost use lib.ListN.{length};
+ghost use Rattle.free_space.specs.Runs.{regionAt, isList};
+ghost use Rattle.free_space.specs.Splices.{Past, From, Stays, Meets};
 use crate::list::FreeList;
 use crate::run::region_at;
 use numbers::MAX;
 
-// Which regions share a byte with a range. The run is no list, the range ends above 2^64 - 1, or it is empty; else the regions from `lo` up
-// to `hi` share a byte with it, those before end at its start or below, and those after begin at its end or above.
+// A range ends above 2^64 - 1, or is empty; else the region at the place is the first that ends past its start.
 pub(crate) enum Meet {
-    Bad,
     Over,
     Empty,
-    Between { lo: usize, hi: usize },
+    Past(usize),
 }
 
 // The first region that ends past `a`, by halving: the regions are in order.
@@ -37,36 +36,58 @@ fn first_past(run: &[u64], list: FreeList, a: u64) -> usize
     low
 }
 
-// The first region from `lo` on that begins at `e` or above.
-fn first_from(run: &[u64], list: FreeList, lo: usize, e: u64) -> usize
-    requires { ⌜ (isList (now run) list ≡ true) × (lo ≤ list .count) ⌝ }
-    ensures { λ i. ⌜ From (now (run .entry)) list lo e i ⌝ }
-{
-    let mut i = lo;
-    while i < list.count {
-        let r = region_at(run, i);
-        if e <= r.addr {
-            return i;
-        }
-        i += 1;
-    }
-    i
-}
-
-// The regions that share a byte with the range of `len` bytes from `addr` on.
+// The first region that can share a byte with the range of `len` bytes from `addr` on.
 pub(crate) fn meeting(run: &[u64], list: FreeList, addr: u64, len: u64) -> Meet
+    requires { ⌜ isList (now run) list ≡ true ⌝ }
     ensures { λ m. ⌜ Meets (now (run .entry)) list addr len m ⌝ }
 {
-    if !is_list(run, list) {
-        return Meet::Bad;
-    }
     if MAX - len < addr {
         return Meet::Over;
     }
     if len == 0 {
         return Meet::Empty;
     }
-    let lo = first_past(run, list, addr);
-    let hi = first_from(run, list, lo, addr + len);
-    Meet::Between { lo: lo, hi: hi }
+    Meet::Past(first_past(run, list, addr))
+}
+
+// The place up to which a pass went, and what is left of the total without the lengths that it passed.
+pub(crate) struct Met {
+    pub(crate) upto: usize,
+    pub(crate) kept: u64,
+}
+
+// From `lo` on to the first region that begins at `e` or above.
+pub(crate) fn first_from(run: &[u64], list: FreeList, lo: usize, e: u64) -> Met
+    requires { ⌜ (isList (now run) list ≡ true) × (lo ≤ list .count) ⌝ }
+    ensures { λ p. ⌜ From (now (run .entry)) list lo e (p .upto) × Stays (now (run .entry)) list lo (p .upto) (p .kept) ⌝ }
+{
+    let mut i = lo;
+    let mut kept = list.total;
+    while i < list.count {
+        let r = region_at(run, i);
+        if e <= r.addr {
+            return Met {
+                upto: i,
+                kept: kept,
+            };
+        }
+        kept -= r.len;
+        i += 1;
+    }
+    Met {
+        upto: i,
+        kept: kept,
+    }
+}
+
+// Whether the region at `i`, if there is one, begins below `e`.
+pub(crate) fn begins_below(run: &[u64], list: FreeList, i: usize, e: u64) -> bool
+    requires { ⌜ 2 * list .count ≤ length (now run) ⌝ }
+    ensures { λ b. ⌜ b ≡ (ltb i (list .count) && ltb (regionAt (now (run .entry)) i .addr) e) ⌝ }
+{
+    if list.count <= i {
+        return false;
+    }
+    let r = region_at(run, i);
+    r.addr < e
 }

@@ -1,35 +1,29 @@
 // What is asked of a list without changing it.
 ghost use mathlib.Core.Path.{_≡_};
 ghost use Rattle.error.specs.Answers.{numberOutcome};
-ghost use Rattle.free_space.specs.Questions.{largestOf, largestUnitsOf};
+ghost use Rattle.free_space.specs.Questions.{freeBytes, largestOf, largestUnitsOf};
 ghost use Rattle.free_space.specs.Passes.{greatestOf};
+ghost use Rattle.free_space.specs.Splices.{First};
+use crate::check::Head;
+use crate::check::first_region;
 use crate::check::follows;
-use crate::check::stands;
 use crate::list::FreeList;
 use crate::run::region_at;
 use crate::units::Measure;
 use crate::units::measured;
 use error::Number;
 use error::Refusal;
-use pairs::is_run;
+use free_regions::FreeRegion;
 
-// The greatest measure of the regions of a list. The test for refusal 3 goes with it, so that each pair is read once.
-fn greatest_of(run: &[u64], list: FreeList, what: Measure) -> Number
+// The greatest measure of the regions of a list from its first on. The test for refusal 3 goes with it, so that each pair is read once.
+fn greatest_after(run: &[u64], list: FreeList, first: FreeRegion, what: Measure) -> Number
+    requires { ⌜ First (now run) list first ⌝ }
     ensures { λ r. ⌜ numberOutcome r ≡ greatestOf what (now (run .entry)) list ⌝ }
 {
     let count = list.count;
-    if !is_run(run, count) {
-        return Number::Refused(Refusal::NotAList);
-    }
-    if count == 0 {
-        return Number::Is(0);
-    }
-    let first = region_at(run, 0);
-    if !stands(first) {
-        return Number::Refused(Refusal::NotAList);
-    }
     let mut most = measured(what, first);
     let mut end = first.addr + first.len;
+    let mut sum = first.len;
     let mut i = 1;
     while i < count {
         let r = region_at(run, i);
@@ -38,15 +32,37 @@ fn greatest_of(run: &[u64], list: FreeList, what: Measure) -> Number
         }
         let m = measured(what, r);
         end = r.addr + r.len;
+        sum += r.len;
         i += 1;
         if most < m {
             most = m;
         }
     }
+    if list.total != sum {
+        return Number::Refused(Refusal::NotAList);
+    }
     Number::Is(most)
 }
 
+fn greatest_of(run: &[u64], list: FreeList, what: Measure) -> Number
+    ensures { λ r. ⌜ numberOutcome r ≡ greatestOf what (now (run .entry)) list ⌝ }
+{
+    let h = first_region(run, list);
+    match h {
+        Head::Bad => Number::Refused(Refusal::NotAList),
+        Head::Empty => Number::Is(0),
+        Head::First(r) => greatest_after(run, list, r, what),
+    }
+}
+
 impl FreeList {
+    // The free bytes, without a look at the run: what the record says.
+    pub fn free_bytes(self) -> u64
+        ensures { λ r. ⌜ r ≡ freeBytes self ⌝ }
+    {
+        self.total
+    }
+
     // The length of the longest region.
     pub fn largest(self, run: &[u64]) -> Number
         ensures { λ r. ⌜ numberOutcome r ≡ largestOf (now (run .entry)) self ⌝ }

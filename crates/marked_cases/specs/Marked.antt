@@ -1,6 +1,6 @@
 -- Document 01's marked cases, M1 to M10, as one table over the definitions that the contracts cite. Assumes nothing.
---   of        the record of a list of so many regions
---   gives     the outcome of a call that gives an address and leaves so many regions and a run
+--   of        the record of a list of so many regions with so many bytes
+--   gives     the outcome of a call that gives an address and leaves a record and a run
 --   lent      lent runs of any numbers
 --   freeing   a `free` on the first list
 --   m4Lists   three lists begun empty after the calls of M4 on the first
@@ -34,11 +34,11 @@ use Rattle.file_space_info.specs.Message.{messageBytes, parsed}
 use Rattle.save_step.specs.Steps.{stores}
 use Rattle.save.specs.Saving.{small, smallRaw, large, blockLen, slotAddrs}
 
-abbrev pub of : ℕ → FreeList
-of n = record { count = n }
+abbrev pub of : ℕ → ℕ → FreeList
+of n t = record { count = n; total = t }
 
-abbrev pub gives : ℕ → ℕ → List ℕ → Outcome (With Gave (List ℕ))
-gives a n xs = answer (with (giving a (of n)) xs)
+abbrev pub gives : ℕ → FreeList → List ℕ → Outcome (With Gave (List ℕ))
+gives a l xs = answer (with (giving a l) xs)
 
 -- any lent runs do, with room for what is freed
 abbrev pub lent : Which → List ℕ
@@ -66,10 +66,10 @@ pub record Marked : Type 0 where
   pub m2 : map fshdLen (1 ∷ 8 ∷ []) ≡ answer 75 ∷ answer 82 ∷ []
   pub m3 : map (fsseLen 8) ([] ∷ (16 ∷ 16 ∷ 32 ∷ []) ∷ replicate 255 16 ∷ replicate 256 16 ∷ []) ≡ answer 17 ∷ answer 62 ∷ answer 2321 ∷ answer 2331 ∷ []
   pub m4 : regionsOf (m4Lists Metadata) ≡ region 100 150 ∷ []
-  pub m5 : allocated (0 ∷ 16 ∷ 100 ∷ 16 ∷ []) (of 2) 16 ≡ gives 0 1 (100 ∷ 16 ∷ 0 ∷ 0 ∷ [])
-  pub m5-front : allocated (0 ∷ 64 ∷ 100 ∷ 16 ∷ []) (of 2) 10 ≡ gives 100 2 (0 ∷ 64 ∷ 110 ∷ 6 ∷ [])
-  pub m6 : allocatedUnits (5000 ∷ 10000 ∷ 0 ∷ 0 ∷ []) (of 1) 4096 4096 ≡ gives 8192 2 (5000 ∷ 3192 ∷ 12288 ∷ 2712 ∷ [])
-  pub m7 : rangeTaken (90 ∷ 40 ∷ 0 ∷ 0 ∷ []) (of 1) 100 10 ≡ answer (with (of 2) (90 ∷ 10 ∷ 110 ∷ 20 ∷ []))
+  pub m5 : allocated (0 ∷ 16 ∷ 100 ∷ 16 ∷ []) (of 2 32) 16 ≡ gives 0 (of 1 16) (100 ∷ 16 ∷ 0 ∷ 0 ∷ [])
+  pub m5-front : allocated (0 ∷ 64 ∷ 100 ∷ 16 ∷ []) (of 2 80) 10 ≡ gives 100 (of 2 70) (0 ∷ 64 ∷ 110 ∷ 6 ∷ [])
+  pub m6 : allocatedUnits (5000 ∷ 10000 ∷ 0 ∷ 0 ∷ []) (of 1 10000) 4096 4096 ≡ gives 8192 (of 2 5904) (5000 ∷ 3192 ∷ 12288 ∷ 2712 ∷ [])
+  pub m7 : rangeTaken (90 ∷ 40 ∷ 0 ∷ 0 ∷ []) (of 1 40) 100 10 ≡ answer (with (of 2 30) (90 ∷ 10 ∷ 110 ∷ 20 ∷ []))
   pub m8 : splitInto (4000 ∷ 5000 ∷ []) 1 4096 (replicate 6 0) ≡ answer (with 3 (4000 ∷ 96 ∷ 4096 ∷ 4096 ∷ 8192 ∷ 808 ∷ []))
   pub m9-sections : small 4096 m9Regions ∷ smallRaw 4096 m9Regions ∷ large 4096 m9Regions ∷ []
       ≡ (section 4000 96 ∷ section 8192 808 ∷ []) ∷ [] ∷ (section 4096 4096 ∷ []) ∷ []

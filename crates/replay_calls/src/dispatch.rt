@@ -90,7 +90,7 @@ fn bytes_call(call: u64, line: &[u8], out: &mut [u8]) -> Reply {
 
 // Answers a save, which changes a copy of the image that its bytes are.
 fn save_line(line: &[u8], lists: &[u64], out: &mut [u8]) -> Reply
-    requires { ⌜ 24583 ≤ length (now lists) ⌝ }
+    requires { ⌜ 24586 ≤ length (now lists) ⌝ }
 {
     let mut numbers = numbers_memory();
     let mut image = io::large_buffer();
@@ -118,7 +118,7 @@ fn plain_call(line: &[u8], out: &mut [u8]) -> Reply {
 
 // The answer to a line. An empty line and one from `#` have none.
 pub(crate) fn answer_line(line: &[u8], lists: &mut [u64], out: &mut [u8]) -> Reply
-    requires { ⌜ 24583 ≤ length (now lists) ⌝ }
+    requires { ⌜ 24586 ≤ length (now lists) ⌝ }
 {
     if line.len() == 0 {
         return Reply::Silent;

@@ -1,5 +1,5 @@
-// The calls on the three lists. `lists` has their runs, one after the other, then their counts, then how many bytes of scratch a save
-// is lent, and then how many numbers of its run each list is lent.
+// The calls on the three lists. `lists` has their runs, one after the other, then their records, a count and a total each, then how many
+// bytes of scratch a save is lent, and then how many numbers of its run each list is lent.
 ghost use mathlib.Core.Path.{_≡_};
 ghost use Prim.Native.Nat.{_≤_};
 ghost use lib.ListN.{length};
@@ -18,23 +18,25 @@ use free_lists::calls::perform;
 use free_lists::trailing_run_start;
 use free_space::list::FreeList;
 use numbers::min;
+use pairs::pair_at;
+use pairs::put_pair;
 
 // The numbers that the run of a list has.
 pub(crate) const RUN: usize = 8192;
 
-// The place of the first list's count.
-const COUNTS: usize = 24576;
+// The first list's record, as a pair of the whole.
+const RECORDS: usize = 12288;
 
 // The place of the length of a save's scratch.
-pub(crate) const SCRATCH: usize = 24579;
+pub(crate) const SCRATCH: usize = 24582;
 
 // The place of how many numbers the first list is lent.
-const ROOMS: usize = 24580;
+const ROOMS: usize = 24583;
 
-// An answer, and the list's count after the call.
+// An answer, and the list's record after the call.
 struct AfterCall {
     reply: Reply,
-    count: usize,
+    list: FreeList,
 }
 
 fn answered_reply(answer: Answered) -> Reply {
@@ -50,9 +52,10 @@ fn answered_reply(answer: Answered) -> Reply {
 fn change(run: &mut [u64], list: FreeList, call: ListCall) -> AfterCall {
     let done = perform(run, list, call);
     let answer = done.answer;
+    let after = done.list;
     AfterCall {
         reply: answered_reply(answer),
-        count: done.list.count,
+        list: after,
     }
 }
 
@@ -70,6 +73,7 @@ fn question(call: u64, run: &[u64], list: FreeList, first: u64, out: &mut [u8]) 
         7 => number_reply(list.largest(run)),
         8 => is_empty_call(list),
         10 => pairs_reply(b"", run, list.count as u64, out),
+        16 => Reply::Is(list.free_bytes()),
         _ => numbers_reply(run, out),
     }
 }
@@ -112,11 +116,11 @@ fn one_list(
         5 => change(run, list, ListCall::TakeTrailing { eof: first }),
         9 => AfterCall {
             reply: Reply::Done,
-            count: FreeList::new().count,
+            list: FreeList::new(),
         },
         _ => AfterCall {
             reply: question(call, run, list, first, out),
-            count: list.count,
+            list: list,
         },
     }
 }
@@ -132,15 +136,26 @@ fn numbers_of(call: u64) -> usize {
 
 // How many numbers of its run a list is lent.
 pub(crate) fn room_of(lists: &[u64], i: usize) -> usize
-    requires { ⌜ (24583 ≤ length (now lists)) × (i ≤ 2) ⌝ }
+    requires { ⌜ (24586 ≤ length (now lists)) × (i ≤ 2) ⌝ }
     ensures { λ r. ⌜ r ≤ 8192 ⌝ }
 {
     min(RUN as u64, lists[ROOMS + i]) as usize
 }
 
+// The record of a list.
+fn record_of(lists: &[u64], i: usize) -> FreeList
+    requires { ⌜ i ≤ 2 ⌝ }
+{
+    let p = pair_at(lists, RECORDS + i);
+    FreeList {
+        count: p.addr as usize,
+        total: p.len,
+    }
+}
+
 // Answers a call on one list: the first number says on which of them.
 fn list_call(call: u64, line: &[u8], lists: &mut [u64], out: &mut [u8]) -> Reply
-    requires { ⌜ 24583 ≤ length (now lists) ⌝ }
+    requires { ⌜ 24586 ≤ length (now lists) ⌝ }
 {
     let few = few_of(line);
     if few.count != numbers_of(call) {
@@ -151,9 +166,7 @@ fn list_call(call: u64, line: &[u8], lists: &mut [u64], out: &mut [u8]) -> Reply
         return Reply::Bad;
     }
     let i = k as usize;
-    let list = FreeList {
-        count: lists[COUNTS + i] as usize,
-    };
+    let list = record_of(lists, i);
     let from = i * RUN;
     let end = from + room_of(lists, i);
     let answered = one_list(
@@ -164,7 +177,12 @@ fn list_call(call: u64, line: &[u8], lists: &mut [u64], out: &mut [u8]) -> Reply
         few.third,
         out,
     );
-    lists[COUNTS + i] = answered.count as u64;
+    put_pair(
+        lists,
+        2 * (RECORDS + i),
+        answered.list.count as u64,
+        answered.list.total,
+    );
     answered.reply
 }
 
@@ -182,6 +200,18 @@ pub(crate) fn put_front(run: &mut [u64], numbers: &[u64])
     }
 }
 
+// The sum of the first `count` lengths of a run, modulo 2^64.
+fn sum_of(run: &[u64], count: u64) -> u64 {
+    let n = min(count, (run.len() / 2) as u64) as usize;
+    let mut sum = 0;
+    let mut i = 0;
+    while i < n {
+        sum = std::num::wrapping_add_u64(sum, run[2 * i + 1]);
+        i += 1;
+    }
+    sum
+}
+
 // The numbers of a call that lends a whole run.
 fn lent_buffer() -> [u64; RUN + 3]
     ensures { λ r. ⌜ 8195 ≡ length r ⌝ }
@@ -189,9 +219,9 @@ fn lent_buffer() -> [u64; RUN + 3]
     [0; RUN + 3]
 }
 
-// Puts any numbers into a list's run, and any count beside it: they need not be a list.
+// Puts any numbers into a list's run, and any count beside it: they need not be a list. The total is the sum of the lengths that count.
 fn lend(args: &[u64], lists: &mut [u64]) -> Reply
-    requires { ⌜ 24583 ≤ length (now lists) ⌝ }
+    requires { ⌜ 24586 ≤ length (now lists) ⌝ }
 {
     if args.len() < 3 {
         return Reply::Bad;
@@ -207,12 +237,13 @@ fn lend(args: &[u64], lists: &mut [u64]) -> Reply
     let from = i * RUN;
     let end = from + RUN;
     put_front(&mut lists[from..end], &args[3..]);
-    lists[COUNTS + i] = args[1];
+    let sum = sum_of(&lists[from..end], args[1]);
+    put_pair(lists, 2 * (RECORDS + i), args[1], sum);
     Reply::Done
 }
 
 fn lend_call(line: &[u8], lists: &mut [u64]) -> Reply
-    requires { ⌜ 24583 ≤ length (now lists) ⌝ }
+    requires { ⌜ 24586 ≤ length (now lists) ⌝ }
 {
     let mut numbers = lent_buffer();
     let read = line_numbers(line, &mut numbers);
@@ -225,23 +256,17 @@ fn lend_call(line: &[u8], lists: &mut [u64]) -> Reply
 
 // The records of the three lists.
 pub(crate) fn file_lists(lists: &[u64]) -> FileLists
-    requires { ⌜ 24583 ≤ length (now lists) ⌝ }
+    requires { ⌜ 24586 ≤ length (now lists) ⌝ }
 {
     FileLists {
-        metadata: FreeList {
-            count: lists[COUNTS] as usize,
-        },
-        raw: FreeList {
-            count: lists[COUNTS + 1] as usize,
-        },
-        unclassified: FreeList {
-            count: lists[COUNTS + 2] as usize,
-        },
+        metadata: record_of(lists, 0),
+        raw: record_of(lists, 1),
+        unclassified: record_of(lists, 2),
     }
 }
 
 fn trailing_run_start_call(line: &[u8], lists: &[u64]) -> Reply
-    requires { ⌜ 24583 ≤ length (now lists) ⌝ }
+    requires { ⌜ 24586 ≤ length (now lists) ⌝ }
 {
     let few = few_of(line);
     if few.count != 1 {
@@ -261,7 +286,7 @@ fn trailing_run_start_call(line: &[u8], lists: &[u64]) -> Reply
 }
 
 fn scratch_call(line: &[u8], lists: &mut [u64]) -> Reply
-    requires { ⌜ 24583 ≤ length (now lists) ⌝ }
+    requires { ⌜ 24586 ≤ length (now lists) ⌝ }
 {
     let few = few_of(line);
     if few.count != 1 {
@@ -275,9 +300,9 @@ fn scratch_call(line: &[u8], lists: &mut [u64]) -> Reply
     Reply::Done
 }
 
-// Lends a list the first numbers of its run from now on. Its count stays.
+// Lends a list the first numbers of its run from now on. Its record stays.
 fn room_call(line: &[u8], lists: &mut [u64]) -> Reply
-    requires { ⌜ 24583 ≤ length (now lists) ⌝ }
+    requires { ⌜ 24586 ≤ length (now lists) ⌝ }
 {
     let few = few_of(line);
     if few.count != 2 {
@@ -295,22 +320,39 @@ fn room_call(line: &[u8], lists: &mut [u64]) -> Reply
     Reply::Done
 }
 
+// Puts any total into a list's record.
+fn lend_total_call(line: &[u8], lists: &mut [u64]) -> Reply
+    requires { ⌜ 24586 ≤ length (now lists) ⌝ }
+{
+    let few = few_of(line);
+    if few.count != 2 {
+        return Reply::Bad;
+    }
+    let k = few.first;
+    if 2 < k {
+        return Reply::Bad;
+    }
+    lists[2 * (RECORDS + k as usize) + 1] = few.second;
+    Reply::Done
+}
+
 pub(crate) fn lists_name(line: &[u8]) -> u64 {
     name_in(
-        b"free take allocw alloc trail largestw largest isempty new sections run lend tstart scratch room",
+        b"free take allocw alloc trail largestw largest isempty new sections run lend tstart scratch room total lend_total",
         line,
     )
 }
 
 // Answers a call on the lists, by its place among the names of `lists_name`.
 pub(crate) fn lists_call(call: u64, line: &[u8], lists: &mut [u64], out: &mut [u8]) -> Reply
-    requires { ⌜ 24583 ≤ length (now lists) ⌝ }
+    requires { ⌜ 24586 ≤ length (now lists) ⌝ }
 {
     match call {
         12 => lend_call(line, lists),
         13 => trailing_run_start_call(line, lists),
         14 => scratch_call(line, lists),
         15 => room_call(line, lists),
+        17 => lend_total_call(line, lists),
         _ => list_call(call, line, lists, out),
     }
 }

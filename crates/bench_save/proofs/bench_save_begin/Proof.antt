@@ -14,7 +14,7 @@ returns : tie.Need-returns
 returns c =
     let p = c .before .before .before .before .before in
     let d = c .before .before .before .save-begin in
-    let a = p .before .before .before .before .before .before .args in
+    let a = p .before .before .before .before .before .before .before .args in
     ap (λ (n : ℕ). with n (d .last .1 .1 .1 .1 .1 .1 .0)) (c .len-of .ensures)
     ∙ ap saveLeft (d .ensures)
     ∙ ap (λ (f : FileLists). saveLeft (leaving (now (a .scratch))

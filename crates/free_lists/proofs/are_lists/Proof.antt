@@ -1,4 +1,4 @@
-use Rattle.free_space.proofs.QuestionLaws.{denied, held}
+use Rattle.free_space.proofs.CheckLaws.{denied, held}
 use borrow.Author.Needs.{needs}
 use Rattle.free_lists.proofs.are_lists.Statement.{statement}
 use Rattle.free_lists.proofs.are_lists.Tie as tie

@@ -1,18 +1,20 @@
-use mathlib.Core.Path.{sym, ap, ap₂, _∙_}
-use mathlib.Core.List.{List, _++_}
-use Prim.Native.Nat.{_-_, _<_}
+use mathlib.Core.Path.{_≡_, sym, ap, ap₂, _∙_}
+use mathlib.Core.List.{_++_}
+use Prim.Native.Nat.{ℕ, _+_, _-_, _≤_}
 use native.Mathlib.Omega.{arith}
 use borrow.Author.Needs.{needs}
 use denote.Ref.{now}
+use Rattle.fields.specs.Ranges.{top}
 use Rattle.free_regions.specs.declared.FreeRegion.{FreeRegion}
-use Rattle.free_regions.specs.Regions.{end, piece, spliced}
+use Rattle.free_regions.specs.Regions.{end, sumOfLengths, piece, cutAll, spliced}
 use Rattle.free_space.specs.Runs.{regions}
 use Rattle.free_space.specs.Calls.{placed, keeping}
+use Rattle.free_space.specs.Splices.{patch, Replaces}
 use Rattle.free_space.specs.Decisions.{keptBy}
 use Rattle.free_space.proofs.ListLaws.{listed}
 use Rattle.free_space.proofs.CheckLaws.{read-fits}
 use Rattle.free_space.proofs.SpliceLaws.{kept-fitted, kept-same}
-use Rattle.free_space.proofs.CutLaws.{cut-none, cut-some}
+use Rattle.free_space.proofs.CutLaws.{cut-none, cut-some, cut-total, cut-fits}
 use Rattle.free_space.proofs.decide.cut_between.Statement.{statement}
 use Rattle.free_space.proofs.decide.cut_between.Tie as tie
 
@@ -21,7 +23,7 @@ returns c =
     let a = c .before .before .args in
     let pre = c .before .before .pre in
     let xs = now (a .run) in
-    (kept-same xs (a .list) _ (pre .0 .list) (cut-none xs (a .list) (a .a) (a .e) (a .lo) (a .hi) (pre .1) (pre .0) (c .if1 .taken)), tt)
+    (kept-same xs (a .list) _ (pre .0 .list) (cut-none xs (a .list) (a .a) (a .e) (a .lo) (a .hi) (omega (arith, pre .1)) (pre .0) (c .if1 .taken)), tt)
 
 region-at-requires : tie.Need-region-at-requires
 region-at-requires c κs =
@@ -38,34 +40,65 @@ region-at-requires-2 c κs =
     let p = c .before .before .before .pre .0 in
     omega (arith, p .high .order, p .high .within, listed (now (a .run)) (a .list) (p .list) .room)
 
-add-edges : tie.Need-add-edges
-add-edges c =
-    let a = c .before .before .before .before .before .args in
-    let p = c .before .before .before .before .before .pre .0 in
-    let g = c .before .region-at2 in
-    let h : a .hi - 1 < a .list .count = omega (arith, p .high .order, p .high .within) in
-    omega (arith, read-fits (now (a .run)) (a .list) (a .hi - 1) (g .result) (p .list) h (g .ensures) .within)
+last-within : (s : tie.After-struct-known) → end (s .before .region-at2 .result) ≤ top
+last-within s =
+    let a = s .before .before .before .before .before .args in
+    let p = s .before .before .before .before .before .pre .0 in
+    let g = s .before .region-at2 in
+    read-fits (now (a .run)) (a .list) (a .hi - 1) (g .result) (p .list) (omega (arith, s .before .before .before .if1 .left, p .high .order, p .high .within)) (g .ensures) .within
+
+add-end : tie.Need-add-end
+add-end c = omega (arith, last-within c)
+
+add-left : tie.Need-add-left
+add-left c = omega (arith, c .saturating-sub2 .ensures, c .before .saturating-sub .ensures, last-within (c .before .before), c .before .before .before .before .before .before .before .pre .1)
+
+-- the new total is the sum of what the range leaves
+total-is : (s : tie.After-saturating-sub2) → let a = s .before .before .before .before .before .before .before .args in
+    a .kept + (s .before .saturating-sub .result + s .saturating-sub2 .result) ≡ sumOfLengths (cutAll (a .a) (a .e) (regions (now (a .run)) (a .list)))
+total-is s =
+    let a = s .before .before .before .before .before .before .before .args in
+    let pre = s .before .before .before .before .before .before .before .pre in
+    ap (λ (n : ℕ). a .kept + n)
+    (ap₂ (λ (x y : ℕ). x + y)
+    (s .before .saturating-sub .ensures ∙ ap (λ (r : FreeRegion). a .a - r .addr) (s .before .before .before .before .region-at .ensures))
+    (s .saturating-sub2 .ensures ∙ ap (λ (r : FreeRegion). end r - a .e) (s .before .before .before .region-at2 .ensures)))
+    ∙ cut-total (now (a .run)) (a .list) (a .a) (a .e) (a .lo) (a .hi) (a .kept) (pre .1) (pre .0) (omega (arith, s .before .before .before .before .before .if1 .left, pre .0 .high .order)) (pre .2)
+
+add-change : tie.Need-add-change
+add-change c =
+    let a = c .before .before .before .before .before .before .before .args in
+    let pre = c .before .before .before .before .before .before .before .pre in
+    omega (arith, total-is c, cut-fits (now (a .run)) (a .list) (a .a) (a .e) (pre .0 .list) (pre .1))
+
+-- what the patch makes of the list
+is-cut : (s : tie.After-edges) → let a = s .before .before .before .before .before .before .before .before .args in
+    cutAll (a .a) (a .e) (regions (now (a .run)) (a .list)) ≡ spliced (regions (now (a .run)) (a .list)) (a .lo) (a .hi) (patch (s .edges .result))
+is-cut s =
+    let a = s .before .before .before .before .before .before .before .before .args in
+    let pre = s .before .before .before .before .before .before .before .before .pre in
+    let p = pre .0 in
+    let xs = now (a .run) in
+    cut-some xs (a .list) (a .a) (a .e) (a .lo) (a .hi) (omega (arith, pre .1)) p (omega (arith, s .before .before .before .before .before .before .if1 .left, p .high .order))
+    ∙ ap (spliced (regions xs (a .list)) (a .lo) (a .hi))
+    (sym (s .edges .ensures ∙ ap₂ (λ (r t : FreeRegion). piece (r .addr) (a .a - r .addr) ++ piece (a .e) (end t - a .e)) (s .before .before .before .before .before .region-at .ensures) (s .before .before .before .before .region-at2 .ensures)))
+
+replaces : (s : tie.After-edges) → let a = s .before .before .before .before .before .before .before .before .args in
+    Replaces (now (a .run)) (a .list) (a .lo) (a .hi) (a .kept + (s .before .before .saturating-sub .result + s .before .saturating-sub2 .result)) (patch (s .edges .result))
+replaces s =
+    let p = s .before .before .before .before .before .before .before .before .pre .0 in
+    record { list = p .list; order = p .high .order; within = p .high .within; sum = total-is (s .before) ∙ ap sumOfLengths (is-cut s) }
 
 change-requires : tie.Need-change-requires
-change-requires c κs =
-    let a = c .before .before .before .before .before .before .args in
-    let p = c .before .before .before .before .before .before .pre .0 in
-    (p .high .order, p .high .within, listed (now (a .run)) (a .list) (p .list) .room)
+change-requires c κs = replaces c
 
 returns-2 : tie.Need-returns-2
 returns-2 c =
-    let a = c .before .before .before .before .before .before .before .args in
-    let pre = c .before .before .before .before .before .before .before .pre in
-    let p = pre .0 in
-    let xs = now (a .run) in
-    let first = c .before .before .before .before .region-at in
-    let last = c .before .before .before .region-at2 in
-    let patch = c .before .edges in (
+    let a = c .before .before .before .before .before .before .before .before .before .args in
+    let xs = now (a .run) in (
       ap (keptBy xs (a .list)) (c .change .ensures .0)
-          ∙ kept-fitted xs (a .list) (a .a) (a .lo) (a .hi) (patch .result) (p .high .order) (p .high .within) (listed xs (a .list) (p .list) .room)
-          ∙ ap (λ (q : List FreeRegion). placed keeping xs (a .list) (spliced (regions xs (a .list)) (a .lo) (a .hi) q))
-          (patch .ensures ∙ ap₂ (λ (r s : FreeRegion). piece (r .addr) (a .a - r .addr) ++ piece (a .e) (end s - a .e)) (first .ensures) (last .ensures))
-          ∙ ap (placed keeping xs (a .list)) (sym (cut-some xs (a .list) (a .a) (a .e) (a .lo) (a .hi) (pre .1) p (omega (arith, p .high .order)))),
+          ∙ kept-fitted xs (a .list) (a .a) (a .lo) (a .hi) _ (c .before .edges .result) (replaces (c .before))
+          ∙ ap (placed keeping xs (a .list)) (sym (is-cut (c .before))),
       c .change .ensures .1,
     )
 
@@ -77,7 +110,11 @@ cut-between-spec =
     region-at-requires
     sub-region-at
     region-at-requires-2
-    add-edges
+    add-end
+    (search needs)
+    (search needs)
+    add-left
+    add-change
     (search needs)
     change-requires
     returns-2)

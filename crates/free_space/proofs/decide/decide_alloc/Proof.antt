@@ -3,18 +3,18 @@ use native.Mathlib.Omega.{arith}
 use borrow.Author.Needs.{needs}
 use denote.Ref.{now}
 use Rattle.free_regions.specs.declared.FreeRegion.{FreeRegion}
+use Rattle.free_space.specs.declared.decide.Decision.the-variants.{Nothing}
 use Rattle.free_space.specs.Calls.{serve}
 use Rattle.free_space.specs.Searches.{Finds}
-use Rattle.free_space.specs.Decisions.{givenBy}
-use Rattle.free_space.proofs.AnswerLaws.{serve-at, alloc-bad, alloc-zero, alloc-else}
+use Rattle.free_space.proofs.AnswerLaws.{if-gives, serve-at, alloc-bad, alloc-zero, alloc-else}
 use Rattle.free_space.proofs.decide.decide_alloc.Statement.{statement}
 use Rattle.free_space.proofs.decide.decide_alloc.Tie as tie
 
 returns : tie.Need-returns
 returns c =
-    let a = c .before .before .before .args in
+    let a = c .before .before .before .before .args in
     let xs = now (a .run) in
-    (ap (givenBy xs (a .list)) (c .if-list .ensures .0) ∙ alloc-zero xs (a .list) (a .len) (c .before .if1 .taken), c .if-list .ensures .1)
+    if-gives xs (a .list) _ _ _ Nothing (c .if-list .ensures) (c .before .is-list .ensures) (alloc-zero xs (a .list) (a .len) (c .before .before .if1 .taken)) tt
 
 region-at-requires : tie.Need-region-at-requires
 region-at-requires c κs =
@@ -27,7 +27,7 @@ take-part-requires c κs =
     let a = c .before .before .before .before .before .before .before .args in
     let g = c .region-at in
     let f = subst (Finds (λ r. r .len) (now (a .run)) (a .list) (a .len)) (c .before .before .s .given .1) (c .before .before .before .before .best-fit .ensures) in
-    (f .list, f .below, g .ensures, omega (arith, f .suffices, ap (λ (r : FreeRegion). r .len) (g .ensures)))
+    (f .list, f .below, g .ensures, omega arith, omega (arith, f .suffices, ap (λ (r : FreeRegion). r .len) (g .ensures)))
 
 returns-2 : tie.Need-returns-2
 returns-2 c =
@@ -58,6 +58,7 @@ pub decide-alloc-spec : {M : Type 1} → statement M
 decide-alloc-spec =
     tie.close
     (tie.spec
+    (search needs)
     (search needs)
     returns
     (search needs)

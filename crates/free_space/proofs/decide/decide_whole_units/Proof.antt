@@ -3,29 +3,27 @@ use native.Mathlib.Omega.{arith}
 use borrow.Author.Needs.{needs}
 use denote.Ref.{now}
 use Rattle.free_regions.specs.Units.{interiorStart, interiorSpan}
+use Rattle.error.specs.declared.Refusal.the-variants.{PartUnit}
+use Rattle.free_space.specs.declared.decide.Decision.the-variants.{Refused, Nothing}
 use Rattle.free_space.specs.Calls.{serve}
 use Rattle.free_space.specs.Searches.{Finds}
-use Rattle.free_space.specs.Decisions.{givenBy}
-use Rattle.free_space.proofs.AnswerLaws.{serve-at, units-bad, units-part, units-zero, units-else}
+use Rattle.free_space.proofs.AnswerLaws.{if-gives, serve-at, units-bad, units-part, units-zero, units-else}
 use Rattle.free_space.proofs.decide.decide_whole_units.Statement.{statement}
 use Rattle.free_space.proofs.decide.decide_whole_units.Tie as tie
 
 returns : tie.Need-returns
 returns c =
-    let a = c .before .before .before .before .args in
-    let xs = now (a .run) in (
-      ap (givenBy xs (a .list)) (c .if-list .ensures .0) ∙ units-part xs (a .list) (a .len) (a .unit) (sym (c .before .before .is-part .ensures) ∙ c .before .if1 .taken),
-      c .if-list .ensures .1,
-    )
+    let a = c .before .before .before .before .before .args in
+    let xs = now (a .run) in
+    if-gives xs (a .list) _ _ _ (Refused PartUnit) (c .if-list .ensures) (c .before .is-list .ensures)
+    (units-part xs (a .list) (a .len) (a .unit) (sym (c .before .before .before .is-part .ensures) ∙ c .before .before .if1 .taken)) tt
 
 returns-2 : tie.Need-returns-2
 returns-2 c =
-    let a = c .before .before .before .before .before .args in
-    let xs = now (a .run) in (
-      ap (givenBy xs (a .list)) (c .if-list2 .ensures .0)
-          ∙ units-zero xs (a .list) (a .len) (a .unit) (sym (c .before .before .before .is-part .ensures) ∙ c .before .before .if1 .left) (c .before .if2 .taken),
-      c .if-list2 .ensures .1,
-    )
+    let a = c .before .before .before .before .before .before .args in
+    let xs = now (a .run) in
+    if-gives xs (a .list) _ _ _ Nothing (c .if-list2 .ensures) (c .before .is-list2 .ensures)
+    (units-zero xs (a .list) (a .len) (a .unit) (sym (c .before .before .before .before .is-part .ensures) ∙ c .before .before .before .if1 .left) (c .before .before .if2 .taken)) tt
 
 region-at-requires : tie.Need-region-at-requires
 region-at-requires c κs =
@@ -74,7 +72,9 @@ decide-whole-units-spec =
     (tie.spec
     (search needs)
     (search needs)
+    (search needs)
     returns
+    (search needs)
     (search needs)
     returns-2
     (search needs)

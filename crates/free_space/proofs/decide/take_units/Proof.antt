@@ -1,7 +1,8 @@
 use mathlib.Core.Path.{ap, _∙_}
 use Prim.Native.Nat.{ℕ}
+use native.Mathlib.Omega.{arith}
 use denote.Ref.{now}
-use Rattle.free_regions.proofs.InteriorLaws.{units-serve}
+use Rattle.free_regions.proofs.InteriorLaws.{first-multiple, interior-inside, units-serve}
 use Rattle.free_space.specs.Runs.{regions}
 use Rattle.free_space.specs.Calls.{placed, giving, without}
 use Rattle.free_space.proofs.CheckLaws.{read-fits}
@@ -19,7 +20,9 @@ take-part-requires c κs =
     let a = c .before .before .args in
     let pre = c .before .before .pre in
     let w = c .whole-units in
-    (pre .0, pre .1, pre .2, units-serve (a .unit) (a .r) (a .len) (w .result .start) (w .result .span) (pre .3) (pre .4) (w .ensures .0) (w .ensures .1) .1)
+    let s = units-serve (a .unit) (a .r) (a .len) (w .result .start) (w .result .span) (pre .3) (pre .4) (w .ensures .0) (w .ensures .1) in
+    let unit = interior-inside (a .unit) (a .len) (a .r) (pre .3) (pre .4) .0 in
+    (pre .0, pre .1, pre .2, omega (arith, s .0, first-multiple (a .unit) unit (a .r .addr) .above), s .1)
 
 returns : tie.Need-returns
 returns c =

@@ -1,9 +1,10 @@
-use mathlib.Core.Path.{ap}
+use mathlib.Core.Path.{refl, ap}
 use native.Mathlib.Omega.{arith}
 use borrow.Author.Needs.{needs}
 use denote.Ref.{now}
 use Rattle.free_regions.specs.declared.FreeRegion.{FreeRegion}
 use Rattle.free_space.proofs.CheckLaws.{read-fits}
+use Rattle.free_space.proofs.PlaceLaws.{goes-one}
 use Rattle.free_space.proofs.InsertLaws.{absorb-apart, absorb-touch}
 use Rattle.free_space.proofs.join.join_above.Statement.{statement}
 use Rattle.free_space.proofs.join.join_above.Tie as tie
@@ -27,8 +28,13 @@ returns c =
     let a = c .before .before .before .before .before .before .before .before .before .before .args in
     let pre = c .before .before .before .before .before .before .before .before .before .before .pre in
     let g = c .before .before .before .before .before .before .region-at in
-    rw (c .region-to .ensures)
-    (omega arith, omega arith, absorb-touch (now (a .run)) (a .list) (pre .0) (a .new) (a .i) (g .result) (c .before .before .before .before .before .before .before .if1 .taken) (g .ensures) (c .before .before .before .if2 .taken))
+    let h = c .before .before .before .before .before .before .before .if1 .taken in
+    rw (c .region-to .ensures) (
+      omega arith,
+      omega arith,
+      absorb-touch (now (a .run)) (a .list) (pre .0) (a .new) (a .i) (g .result) h (g .ensures) (c .before .before .before .if2 .taken),
+      omega (arith, goes-one (now (a .run)) (a .list) (pre .0) (a .i) (g .result) h (g .ensures)),
+    )
 
 returns-2 : tie.Need-returns-2
 returns-2 c =
@@ -38,13 +44,14 @@ returns-2 c =
       omega arith,
       omega arith,
       absorb-apart (now (a .run)) (a .list) (pre .0) (a .new) (a .i) (λ h. omega (arith, pre .2 h, c .if2 .left, ap (λ (q : FreeRegion). q .addr) (g .ensures))),
+      refl,
     )
 
 returns-3 : tie.Need-returns-3
 returns-3 c =
     let a = c .before .before .before .args in
     let pre = c .before .before .before .pre in
-    (omega arith, omega arith, absorb-apart (now (a .run)) (a .list) (pre .0) (a .new) (a .i) (λ h. absurd (omega arith)))
+    (omega arith, omega arith, absorb-apart (now (a .run)) (a .list) (pre .0) (a .new) (a .i) (λ h. absurd (omega arith)), refl)
 
 pub join-above-spec : {M : Type 1} → statement M
 join-above-spec =
