@@ -3,11 +3,11 @@ use mathlib.Core.Path.{_≡_, refl, sym, ap, _∙_}
 use mathlib.Core.List.{List, [], _∷_, _++_}
 use mathlib.Core.Bool.{Bool, true, false}
 use mathlib.Core.Logic.{inl, inr, ⊎-elim, _↔_}
-use Prim.Native.Nat.{ℕ, zero, suc, _+_, _-_, _≤_}
+use Prim.Native.Nat.{ℕ, zero, suc, _+_, _-_, _≤_, min, max}
 use native.Mathlib.Omega.{arith}
 use lib.ListN.{take, drop, take-append-drop}
 use Rattle.free_regions.specs.declared.FreeRegion.{FreeRegion}
-use Rattle.free_regions.specs.Regions.{end, Free, sumOfLengths, piece, spliced}
+use Rattle.free_regions.specs.Regions.{end, Free, sumOfLengths, piece, cut, cutAll, spliced}
 use Rattle.free_regions.specs.Sets.{Between, howMany}
 use Rattle.free_regions.proofs.OkLaws.{Within}
 use Rattle.free_regions.proofs.CutSets.{piece-none, piece-some}
@@ -34,6 +34,14 @@ sum-pieces a x b y = omega (arith, sum-append (piece a x) (piece b y), one a x, 
     one : (a x : ℕ) → sumOfLengths (piece a x) ≡ x
     one a zero = ap sumOfLengths (piece-none a 0 refl)
     one a (suc x) = ap sumOfLengths (piece-some a (suc x) (λ z. absurd (omega arith))) ∙ (omega arith)
+
+-- what a range leaves has no more bytes
+pub sum-cut-all : (a e : ℕ) (rs : List FreeRegion) → a ≤ e → sumOfLengths (cutAll a e rs) ≤ sumOfLengths rs
+sum-cut-all a e [] h = omega arith
+sum-cut-all a e (r ∷ rs) h =
+    let x = min (end r) a - r .addr in
+    let m = max e (r .addr) in
+    omega (arith, h, sum-append (cut a e r) (cutAll a e rs), sum-pieces (r .addr) x m (end r - m), sum-cut-all a e rs h)
 
 pub sum-drop : (i j : ℕ) (rs : List FreeRegion) → i ≤ j → sumOfLengths (drop j rs) ≤ sumOfLengths (drop i rs)
 sum-drop zero j rs h = omega (arith, sum-parts j rs)

@@ -10,17 +10,17 @@ use Rattle.error.proofs.TestLaws.{le-or-lt}
 use Rattle.fields.specs.Ranges.{top}
 use Rattle.free_regions.specs.declared.FreeRegion.{FreeRegion}
 use Rattle.free_regions.specs.Regions.{region, end, sumOfLengths, piece, cut, cutAll, spliced}
-use Rattle.free_regions.proofs.OkLaws.{Within, ok-prop}
-use Rattle.free_regions.proofs.LengthLaws.{sum-pieces, sum-drop, sum-within}
+use Rattle.free_regions.proofs.OkLaws.{Within}
+use Rattle.free_regions.proofs.LengthLaws.{sum-pieces, sum-cut-all}
 use Rattle.free_regions.proofs.OrderLaws.{keep-prefix}
 use Rattle.pairs.proofs.PairLaws.{decode-drop, decode-end}
 use Rattle.free_space.specs.declared.list.FreeList.{FreeList}
 use Rattle.free_space.specs.Runs.{regionAt, regions, isList}
-use Rattle.free_space.specs.Splices.{Apart, Goes, Stays}
+use Rattle.free_space.specs.Splices.{Apart, Goes}
 use Rattle.free_space.proofs.ListLaws.{listed, region-fits}
 use Rattle.free_space.proofs.PlaceLaws.{rest-within, next-above, later, all-before}
-use Rattle.free_regions.proofs.CutSets.{piece-none, piece-some, cut-all-within}
-use Rattle.free_space.proofs.SpliceLaws.{new-total}
+use Rattle.free_regions.proofs.CutSets.{piece-none, piece-some}
+use Rattle.free_space.proofs.SpliceLaws.{new-total, gone-less}
 
 module _ (a e : ℕ) (h : a ≤ e) where
   -- ---- one region
@@ -134,20 +134,27 @@ module _ (xs : List ℕ) (l : FreeList) (a e lo hi : ℕ) (h : a ≤ e) (apart :
       ∙ ap (λ (q : List FreeRegion). back ++ q) above)
       ∙ sym (append-assoc front back (drop hi (regions xs l))))
 
--- the total of what a range leaves: kept bytes stay without the regions that share a byte with it, and what is left of the first and of the last comes
-pub cut-total : (xs : List ℕ) (l : FreeList) (a e lo hi kept : ℕ) → a < e → Apart xs l a e lo hi → lo < hi → Stays xs l lo hi kept
-    → kept + (a - regionAt xs lo .addr + (end (regionAt xs (hi - 1)) - e)) ≡ sumOfLengths (cutAll a e (regions xs l))
-cut-total xs l a e lo hi kept h apart m stays =
-    let r = regionAt xs lo in
-    let last = end (regionAt xs (hi - 1)) in
-    let p = piece (r .addr) (a - r .addr) ++ piece e (last - e) in
-    let gone = l .total - kept in
-    let less = sum-drop lo hi (regions xs l) (apart .high .order) in
-    let goes : Goes (regions xs l) lo hi gone = omega (arith, stays, less) in
-    new-total xs l lo hi gone (kept + (a - r .addr + (last - e))) p (apart .list) goes (omega (arith, stays, less, sum-pieces (r .addr) (a - r .addr) e (last - e)))
-    ∙ ap sumOfLengths (sym (cut-some xs l a e lo hi (omega arith) apart m))
+-- the bytes of a range that were free: those that go with the regions that share a byte with it, less what is left of the first and of the last
+module _ (xs : List ℕ) (l : FreeList) (a e lo hi gone : ℕ) (h : a < e) (apart : Apart xs l a e lo hi) (m : lo < hi) (goes : Goes (regions xs l) lo hi gone) where
+  left : ℕ
+  left = a - regionAt xs lo .addr + (end (regionAt xs (hi - 1)) - e)
 
-pub cut-fits : (xs : List ℕ) (l : FreeList) (a e : ℕ) → isList xs l ≡ true → a < e → sumOfLengths (cutAll a e (regions xs l)) ≤ top
-cut-fits xs l a e ok h =
-    let rs = regions xs l in
-    sum-within 0 top (cutAll a e rs) (cut-all-within a e h 0 top rs (ok-prop 0 rs .0 (listed xs l ok .ok)))
+  sum-left : l .total - gone + left ≡ sumOfLengths (cutAll a e (regions xs l))
+  unfolding left
+  sum-left =
+      let r = regionAt xs lo in
+      let last = end (regionAt xs (hi - 1)) in
+      let p = piece (r .addr) (a - r .addr) ++ piece e (last - e) in
+      new-total xs l lo hi gone (l .total - gone + left) p (apart .list) goes
+      (omega (arith, gone-less xs l lo hi gone (apart .list) goes, sum-pieces (r .addr) (a - r .addr) e (last - e)))
+      ∙ ap sumOfLengths (sym (cut-some xs l a e lo hi (omega arith) apart m))
+
+  pub left-less : (n : ℕ) → n ≡ a - regionAt xs lo .addr + (end (regionAt xs (hi - 1)) - e) → n ≤ gone
+  unfolding left
+  left-less n is =
+      omega (arith, is, sum-left, gone-less xs l lo hi gone (apart .list) goes, listed xs l (apart .list) .total, sum-cut-all a e (regions xs l) (omega arith))
+
+  pub cut-total : (n : ℕ) → n ≡ a - regionAt xs lo .addr + (end (regionAt xs (hi - 1)) - e)
+      → l .total - (gone - n) ≡ sumOfLengths (cutAll a e (regions xs l))
+  unfolding left
+  cut-total n is = omega (arith, is, sum-left, left-less n is, gone-less xs l lo hi gone (apart .list) goes)

@@ -8,7 +8,6 @@
 --   From       the first from a region on that begins at a place or above
 --   Apart      the regions between two places share a byte with a range, and no others
 --   Goes       so many bytes go with the regions from a place up to another
---   Stays      so many bytes of a total stay without them
 --   Meets      the answer of the search for the first region that can share a byte with a range of so many bytes
 --   patch      the regions that take the place of others
 --   Replaces   regions of a list can be replaced by a patch, and what is left then has a total
@@ -70,9 +69,6 @@ pub record Apart (xs : List ℕ) (l : FreeList) (a e lo hi : ℕ) : Type 0 where
 
 abbrev pub Goes : List FreeRegion → ℕ → ℕ → ℕ → Type 0
 Goes rs lo hi gone = gone + sumOfLengths (drop hi rs) ≡ sumOfLengths (drop lo rs)
-
-abbrev pub Stays : List ℕ → FreeList → ℕ → ℕ → ℕ → Type 0
-Stays xs l lo hi kept = kept + sumOfLengths (drop lo (regions xs l)) ≡ l .total + sumOfLengths (drop hi (regions xs l))
 
 abbrev pub Meets : List ℕ → FreeList → ℕ → ℕ → Meet → Type 0
 Meets xs l a len meet.Over = top < a + len

@@ -8,7 +8,7 @@ ghost use Rattle.free_regions.specs.Regions.{end, piece, cutAll};
 ghost use Rattle.free_regions.specs.Units.{interiorStart, interiorSpan};
 ghost use Rattle.free_space.specs.Runs.{regionAt, regions, isList};
 ghost use Rattle.free_space.specs.Calls.{placed, keeping, giving, without, allocated, allocatedUnits, freed, rangeTaken, trailingTaken, partUnit};
-ghost use Rattle.free_space.specs.Splices.{Apart, Stays, patch, Replaces};
+ghost use Rattle.free_space.specs.Splices.{Apart, Goes, patch, Replaces};
 ghost use Rattle.free_space.specs.Decisions.{fitted, ifList, Applicable, Gives, Keeps};
 use crate::check::is_list;
 use crate::fit::Search;
@@ -188,17 +188,17 @@ pub(crate) fn decide_whole_units(run: &[u64], list: FreeList, len: u64, unit: u6
     }
 }
 
-// Cuts the range from `a` up to `e` out of the regions that share a byte with it. The others have `kept` bytes.
+// Cuts the range from `a` up to `e` out of the regions that share a byte with it, `gone` bytes in all.
 fn cut_between(
     run: &[u64],
     list: FreeList,
     lo: usize,
     hi: usize,
-    kept: u64,
+    gone: u64,
     a: u64,
     e: u64,
 ) -> Decision
-    requires { ⌜ Apart (now run) list a e lo hi × (a < e) × Stays (now run) list lo hi kept ⌝ }
+    requires { ⌜ Apart (now run) list a e lo hi × (a < e) × Goes (regions (now run) list) lo hi gone ⌝ }
     ensures { λ d. ⌜ Keeps (now (run .entry)) list (placed keeping (now (run .entry)) list (cutAll a e (regions (now (run .entry)) list))) d ⌝ }
 {
     if lo == hi {
@@ -208,13 +208,15 @@ fn cut_between(
     let last = region_at(run, hi - 1);
     let end = last.addr + last.len;
     let left = saturating_sub(a, first.addr) + saturating_sub(end, e);
+    // The bytes of the range that were free.
+    let taken = gone - left;
     change(
         run,
         list,
         a,
         lo,
         hi,
-        kept + left,
+        list.total - taken,
         edges(first.addr, a, e, end),
     )
 }
@@ -260,7 +262,7 @@ pub(crate) fn decide_range(run: &[u64], list: FreeList, addr: u64, len: u64) -> 
         Meet::Empty => Decision::Nothing,
         Meet::Past(i) => {
             let met = first_from(run, list, i, addr + len);
-            cut_between(run, list, i, met.upto, met.kept, addr, addr + len)
+            cut_between(run, list, i, met.upto, met.gone, addr, addr + len)
         }
     }
 }

@@ -4,8 +4,8 @@ ghost use mathlib.Core.Bool.{true, _&&_};
 ghost use Prim.Native.Nat.{_*_, _≤_};
 ghost use lib.Dec.{ltb};
 ghost use lib.ListN.{length};
-ghost use Rattle.free_space.specs.Runs.{regionAt, isList};
-ghost use Rattle.free_space.specs.Splices.{Past, From, Stays, Meets};
+ghost use Rattle.free_space.specs.Runs.{regionAt, regions, isList};
+ghost use Rattle.free_space.specs.Splices.{Past, From, Goes, Meets};
 use crate::list::FreeList;
 use crate::run::region_at;
 use numbers::MAX;
@@ -50,33 +50,33 @@ pub(crate) fn meeting(run: &[u64], list: FreeList, addr: u64, len: u64) -> Meet
     Meet::Past(first_past(run, list, addr))
 }
 
-// The place up to which a pass went, and what is left of the total without the lengths that it passed.
+// The place up to which a pass went, and the sum of the lengths that it passed.
 pub(crate) struct Met {
     pub(crate) upto: usize,
-    pub(crate) kept: u64,
+    pub(crate) gone: u64,
 }
 
 // From `lo` on to the first region that begins at `e` or above.
 pub(crate) fn first_from(run: &[u64], list: FreeList, lo: usize, e: u64) -> Met
     requires { ⌜ (isList (now run) list ≡ true) × (lo ≤ list .count) ⌝ }
-    ensures { λ p. ⌜ From (now (run .entry)) list lo e (p .upto) × Stays (now (run .entry)) list lo (p .upto) (p .kept) ⌝ }
+    ensures { λ p. ⌜ From (now (run .entry)) list lo e (p .upto) × Goes (regions (now (run .entry)) list) lo (p .upto) (p .gone) ⌝ }
 {
     let mut i = lo;
-    let mut kept = list.total;
+    let mut gone = 0;
     while i < list.count {
         let r = region_at(run, i);
         if e <= r.addr {
             return Met {
                 upto: i,
-                kept: kept,
+                gone: gone,
             };
         }
-        kept -= r.len;
+        gone += r.len;
         i += 1;
     }
     Met {
         upto: i,
-        kept: kept,
+        gone: gone,
     }
 }
 

@@ -300,23 +300,44 @@ fn scratch_call(line: &[u8], lists: &mut [u64]) -> Reply
     Reply::Done
 }
 
+// A line of two numbers, of which the first is that of a list.
+struct ForList {
+    fine: bool,
+    list: usize,
+    number: u64,
+}
+
+fn for_list(line: &[u8]) -> ForList
+    ensures { λ r. ⌜ r .list ≤ 2 ⌝ }
+{
+    let few = few_of(line);
+    let k = few.first;
+    if 2 < k {
+        return ForList {
+            fine: false,
+            list: 0,
+            number: 0,
+        };
+    }
+    ForList {
+        fine: few.count == 2,
+        list: k as usize,
+        number: few.second,
+    }
+}
+
 // Lends a list the first numbers of its run from now on. Its record stays.
 fn room_call(line: &[u8], lists: &mut [u64]) -> Reply
     requires { ⌜ 24586 ≤ length (now lists) ⌝ }
 {
-    let few = few_of(line);
-    if few.count != 2 {
+    let given = for_list(line);
+    if !given.fine {
         return Reply::Bad;
     }
-    let k = few.first;
-    if 2 < k {
+    if (RUN as u64) < given.number {
         return Reply::Bad;
     }
-    let n = few.second;
-    if (RUN as u64) < n {
-        return Reply::Bad;
-    }
-    lists[ROOMS + k as usize] = n;
+    lists[ROOMS + given.list] = given.number;
     Reply::Done
 }
 
@@ -324,15 +345,11 @@ fn room_call(line: &[u8], lists: &mut [u64]) -> Reply
 fn lend_total_call(line: &[u8], lists: &mut [u64]) -> Reply
     requires { ⌜ 24586 ≤ length (now lists) ⌝ }
 {
-    let few = few_of(line);
-    if few.count != 2 {
+    let given = for_list(line);
+    if !given.fine {
         return Reply::Bad;
     }
-    let k = few.first;
-    if 2 < k {
-        return Reply::Bad;
-    }
-    lists[2 * (RECORDS + k as usize) + 1] = few.second;
+    lists[2 * (RECORDS + given.list) + 1] = given.number;
     Reply::Done
 }
 
