@@ -3,7 +3,7 @@
 import sys
 
 from answers import answers
-from domain import compared, fits, ours
+from domain import compared, judged_alike, ours
 from generator import KINDS, generated
 
 SEEDS = range(201, 220)
@@ -19,7 +19,7 @@ def main(driver, program, kinds=",".join(KINDS)):
         calls = [call for call in generated(seed, CALLS, kinds) if ours(call)]
         for call, rust, here in zip(calls, answers(driver, calls), answers(program, calls)):
             rust = compared(rust)
-            if not fits(call, rust):
+            if not judged_alike(call, rust):
                 continue
             total += 1
             if rust != here:

@@ -4,7 +4,7 @@ import os
 import sys
 
 from answers import answers
-from domain import compared, fits, ours
+from domain import compared, judged_alike, ours
 from generator import generated
 
 # Kind, calls of each seed, seeds, and seeds at which the generator also goes outside the domain of comparison.
@@ -43,7 +43,7 @@ def all_calls():
 
 
 def answered(call, answer):
-    return answer not in ("panic", "guard", "bad") and fits(call, answer)
+    return answer not in ("panic", "guard", "bad") and judged_alike(call, answer)
 
 
 def main(driver, crate):

@@ -12,7 +12,7 @@ from document import TOP, cut, manager, message, slots_of
 from images import images, lent_runs
 from rows import NO_SECTIONS, PAGE, call, changed, counted, image_call, rows, says, text_of
 
-MARK = "# Plans, saves and images. Before each group stands the sentence of document 01 that settles its answers."
+MARK = "# Plans, saves and images. Before each group stands the sentence of document 01 or 02 that settles its answers."
 
 
 # The saves whose blocks and messages the Rust must write too.
@@ -83,9 +83,11 @@ def plans():
     says('12. "Wide address: a written address doesn\'t fit the offset size."')
     call("plan 1 16 256 1 5 1 0 0", "err 12")
     call("plan 1 16 181 1 5 1 0 0", "err 12")
-    call(f"plan 1 16 180 1 5 1 0 0", f"end {180 + 75 + 10 + 9 + 2} slots 180 {undefined} blocks 1 180 255 1 1 5 1")
     call("plan 1 16 0 1 256 1 0 0", "err 12")
     call("plan 1 16 0 0 0 1 256 1", "err 12")
+    says('12, since the FSSE would begin at 255; one byte before it does not. Document 02, P2: "a plan that begins a block there is 12", at 2^(8O)−1.')
+    call("plan 1 16 180 1 5 1 0 0", "err 12")
+    call("plan 1 16 179 1 5 1 0 0", f"end {179 + 75 + 10 + 9 + 2} slots 179 {undefined} blocks 1 179 254 1 1 5 1")
     says('No 12 for a start that has no block: "Non-empty slots get FSHD then FSSE, from `start` on".')
     call(f"plan 1 16 {TOP} 0 0 0", f"end {TOP} slots {TOP} {undefined} blocks 0")
     says('"A page multiple beyond 2^64−1 cuts nothing and lies outside it."')

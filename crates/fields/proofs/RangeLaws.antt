@@ -1,18 +1,20 @@
 -- Laws of sums, ranges and multiples: the cases of each definition, and what the first multiple of a unit is. Assumes nothing.
 use mathlib.Core.Path.{_≡_, refl, sym, ap, _∙_}
 use mathlib.Core.Bool.{Bool, true, false, _&&_, _||_, not}
-use Prim.Native.Nat.{ℕ, suc, _+_, _-_, _*_, _/_, _%_, _≤_, _<_}
-use native.Mathlib.Nat.{div-add-mod', mod-lt, suc-mul}
+use Prim.Native.Nat.{ℕ, suc, _+_, _-_, _*_, _/_, _%_, _^_, _≤_, _<_}
+use native.Mathlib.Nat.{div-add-mod', mod-lt, suc-mul, pow-le-pow-right}
 use native.Mathlib.Omega.{arith}
-use borrow.Author.Tests.{lt-ltb, le-ltb, eq-eqb, ne-eqb}
+use borrow.Author.Tests.{not-false, lt-ltb, le-ltb, leb-true, eq-eqb, ne-eqb}
 use lib.Arith.{digits-div}
-use lib.Dec.{eqb}
+use lib.Dec.{leb, eqb, lit<, lit≤}
+use lib.Pow.{shl-exact}
 use Rattle.error.specs.declared.Refusal.the-variants.{Width, Page, Overflow, Short}
 use Rattle.error.specs.Outcome.{answer, refused, sat}
+use Rattle.error.proofs.TestLaws.{and-true}
 use Rattle.error.proofs.OutcomeLaws.{refuses, passes, first-holds, first-passes}
 use Rattle.fields.specs.Ranges.{top, enough, sum, range, undefinedAddr, undefinedAt, firstMultiple, alignedUp}
 use Rattle.fields.specs.Width.{validWidth}
-use Rattle.fields.proofs.WidthLaws.{width-low, width-high, width-in}
+use Rattle.fields.proofs.WidthLaws.{width-low, width-high, width-in, pow256}
 
 -- ---- `ensure_len`
 
@@ -52,6 +54,35 @@ module _ (a b : ℕ) where
   pub range-is : a + b ≤ top → answer (record { start = a; end = a + b }) ≡ range a b
   unfolding range
   range-is h = passes _ _ _ (le-ltb top (a + b) h)
+
+-- ---- `undefined_addr`
+
+module _ (O : ℕ) where
+  -- from 8 bytes on
+  pub ones-wide : 8 ≤ O → top ≡ sat (undefinedAddr O)
+  unfolding sat
+  ones-wide h = let p : 256 ^ 8 ≤ 256 ^ O = pow-le-pow-right (lit≤ tt) h in omega arith
+
+  -- of fewer bytes
+  module _ (h : O < 8) where
+    shifted : 1 * 2 ^ (8 * O) % 2 ^ 64 ≡ 256 ^ O
+    shifted = shl-exact {a = 1} 1 (8 * O) 64 (lit< tt) (omega arith) ∙ omega (arith, pow256 O)
+
+    pub ones-some : 1 ≤ 1 * 2 ^ (8 * O) % 2 ^ 64
+    ones-some = let l : 0 ≤ O = omega arith in let p : 256 ^ 0 ≤ 256 ^ O = pow-le-pow-right (lit≤ tt) l in omega (arith, shifted)
+
+    pub ones-narrow : 1 * 2 ^ (8 * O) % 2 ^ 64 - 1 ≡ sat (undefinedAddr O)
+    unfolding sat
+    ones-narrow = let l : O ≤ 8 = omega arith in let p : 256 ^ O ≤ 256 ^ 8 = pow-le-pow-right (lit≤ tt) l in omega (arith, shifted)
+
+-- of a width that refusal 1 lets pass
+pub ones-are : (O r : ℕ) → not (validWidth O) ≡ false → r ≡ sat (undefinedAddr O) → r ≡ undefinedAddr O
+unfolding sat
+ones-are O r v e =
+    let w = and-true (leb 1 O) (leb O 8) (not-false (validWidth O) v) in
+    let l : O ≤ 8 = leb-true O 8 (w .1) in
+    let p : 256 ^ O ≤ 256 ^ 8 = pow-le-pow-right (lit≤ tt) l in
+    omega arith
 
 -- ---- `is_undefined_addr`
 

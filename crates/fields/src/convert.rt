@@ -1,7 +1,8 @@
 // Ranges and addresses of 64-bit numbers.
 ghost use mathlib.Core.Path.{_≡_};
 ghost use Rattle.error.specs.Answers.{numberOutcome};
-ghost use Rattle.fields.specs.Ranges.{rangeOutcome, range, undefinedOutcome, undefinedAt, alignedUp};
+ghost use Rattle.error.specs.Outcome.{sat};
+ghost use Rattle.fields.specs.Ranges.{rangeOutcome, range, undefinedAddr, undefinedOutcome, undefinedAt, alignedUp};
 use error::Number;
 use error::Refusal;
 use numbers::MAX;
@@ -32,6 +33,16 @@ pub fn slice_range(offset: u64, len: u64) -> SliceRange
         start: offset,
         end: offset + len,
     }
+}
+
+// The undefined address of an offset size: all bits of so many bytes, at most of 8, are one.
+pub fn undefined_addr(offset_size: u8) -> u64
+    ensures { λ r. ⌜ r ≡ sat (undefinedAddr «offset_size») ⌝ }
+{
+    if 8 <= offset_size {
+        return UNDEF;
+    }
+    (1u64 << (8 * offset_size)) - 1
 }
 
 // Whether `addr` is the undefined address at offset size 2, 4 or 8; at the other sizes the Rust knows none.

@@ -1,13 +1,13 @@
 -- Managers are read back from an image that holds their blocks. Assumes nothing.
 use mathlib.Core.Path.{_≡_, refl, sym, ap, _∙_}
 use mathlib.Core.List.{List, [], _∷_, _++_}
-use Prim.Native.Nat.{ℕ, _+_, _-_, _≤_, _<_}
+use Prim.Native.Nat.{ℕ, _+_, _≤_, _<_}
 use native.Mathlib.Omega.{arith}
 use borrow.Author.Tests.{le-ltb, ne-eqb}
 use lib.ListN.{length, drop, length-take, length-drop, take-append-drop}
 use Rattle.error.specs.Outcome.{answer, firstOf, andThen}
 use Rattle.fields.specs.Layout.{FieldFits, window}
-use Rattle.fields.specs.Ranges.{top}
+use Rattle.fields.specs.Ranges.{top, undefinedAddr}
 use Rattle.fsm_sections.specs.declared.FreeSection.{FreeSection}
 use Rattle.fsm_sections.specs.Sections.{bySizeThenAddr, All}
 use Rattle.fsm_blocks.specs.Groups.{SectionFits}
@@ -17,14 +17,14 @@ use Rattle.fsm_blocks.specs.Reading.{readNamed, readManager, readSlots}
 use Rattle.fsm_blocks.proofs.WrittenLaws.{length-fshd, length-fsse, fshd-read, fsse-read}
 
 -- what stands whole at a place lies within the bytes
-held : (p n : ℕ) (bytes b : List ℕ) → window p n bytes ≡ b → length b ≡ n → 0 < n → p + n ≤ length bytes
+pub held : (p n : ℕ) (bytes b : List ℕ) → window p n bytes ≡ b → length b ≡ n → 0 < n → p + n ≤ length bytes
 held p n bytes b e l h = omega (arith, length-take n (drop p bytes), length-drop p bytes, ap length e)
 
 module _ (sum : List ℕ → ℕ) (O base : ℕ) (set : Settings) where
   -- an image holds the two blocks of one manager at the addresses `slot` and `fsse`, in which the numbers fit
   pub record Stored (slot fsse class : ℕ) (l : List FreeSection) (bytes : List ℕ) : Type 0 where
-    pub slot-defined : slot ≡ top → ⊥
-    pub fsse-defined : fsse ≡ top → ⊥
+    pub slot-defined : slot ≡ undefinedAddr O → ⊥
+    pub fsse-defined : fsse ≡ undefinedAddr O → ⊥
     pub slot-near : slot + base ≤ top
     pub fsse-near : fsse + base ≤ top
     pub header-fits : All FieldFits (fshdRow O (headerFor O set fsse l))
@@ -41,7 +41,7 @@ module _ (sum : List ℕ → ℕ) (O base : ℕ) (set : Settings) where
     named-read : readNamed O base (headerFor O set fsse l) bytes ≡ answer (bySizeThenAddr l)
     unfolding readNamed firstOf
     named-read =
-        rw (ne-eqb fsse top (s .fsse-defined), le-ltb top (fsse + base) (s .fsse-near), le-ltb (length bytes) (fsse + base + fsseUsed O set l) list-in, s .list-there)
+        rw (ne-eqb fsse (undefinedAddr O) (s .fsse-defined), le-ltb top (fsse + base) (s .fsse-near), le-ltb (length bytes) (fsse + base + fsseUsed O set l) list-in, s .list-there)
         (fsse-read sum O slot class (set .bits) (set .greatest) l (s .bits-some) (s .bits-few) (s .header-fits .1 .1 .1 .1 .1 .1 .1 .0) (s .sections-fit))
 
     header-in : slot + base + fshdSize O ≤ length bytes
@@ -59,7 +59,7 @@ module _ (sum : List ℕ → ℕ) (O base : ℕ) (set : Settings) where
     unfolding readManager firstOf andThen
     manager-read =
         let n : slot + base ≤ length bytes = omega (arith, header-in) in
-        rw (ne-eqb slot top (s .slot-defined), le-ltb top (slot + base) (s .slot-near), le-ltb (length bytes) (slot + base) n, header-read) named-read
+        rw (ne-eqb slot (undefinedAddr O) (s .slot-defined), le-ltb top (slot + base) (s .slot-near), le-ltb (length bytes) (slot + base) n, header-read) named-read
 
 -- ---- slots in a row
 

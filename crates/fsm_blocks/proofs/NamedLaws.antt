@@ -15,7 +15,7 @@ use Rattle.error.specs.declared.Number.the-variants as number
 use Rattle.error.specs.Answers.{numberOutcome}
 use Rattle.error.specs.Outcome.{Outcome, answer, nothing, refuse, refused, when, firstOf, andThen}
 use Rattle.fields.specs.Layout.{window}
-use Rattle.fields.specs.Ranges.{top, sum}
+use Rattle.fields.specs.Ranges.{top, sum, undefinedAddr}
 use Rattle.fields.specs.Width.{validWidth}
 use Rattle.fsm_blocks.specs.declared.header.FsmHeader.{FsmHeader}
 use Rattle.fsm_blocks.specs.declared.header.HeaderAnswer.{HeaderAnswer}
@@ -49,28 +49,28 @@ module _ (a b : ℕ) {r : Number} (s : numberOutcome r ≡ sum a b) where
 
 -- ---- `list_of`
 
-module _ (base : ℕ) (h : FsmHeader) (bytes : List ℕ) where
-  pub named-none : h .«fsse_addr» ≡ top → (O : ℕ) → answer [] ≡ readNamed O base (full h) bytes
+module _ (O base : ℕ) (h : FsmHeader) (bytes : List ℕ) where
+  pub named-none : h .«fsse_addr» ≡ undefinedAddr O → answer [] ≡ readNamed O base (full h) bytes
   unfolding readNamed
-  named-none e O = rw (eq-eqb (h .«fsse_addr») top e)
+  named-none e = rw (eq-eqb (h .«fsse_addr») (undefinedAddr O) e)
 
-  module _ (some : h .«fsse_addr» ≡ top → ⊥) where
-    pub named-wraps : top < h .«fsse_addr» + base → (O : ℕ) → refused InvalidManager ≡ readNamed O base (full h) bytes
+  module _ (some : h .«fsse_addr» ≡ undefinedAddr O → ⊥) where
+    pub named-wraps : top < h .«fsse_addr» + base → refused InvalidManager ≡ readNamed O base (full h) bytes
     unfolding readNamed firstOf
-    named-wraps l O = rw (ne-eqb (h .«fsse_addr») top some, lt-ltb top (h .«fsse_addr» + base) l)
+    named-wraps l = rw (ne-eqb (h .«fsse_addr») (undefinedAddr O) some, lt-ltb top (h .«fsse_addr» + base) l)
 
     module _ (start : ℕ) (at : (start ≡ h .«fsse_addr» + base) × (h .«fsse_addr» + base ≤ top)) where
-      pub named-past : length bytes < start + h .«fsse_used» → (O : ℕ) → refused InvalidManager ≡ readNamed O base (full h) bytes
+      pub named-past : length bytes < start + h .«fsse_used» → refused InvalidManager ≡ readNamed O base (full h) bytes
       unfolding readNamed firstOf
-      named-past l O =
+      named-past l =
           let m : length bytes < h .«fsse_addr» + base + h .«fsse_used» = omega arith in
-          rw (ne-eqb (h .«fsse_addr») top some, le-ltb top (h .«fsse_addr» + base) (at .1), lt-ltb (length bytes) (h .«fsse_addr» + base + h .«fsse_used») m)
+          rw (ne-eqb (h .«fsse_addr») (undefinedAddr O) some, le-ltb top (h .«fsse_addr» + base) (at .1), lt-ltb (length bytes) (h .«fsse_addr» + base + h .«fsse_used») m)
 
-      pub named-is : start + h .«fsse_used» ≤ length bytes → (O : ℕ) → sectionsBy h O (window start (h .«fsse_used») bytes) ≡ readNamed O base (full h) bytes
+      pub named-is : start + h .«fsse_used» ≤ length bytes → sectionsBy h O (window start (h .«fsse_used») bytes) ≡ readNamed O base (full h) bytes
       unfolding readNamed firstOf
-      named-is l O =
+      named-is l =
           let m : h .«fsse_addr» + base + h .«fsse_used» ≤ length bytes = omega arith in
-          rw (at .0, ne-eqb (h .«fsse_addr») top some, le-ltb top (h .«fsse_addr» + base) (at .1), le-ltb (length bytes) (h .«fsse_addr» + base + h .«fsse_used») m)
+          rw (at .0, ne-eqb (h .«fsse_addr») (undefinedAddr O) some, le-ltb top (h .«fsse_addr» + base) (at .1), le-ltb (length bytes) (h .«fsse_addr» + base + h .«fsse_used») m)
 
 -- ---- `locate`
 
@@ -86,28 +86,28 @@ then-kept O base bytes nothing x e = let z : _≡_ {A = ℕ} 0 1 = cc in absurd 
 then-kept O base bytes (refuse n vs) x e = let z : _≡_ {A = ℕ} 0 1 = cc in absurd (omega arith)
 
 module _ (O base slot : ℕ) (bytes : List ℕ) where
-  pub manager-none : slot ≡ top → answer [] ≡ readManager O base slot bytes
+  pub manager-none : slot ≡ undefinedAddr O → answer [] ≡ readManager O base slot bytes
   unfolding readManager
-  manager-none e = rw (eq-eqb slot top e)
+  manager-none e = rw (eq-eqb slot (undefinedAddr O) e)
 
-  module _ (some : slot ≡ top → ⊥) where
+  module _ (some : slot ≡ undefinedAddr O → ⊥) where
     pub manager-wraps : top < slot + base → refused InvalidManager ≡ readManager O base slot bytes
     unfolding readManager firstOf
-    manager-wraps l = rw (ne-eqb slot top some, lt-ltb top (slot + base) l)
+    manager-wraps l = rw (ne-eqb slot (undefinedAddr O) some, lt-ltb top (slot + base) l)
 
     module _ (start : ℕ) (at : (start ≡ slot + base) × (slot + base ≤ top)) where
       pub manager-past : length bytes < start → refused InvalidManager ≡ readManager O base slot bytes
       unfolding readManager firstOf
       manager-past l =
           let m : length bytes < slot + base = omega arith in
-          rw (ne-eqb slot top some, le-ltb top (slot + base) (at .1), lt-ltb (length bytes) (slot + base) m)
+          rw (ne-eqb slot (undefinedAddr O) some, le-ltb top (slot + base) (at .1), lt-ltb (length bytes) (slot + base) m)
 
       module _ (in-bytes : start ≤ length bytes) where
         by-header : readManager O base slot bytes ≡ andThen (parseFshd O (drop start bytes)) (λ h. readNamed O base h bytes)
         unfolding readManager firstOf
         by-header =
             let m : slot + base ≤ length bytes = omega arith in
-            rw (at .0, ne-eqb slot top some, le-ltb top (slot + base) (at .1), le-ltb (length bytes) (slot + base) m)
+            rw (at .0, ne-eqb slot (undefinedAddr O) some, le-ltb top (slot + base) (at .1), le-ltb (length bytes) (slot + base) m)
 
         module _ (v : not (validWidth O) ≡ false) where
           parsed : (a : HeaderAnswer) → headerOutcome a ≡ kept (parsedFshd O (window start (length bytes - start) bytes)) → headerOutcome a ≡ kept (parseFshd O (drop start bytes))

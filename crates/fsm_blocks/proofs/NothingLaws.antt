@@ -61,11 +61,11 @@ module _ (O base : ℕ) where
 
   named-ends : (h : Header) (bytes : List ℕ) → NotNothing (readNamed O base h bytes)
   unfolding readNamed
-  named-ends h bytes = skip-ends (eqb (h .fsse) (undefinedAddr 8)) [] _ (first-ends _ _ (list-ends _ _ _ _))
+  named-ends h bytes = skip-ends (eqb (h .fsse) (undefinedAddr O)) [] _ (first-ends _ _ (list-ends _ _ _ _))
 
   manager-ends : (slot : ℕ) (bytes : List ℕ) → NotNothing (readManager O base slot bytes)
   unfolding readManager
-  manager-ends slot bytes = skip-ends (eqb slot (undefinedAddr 8)) [] _ (first-ends _ _ (then-ends _ _ (header-ends (drop (slot + base) bytes)) (λ h. named-ends h bytes)))
+  manager-ends slot bytes = skip-ends (eqb slot (undefinedAddr O)) [] _ (first-ends _ _ (then-ends _ _ (header-ends (drop (slot + base) bytes)) (λ h. named-ends h bytes)))
 
   pub slots-end : (slots bytes : List ℕ) → NotNothing (readSlots O base slots bytes)
   unfolding readSlots

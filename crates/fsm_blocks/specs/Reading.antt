@@ -1,8 +1,10 @@
 -- Managers read from the bytes of a file: `parse_fsse` and `read_persisted_sections`. Assumes nothing.
--- In quotes: document 01's words, from "Blocks on file".
---   (undefinedAddr 8, no manager and no section list: "an address of 64 one bits is skipped, in the slot and in the FSSE field")
---   readNamed      the section list that a header names: "Adding the base past 2^64−1", "or an FSSE outside the data is 10"
---   readManager    the sections of the manager whose header a slot names: "a header start past the data" is 10
+-- In quotes: document 01's words, from "Blocks on file", or those of document 02's request that is named.
+--   listAt         the section list where a header's FSSE field points: "Adding the base past 2^64−1", "or an FSSE outside the data is 10"
+--   readNamed      the same, but for the undefined address no sections (P2: "The reader skips 2^(8O)−1 at offset size O, and no other address, in a
+--                  slot and in the FSSE field"). It is the number as it stands there, to which the base is not added yet
+--   managerAt      the sections of the manager whose header is where a slot points: "a header start past the data" is 10
+--   readManager    the same, but for the undefined address no sections (P2)
 --   readSlots      each slot's sections: "slots in order"; "the first refusal ends the read"
 --   joined         the sections of all slots, in order
 --   intoRun        the sections in the lent run, or refusal 14 with their number (at most 2^64 - 1) and its capacity: "Only after all succeed is 14
@@ -28,23 +30,27 @@ use Rattle.fsm_blocks.specs.Fsse.{parseFsse}
 
 -- O is the offset size, base what is added to each block's address
 module _ (O base : ℕ) where
-  unfoldable pub readNamed : Header → List ℕ → Outcome (List FreeSection)
-  readNamed h bytes =
-      cond (eqb (h .fsse) (undefinedAddr 8)) (answer [])
-      (firstOf
+  abbrev pub listAt : Header → List ℕ → Outcome (List FreeSection)
+  listAt h bytes =
+      firstOf
       (when (ltb top (h .fsse + base)) InvalidManager
       ∷ when (ltb (length bytes) (h .fsse + base + h .used)) InvalidManager
       ∷ [])
-      (parseFsse O (h .bits) (h .greatest) (h .total) (window (h .fsse + base) (h .used) bytes)))
+      (parseFsse O (h .bits) (h .greatest) (h .total) (window (h .fsse + base) (h .used) bytes))
 
-  unfoldable pub readManager : ℕ → List ℕ → Outcome (List FreeSection)
-  readManager slot bytes =
-      cond (eqb slot (undefinedAddr 8)) (answer [])
-      (firstOf
+  unfoldable pub readNamed : Header → List ℕ → Outcome (List FreeSection)
+  readNamed h bytes = cond (eqb (h .fsse) (undefinedAddr O)) (answer []) (listAt h bytes)
+
+  abbrev pub managerAt : ℕ → List ℕ → Outcome (List FreeSection)
+  managerAt slot bytes =
+      firstOf
       (when (ltb top (slot + base)) InvalidManager
       ∷ when (ltb (length bytes) (slot + base)) InvalidManager
       ∷ [])
-      (andThen (parseFshd O (drop (slot + base) bytes)) (λ h. readNamed h bytes)))
+      (andThen (parseFshd O (drop (slot + base) bytes)) (λ h. readNamed h bytes))
+
+  unfoldable pub readManager : ℕ → List ℕ → Outcome (List FreeSection)
+  readManager slot bytes = cond (eqb slot (undefinedAddr O)) (answer []) (managerAt slot bytes)
 
   unfoldable pub readSlots : List ℕ → List ℕ → Outcome (List (List FreeSection))
   readSlots [] bytes = answer []

@@ -1,7 +1,7 @@
 // One manager: where its section list stands, how many sections it has, and these put into a run.
 ghost use mathlib.Core.Path.{_≡_};
 ghost use mathlib.Core.Bool.{false, not};
-ghost use Prim.Native.Nat.{ℕ, _+_, _*_, _≤_};
+ghost use Prim.Native.Nat.{_+_, _*_, _≤_};
 ghost use lib.ListN.{length};
 ghost use Rattle.error.specs.Answers.{numberOutcome};
 ghost use Rattle.error.specs.Lent.{over};
@@ -17,7 +17,7 @@ use crate::header::HeaderAnswer;
 use error::Number;
 use error::Refusal;
 use fields::address::BaseAddress;
-use fields::convert::UNDEF;
+use fields::convert::undefined_addr;
 use fields::width::is_width;
 
 // Where a manager's section list stands, with the header that names it.
@@ -36,13 +36,14 @@ fn refusal_in(answer: HeaderAnswer) -> Refusal
     }
 }
 
-// The section list that a header names.
-fn list_of(bytes: &[u8], header: FsmHeader, base: BaseAddress) -> Named
-    ensures named { λ r. ⌜ ((O : ℕ) → namedOutcome O (now (bytes .entry)) r ≡ readNamed O (base .0) (full header) (now (bytes .entry))) ⌝ }
+// The section list that a header names. The undefined address is skipped before the base is added.
+fn list_of(bytes: &[u8], header: FsmHeader, base: BaseAddress, offset_size: u8) -> Named
+    requires { ⌜ not (validWidth «offset_size») ≡ false ⌝ }
+    ensures named { λ r. ⌜ namedOutcome «offset_size» (now (bytes .entry)) r ≡ readNamed «offset_size» (base .0) (full header) (now (bytes .entry)) ⌝ }
     ensures inside { λ r. ⌜ Inside (length (now (bytes .entry))) r ⌝ }
 {
     let fsse = header.fsse_addr;
-    if fsse == UNDEF {
+    if fsse == undefined_addr(offset_size) {
         return Named::Nowhere;
     }
     let Number::Is(start) = base.absolute(fsse) else {
@@ -67,7 +68,7 @@ fn locate(bytes: &[u8], slot: u64, base: BaseAddress, offset_size: u8) -> Named
     ensures named { λ r. ⌜ namedOutcome «offset_size» (now (bytes .entry)) r ≡ readManager «offset_size» (base .0) slot (now (bytes .entry)) ⌝ }
     ensures inside { λ r. ⌜ Inside (length (now (bytes .entry))) r ⌝ }
 {
-    if slot == UNDEF {
+    if slot == undefined_addr(offset_size) {
         return Named::Nowhere;
     }
     let Number::Is(start) = base.absolute(slot) else {
@@ -81,7 +82,7 @@ fn locate(bytes: &[u8], slot: u64, base: BaseAddress, offset_size: u8) -> Named
     let HeaderAnswer::Header(header) = answer else {
         return Named::Refused(refusal_in(answer));
     };
-    list_of(bytes, header, base)
+    list_of(bytes, header, base, offset_size)
 }
 
 // How many sections the manager has whose header `slot` names.

@@ -55,8 +55,8 @@ fn put_slots(bytes: &[u8], slots: &[u64], base: BaseAddress, offset_size: u8, ou
     }
 }
 
-// Reads the sections of the managers that the slots name into the run `out`, slot by slot. An address of 64 one bits names
-// no manager.
+// Reads the sections of the managers that the slots name into the run `out`, slot by slot. An address of which all bits of the
+// offset size are one names no manager.
 pub fn read_persisted_sections(
     bytes: &[u8],
     slots: &[u64],

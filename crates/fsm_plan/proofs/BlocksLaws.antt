@@ -15,7 +15,8 @@ use Rattle.error.specs.Outcome.{Outcome, answer, nothing, refuse, refused, Cond
 use Rattle.error.specs.Answers.{checkedOutcome}
 use Rattle.error.proofs.TestLaws.{or-false, or-decides, or-leaves}
 use Rattle.error.proofs.OutcomeLaws.{NoneHolds, first-none, first-holds, first-passes, first-pass}
-use Rattle.fields.specs.Ranges.{top}
+use Rattle.fields.specs.Ranges.{top, undefinedAddr}
+use Rattle.fields.proofs.WidthLaws.{width-in}
 use Rattle.fsm_sections.specs.declared.FreeSection.{FreeSection}
 use Rattle.fsm_sections.specs.declared.Source.{Source}
 use Rattle.fsm_sections.specs.Sections.{decode, space}
@@ -58,6 +59,17 @@ unfolding andThen
 then-answers (answer a) f y e = (a, refl, e)
 then-answers nothing f y e = let z : _≡_ {A = ℕ} 0 1 = cc in absurd (omega arith)
 then-answers (refuse n vs) f y e = let z : _≡_ {A = ℕ} 0 1 = cc in absurd (omega arith)
+
+-- what follows on conditions
+pub then-first : {A B : Type 0} (cs : List Condition) (x : Outcome A) (f : A → Outcome B) → andThen (firstOf cs x) f ≡ firstOf cs (andThen x f)
+unfolding firstOf andThen
+then-first [] x f = refl
+then-first {A} {B} (c ∷ cs) x f = pick (c .holds) (then-first cs x f)
+  where
+    pick : (t : Bool) → andThen (firstOf cs x) f ≡ firstOf cs (andThen x f)
+        → andThen (cond t (refused (c .refusal)) (firstOf cs x)) f ≡ cond t (refused (c .refusal)) (firstOf cs (andThen x f))
+    pick true e = refl
+    pick false e = e
 
 -- ---- the sections of a slot as its source gives them
 
@@ -117,7 +129,7 @@ module _ (a b c : List ℕ) (s : Paged) (O : ℕ) (m : Measures) (h : Ready a b 
   from-given S e = subst (λ (q : Source). Given q a b c) (sym e) (h .given)
 
   module _ (t : Bool) (te : t ≡ ltb top (endAt start m)) where
-    pub from-late : t ≡ true → refused Overflow ≡ plannedFrom a b c s m start O
+    pub from-late : t ≡ true → refused Overflow ≡ plannedFrom a b c (undefinedAddr O) s m start O
     unfolding plannedFrom
     from-late e = sym (first-holds _ Overflow _ _ (sym te ∙ e))
 
@@ -134,33 +146,33 @@ module _ (a b c : List ℕ) (s : Paged) (O : ℕ) (m : Measures) (h : Ready a b 
         shared-is : u ≡ repeats (inLarge s a b c)
         shared-is = ue ∙ ap (λ (q : Source). repeats (sectionsOf (chainsOf q a b c))) Se ∙ ap repeats (sym (slot6-runs (s .page) (s .na) (s .nb) (s .nc) a b c (h .given .some)))
 
-        pub from-shared : u ≡ true → refused SharedAddress ≡ plannedFrom a b c s m start O
+        pub from-shared : u ≡ true → refused SharedAddress ≡ plannedFrom a b c (undefinedAddr O) s m start O
         unfolding plannedFrom
         from-shared e = sym (first-passes _ Overflow _ _ (sym te ∙ tf) ∙ first-holds _ SharedAddress _ _ (sym shared-is ∙ e))
 
-        module _ (uf : u ≡ false) (p : PagedManagerPlan) (pe : p ≡ managersAt O start m) (v : Bool) (ve : v ≡ wideManagers O p) where
-          blocks-wide : v ≡ wideManagers O (managersAt O start m)
-          blocks-wide = ve ∙ ap (wideManagers O) pe
+        module _ (uf : u ≡ false) (p : PagedManagerPlan) (pe : p ≡ managersAt O start m) (v : Bool) (ve : v ≡ wideManagers (undefinedAddr O) p) where
+          blocks-wide : v ≡ wideManagers (undefinedAddr O) (managersAt O start m)
+          blocks-wide = ve ∙ ap (wideManagers (undefinedAddr O)) pe
 
           abbrev test : Bool
-          test = wideManagers O (managersAt O start m) || wideSections s a b c O
+          test = wideManagers (undefinedAddr O) (managersAt O start m) || wideSections s a b c O
 
-          wide-holds : test ≡ true → refused WideAddress ≡ plannedFrom a b c s m start O
+          wide-holds : test ≡ true → refused WideAddress ≡ plannedFrom a b c (undefinedAddr O) s m start O
           unfolding plannedFrom
           wide-holds e =
               sym (first-passes _ Overflow _ _ (sym te ∙ tf) ∙ first-passes _ SharedAddress _ _ (sym shared-is ∙ uf) ∙ first-holds _ WideAddress _ _ e)
 
-          pub from-wide : v ≡ true → refused WideAddress ≡ plannedFrom a b c s m start O
+          pub from-wide : v ≡ true → refused WideAddress ≡ plannedFrom a b c (undefinedAddr O) s m start O
           from-wide e = wide-holds (sym (or-decides v _ (wideSections s a b c O) blocks-wide e))
 
           module _ (vf : v ≡ false) (w : Bool) (we : w ≡ wideSections s a b c O) where
             wide-is : w ≡ test
             wide-is = we ∙ or-leaves v _ (wideSections s a b c O) blocks-wide vf
 
-            pub from-wide-section : w ≡ true → refused WideAddress ≡ plannedFrom a b c s m start O
+            pub from-wide-section : w ≡ true → refused WideAddress ≡ plannedFrom a b c (undefinedAddr O) s m start O
             from-wide-section e = wide-holds (sym wide-is ∙ e)
 
-            pub from-plan : w ≡ false → answer (record { managers = p; measures = m }) ≡ plannedFrom a b c s m start O
+            pub from-plan : w ≡ false → answer (record { managers = p; measures = m }) ≡ plannedFrom a b c (undefinedAddr O) s m start O
             unfolding plannedFrom
             from-plan e =
                 ap (λ (x : PagedManagerPlan). answer (record { managers = x; measures = m })) pe
@@ -178,20 +190,20 @@ module _ (a b c : List ℕ) (n : Counts) (page start O : ℕ) (x : Checked) (xe 
   blocks-tested r h = tests-refuse a b c n page O x xe r h _
 
   module _ (h : x ≡ checked.Passed) (y : SlotsMeasured) (ye : measuresOutcome y ≡ slotsMeasured s a b c O) where
-    then-from : andThen (measuresOutcome y) (λ m. plannedFrom a b c s m start O) ≡ plannedBlocks a b c n page start O
+    then-from : andThen (measuresOutcome y) (λ m. plannedFrom a b c (undefinedAddr O) s m start O) ≡ plannedBlocks a b c n page start O
     unfolding plannedBlocks
     then-from =
-        ap (λ (z : Outcome Measures). andThen z (λ m. plannedFrom a b c s m start O)) ye
+        ap (λ (z : Outcome Measures). andThen z (λ m. plannedFrom a b c (undefinedAddr O) s m start O)) ye
         ∙ tests-pass a b c n page O x xe h _
 
     pub blocks-measured : (r : Refusal) → y ≡ slots.Refused r → refused r ≡ plannedBlocks a b c n page start O
     unfolding andThen
-    blocks-measured r g = ap (λ (z : SlotsMeasured). andThen (measuresOutcome z) (λ m. plannedFrom a b c s m start O)) (sym g) ∙ then-from
+    blocks-measured r g = ap (λ (z : SlotsMeasured). andThen (measuresOutcome z) (λ m. plannedFrom a b c (undefinedAddr O) s m start O)) (sym g) ∙ then-from
 
     module _ (m : Measures) (g : y ≡ slots.Are m) where
-      pub blocks-from : plannedFrom a b c s m start O ≡ plannedBlocks a b c n page start O
+      pub blocks-from : plannedFrom a b c (undefinedAddr O) s m start O ≡ plannedBlocks a b c n page start O
       unfolding andThen
-      blocks-from = ap (λ (z : SlotsMeasured). andThen (measuresOutcome z) (λ m. plannedFrom a b c s m start O)) (sym g) ∙ then-from
+      blocks-from = ap (λ (z : SlotsMeasured). andThen (measuresOutcome z) (λ m. plannedFrom a b c (undefinedAddr O) s m start O)) (sym g) ∙ then-from
 
       pub blocks-ready : Ready a b c s O m
       unfolding slotsMeasured
@@ -202,7 +214,7 @@ module _ (a b c : List ℕ) (n : Counts) (page start O : ℕ) (x : Checked) (xe 
           let r = first-shows (sizeTests O (inLarge s a b c)) _ m (q .1) in
           let e : answer (measuresOf s a b c O) ≡ answer m = r .1 in
           record {
-            low = t .low;
+            width = width-in O (t .low) (t .high);
             given = large-given a b c n page O t;
             fits-a = t .late-x;
             fits-b = t .late-y;
@@ -219,7 +231,7 @@ pub record Accepted (a b c : List ℕ) (n : Counts) (page start O : ℕ) (p : Bl
   pub plan : p ≡ blocksAt O start (measuresOf (paged n page) a b c O)
   pub end : endAt start (measuresOf (paged n page) a b c O) ≤ top
   pub once : repeats (inLarge (paged n page) a b c) ≡ false
-  pub narrow : wideManagers O (managersAt O start (measuresOf (paged n page) a b c O)) ≡ false
+  pub narrow : wideManagers (undefinedAddr O) (managersAt O start (measuresOf (paged n page) a b c O)) ≡ false
   pub narrow-sections : wideSections (paged n page) a b c O ≡ false
 
 module _ (a b c : List ℕ) (n : Counts) (page start O : ℕ) (p : BlocksPlan) (e : plannedBlocks a b c n page start O ≡ answer p) where
@@ -228,17 +240,17 @@ module _ (a b c : List ℕ) (n : Counts) (page start O : ℕ) (p : BlocksPlan) (
   accepted =
       let s = paged n page in
       let f = first-shows (runTests a b c n page O) _ p e in
-      let g = then-answers (slotsMeasured s a b c O) (λ m. plannedFrom a b c s m start O) p (f .1) in
+      let g = then-answers (slotsMeasured s a b c O) (λ m. plannedFrom a b c (undefinedAddr O) s m start O) p (f .1) in
       let m = g .0 in
       let p0 = first-shows (sizeTests O (inSlot0 s a b c)) _ m (g .1) in
       let p2 = first-shows (sizeTests O (inSlot2 s a b c)) _ m (p0 .1) in
       let p6 = first-shows (sizeTests O (inLarge s a b c)) _ m (p2 .1) in
       let me : answer (measuresOf s a b c O) ≡ answer m = p6 .1 in
       let mm : m ≡ measuresOf s a b c O = cc in
-      let q : plannedFrom a b c s (measuresOf s a b c O) start O ≡ answer p = ap (λ (x : Measures). plannedFrom a b c s x start O) (sym mm) ∙ g .2 in
+      let q : plannedFrom a b c (undefinedAddr O) s (measuresOf s a b c O) start O ≡ answer p = ap (λ (x : Measures). plannedFrom a b c (undefinedAddr O) s x start O) (sym mm) ∙ g .2 in
       let k = first-shows _ _ p q in
       let pe : answer (blocksAt O start (measuresOf s a b c O)) ≡ answer p = k .1 in
-      let w = or-false (wideManagers O (managersAt O start (measuresOf s a b c O))) (wideSections s a b c O) (k .0 .1 .1 .0) in
+      let w = or-false (wideManagers (undefinedAddr O) (managersAt O start (measuresOf s a b c O))) (wideSections s a b c O) (k .0 .1 .1 .0) in
       record {
         tested = tests-show a b c n page O checked.Passed (sym (first-pass (runTests a b c n page O) (answer tt) (f .0))) refl;
         sum0 = ltb-false top _ (p0 .0 .0);

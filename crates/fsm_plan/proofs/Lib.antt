@@ -3,6 +3,7 @@ pub mod SharingLaws
 pub mod OrderLaws
 pub mod SmallLaws
 pub mod LargeLaws
+pub mod LimitLaws
 pub mod AllPiecesLaws
 pub mod RunsLaws
 pub mod MeasureLaws

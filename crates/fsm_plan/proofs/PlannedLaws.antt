@@ -8,7 +8,7 @@ use mathlib.Core.List.{List, [], _∷_, _++_, map, append-nil, append-assoc}
 use lib.Dec.{eqb}
 use lib.ListN.{length, replicate, length-append, length-replicate}
 use borrow.Author.Tests.{ne-eqb}
-use Rattle.fields.specs.Ranges.{top}
+use Rattle.fields.specs.Ranges.{undefinedAddr}
 use Rattle.fsm_sections.specs.declared.FreeSection.{FreeSection}
 use Rattle.fsm_sections.specs.Sections.{times, bySizeThenAddr}
 use Rattle.fsm_sections.specs.Pages.{end, slot0, slot2, slot6, among, holding}
@@ -22,7 +22,7 @@ use Rattle.fsm_blocks.proofs.WrittenLaws.{length-fshd, length-fsse}
 use Rattle.fsm_plan.specs.declared.blocks.Measures.{Measures}
 use Rattle.fsm_plan.specs.Managers.{Manager, manager, managersOf, managerSize, managerBytes, sizeOf, slotsFrom, blocksFrom}
 use Rattle.fsm_plan.specs.Order.{turned, byAddr, InOrder}
-use Rattle.fsm_plan.specs.Blocks.{measureOf, managersAt, endAt}
+use Rattle.fsm_plan.specs.Blocks.{measureOf, endAt}
 use Rattle.fsm_plan.proofs.OrderLaws.{turned-twice, times-turned}
 
 -- ---- the order by address: sections stand in it, each as often as before (`by-addr`: there is no other such list)
@@ -125,9 +125,12 @@ module _ (O page : ℕ) (meta raw unclassified : List FreeSection) where
     plan-end = omega (arith, plan-size)
 
     -- each slot with sections has its FSHD where the blocks of those before it end, from `start` on
+    abbrev headAt : List FreeSection → ℕ → ℕ
+    headAt l a = cond (eqb (length l) 0) (undefinedAddr O) a
+
     pub plan-slots : slotsFrom O (startingSet O) start (managersOf page meta raw unclassified)
-        ≡ managersAt O start measures .slot0 .«fshd_addr» ∷ top ∷ managersAt O start measures .slot2 .«fshd_addr» ∷ top ∷ top ∷ top
-        ∷ managersAt O start measures .slot6 .«fshd_addr» ∷ top ∷ top ∷ top ∷ top ∷ top ∷ []
+        ≡ headAt l0 start ∷ undefinedAddr O ∷ headAt l2 (start + blocksSize O l0) ∷ undefinedAddr O ∷ undefinedAddr O ∷ undefinedAddr O
+        ∷ headAt l6 (start + blocksSize O l0 + blocksSize O l2) ∷ undefinedAddr O ∷ undefinedAddr O ∷ undefinedAddr O ∷ undefinedAddr O ∷ undefinedAddr O ∷ []
     unfolding slotsFrom
     plan-slots =
         let b = start + blocksSize O l0 in

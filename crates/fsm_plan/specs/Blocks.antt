@@ -1,5 +1,6 @@
 -- `plan_blocks`: how many sections slots 0, 2 and 6 have, how long their blocks are, and where they stand. Assumes nothing.
--- In quotes: document 01's words, from "Pages and slots", from the refusal of that number or from the heading named.
+-- In quotes: document 01's words, from "Pages and slots", from the refusal of that number or from the heading named, or those of document 02's
+-- request that is named.
 --   paged            three counts and a page size together
 --   inSlot0, inSlot2, inLarge   the sections of slots 0, 2 and 6: "metadata pieces below a page go to slot 0, raw ones to slot 2, whole pages of
 --                    either to slot 6 with unclassified sections unsplit"
@@ -7,25 +8,28 @@
 --   sizeTests        refusal 4: "a sum of section sizes", or the blocks' length, exceeds 2^64 - 1
 --   measureOf        the sum of the sizes of sections, their number and the length of their blocks; measured the same after sizeTests
 --   measuresOf       of the sections of slots 0, 2 and 6; slotsMeasured the same after the tests of each
---   addressIn        a block's address in a slot of n sections: the undefined one where it has none
+--   addressIn        a block's address in a slot of n sections: the undefined one of 8 bytes where it has none, at every offset size
 --   blockAt          the blocks of a slot from an address on: "Non-empty slots get FSHD then FSSE", and the class of its sections
 --   endAt            where the blocks of all slots end
 --   managersAt       the blocks "from `start` on, in order 0, 2, 6"; "Class 1 for slots 0 and 2, class 2 for slot 6"; and the end
 --   slotsBy          the twelve slots of the message by a plan ("The save": "unused ones all one bits")
 --   blocksAt         with the measures
---   wideBlock        a slot has blocks, and an address of one does not fit O bytes; wideManagers one of the three has
+--   wideBlock        a slot has blocks, and one begins at an address that is not below a limit; wideManagers one of the three has
 --   Placed           the blocks end within 64 bits, and those of a slot with sections have room for its FSHD: for contracts of private functions
 --   runTests         refusals 1, 2, 3, and 4 for a region that ends above top ("address plus length")
---   plannedFrom      refusals 4 (the end: "a planned address"), 5 ("two slot 6 sections have one address"), 12; the plan
+--   plannedFrom      refusals 4 (the end: "a planned address"), 5 ("two slot 6 sections have one address"), 12 for a block that does not begin below
+--                    the limit and for a section's address ("a written address doesn't fit the offset size"); the plan
+--   plannedBelow     refusals 1 to 4 of the runs, 4 of each slot, and then plannedFrom
+--   plannedBlocks    `plan_blocks`: the limit is the undefined address of O bytes. A block that begins below it has an address that fits, and that no
+--                    reader skips (P2: "a plan that begins a block there is 12")
 --   Ready            what holds after runTests and slotsMeasured: for contracts of private functions
---   plannedBlocks    `plan_blocks`: refusals 1 to 4 of the runs, 4 of each slot, and then plannedFrom
 --   measuredOutcome, measuresOutcome, blocksOutcome   the outcome that an answer of the code stands for ("Language forms": "for every case of the
 --                    enum")
 use mathlib.Core.Path.{_≡_}
 use Prim.Native.Nat.{ℕ, _+_, _≤_}
 use mathlib.Core.Bool.{Bool, false, cond, _&&_, _||_, not}
 use mathlib.Core.List.{List, [], _∷_}
-use lib.Dec.{ltb, eqb}
+use lib.Dec.{ltb, leb, eqb}
 use lib.ListN.{length}
 use Rattle.error.specs.declared.Refusal.the-variants.{Width, Page, NotAList, Overflow, SharedAddress, WideAddress}
 use Rattle.error.specs.Outcome.{Outcome, answer, refused, Condition, when, firstOf, andThen}
@@ -36,7 +40,7 @@ use Rattle.fsm_sections.specs.declared.FreeSection.{FreeSection}
 use Rattle.fsm_sections.specs.Sections.{decode, space}
 use Rattle.fsm_sections.specs.Pages.{slot0, slot2, slot6}
 use Rattle.fsm_sections.specs.Sources.{Given}
-use Rattle.fsm_sections.specs.Runs.{endsAbove, wide, anyWide}
+use Rattle.fsm_sections.specs.Runs.{endsAbove, anyWide}
 use Rattle.fsm_blocks.specs.Fshd.{fshdSize}
 use Rattle.fsm_blocks.specs.Settings.{blocksSize}
 use Rattle.fsm_plan.specs.declared.Counts.{Counts}
@@ -120,10 +124,10 @@ abbrev pub blocksAt : ℕ → ℕ → Measures → BlocksPlan
 blocksAt O start m = record { managers = managersAt O start m; measures = m }
 
 abbrev pub wideBlock : ℕ → PagedManagerBlock → Bool
-wideBlock O b = not (eqb (b .count) 0) && (wide O (b .«fshd_addr») || wide O (b .«fsse_addr»))
+wideBlock limit b = not (eqb (b .count) 0) && (leb limit (b .«fshd_addr») || leb limit (b .«fsse_addr»))
 
 abbrev pub wideManagers : ℕ → PagedManagerPlan → Bool
-wideManagers O p = wideBlock O (p .slot0) || (wideBlock O (p .slot2) || wideBlock O (p .slot6))
+wideManagers limit p = wideBlock limit (p .slot0) || (wideBlock limit (p .slot2) || wideBlock limit (p .slot6))
 
 pub record Placed (O start : ℕ) (m : Measures) : Type 0 where
   pub end : endAt start m ≤ top
@@ -142,23 +146,26 @@ module _ (a b c : List ℕ) where
       ∷ when (endsAbove (decode (n .meta) a) || (endsAbove (decode (n .raw) b) || endsAbove (decode (n .unclassified) c))) Overflow
       ∷ []
 
-  unfoldable pub plannedFrom : Paged → Measures → ℕ → ℕ → Outcome BlocksPlan
-  plannedFrom s m start O =
+  unfoldable pub plannedFrom : ℕ → Paged → Measures → ℕ → ℕ → Outcome BlocksPlan
+  plannedFrom limit s m start O =
       firstOf
       (when (ltb top (endAt start m)) Overflow
       ∷ when (repeats (inLarge s a b c)) SharedAddress
-      ∷ when (wideManagers O (managersAt O start m) || wideSections s a b c O) WideAddress
+      ∷ when (wideManagers limit (managersAt O start m) || wideSections s a b c O) WideAddress
       ∷ [])
       (answer (blocksAt O start m))
 
-  unfoldable pub plannedBlocks : Counts → ℕ → ℕ → ℕ → Outcome BlocksPlan
-  plannedBlocks n page start O =
+  abbrev pub plannedBelow : ℕ → Counts → ℕ → ℕ → ℕ → Outcome BlocksPlan
+  plannedBelow limit n page start O =
       let s = paged n page in
       firstOf (runTests n page O)
-      (andThen (slotsMeasured s a b c O) (λ m. plannedFrom s m start O))
+      (andThen (slotsMeasured s a b c O) (λ m. plannedFrom limit s m start O))
+
+  unfoldable pub plannedBlocks : Counts → ℕ → ℕ → ℕ → Outcome BlocksPlan
+  plannedBlocks n page start O = plannedBelow (undefinedAddr O) n page start O
 
   pub record Ready (s : Paged) (O : ℕ) (m : Measures) : Type 0 where
-    pub low : 1 ≤ O
+    pub width : not (validWidth O) ≡ false
     pub given : Given (sourceOf s) a b c
     pub fits-a : endsAbove (decode (s .na) a) ≡ false
     pub fits-b : endsAbove (decode (s .nb) b) ≡ false

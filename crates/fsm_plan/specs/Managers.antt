@@ -8,13 +8,14 @@
 --   managerBytes   a manager's blocks at an address: "Non-empty slots get FSHD then FSSE"
 --   sizeOf         how many bytes the blocks of managers occupy ("The save": "L block bytes")
 --   blocksFrom     the blocks of managers "from `start` on, in order 0, 2, 6"
---   slotsFrom      where each manager's FSHD then stands; one without sections has the undefined address ("The save": "unused ones all one bits")
+--   slotsFrom      where each manager's FSHD then stands, as O bytes hold it; one without sections has the undefined address ("The save": "unused
+--                  ones all one bits")
 use Prim.Native.Nat.{ℕ, _+_}
 use mathlib.Core.Bool.{cond}
 use mathlib.Core.List.{List, [], _∷_, _++_}
 use lib.Dec.{eqb}
 use lib.ListN.{length, replicate}
-use Rattle.fields.specs.Ranges.{top}
+use Rattle.fields.specs.Ranges.{undefinedAddr}
 use Rattle.fsm_sections.specs.declared.FreeSection.{FreeSection}
 use Rattle.fsm_sections.specs.Pages.{slot0, slot2, slot6}
 use Rattle.fsm_blocks.specs.Fshd.{fshdBytes, fshdSize}
@@ -45,7 +46,7 @@ module _ (O : ℕ) (set : Settings) where
 
   unfoldable pub slotsFrom : ℕ → List Manager → List ℕ
   slotsFrom a [] = []
-  slotsFrom a (m ∷ ms) = cond (eqb (length (m .sections)) 0) top a ∷ slotsFrom (a + managerSize m) ms
+  slotsFrom a (m ∷ ms) = cond (eqb (length (m .sections)) 0) (undefinedAddr O) a ∷ slotsFrom (a + managerSize m) ms
 
   module _ (sum : List ℕ → ℕ) where
     abbrev pub managerBytes : ℕ → Manager → List ℕ

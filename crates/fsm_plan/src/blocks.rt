@@ -3,7 +3,7 @@ ghost use mathlib.Core.Path.{_≡_};
 ghost use Prim.Native.Nat.{_+_, _≤_, _<_};
 ghost use mathlib.Core.Bool.{_&&_};
 ghost use lib.Dec.{ltb, eqb};
-ghost use Rattle.fields.specs.Ranges.{top};
+ghost use Rattle.fields.specs.Ranges.{top, undefinedAddr};
 ghost use Rattle.fsm_blocks.specs.Fshd.{fshdSize};
 ghost use Rattle.fsm_plan.specs.Blocks.{blockAt, endAt, managersAt, wideBlock, wideManagers, Placed, slotsMeasured, measuresOutcome};
 ghost use Rattle.fsm_plan.specs.Blocks.{slotsBy, paged, Ready, plannedFrom, plannedBlocks, blocksOutcome};
@@ -21,7 +21,7 @@ use crate::sharing::is_shared;
 use error::Checked;
 use error::Refusal;
 use fields::convert::UNDEF;
-use fsm_sections::wide::is_wide;
+use fields::convert::undefined_addr;
 use numbers::MAX;
 
 // The class of the sections of slots 0 and 2, and of those of slot 6.
@@ -29,8 +29,8 @@ pub const SECT_CLASS_SMALL: u8 = 1;
 
 pub const SECT_CLASS_LARGE: u8 = 2;
 
-// The blocks of a slot, the class that its sections carry, and how many it has. A slot without sections has no blocks, and the undefined
-// address for both.
+// The blocks of a slot, the class that its sections carry, and how many it has. A slot without sections has no blocks, and for both the
+// undefined address of 8 bytes, at every offset size.
 pub struct PagedManagerBlock {
     pub fshd_addr: u64,
     pub fsse_addr: u64,
@@ -60,7 +60,8 @@ impl PagedManagerPlan {
         self.slot6.count == 0
     }
 
-    // The twelve slots of the message: the addresses of the headers, and the undefined one for a slot without blocks.
+    // The twelve slots of the message: the addresses of the headers, and for a slot without blocks the undefined one of 8 bytes. Stored in
+    // fewer bytes this is the undefined one of those.
     pub fn slots(self) -> [u64; 12]
         ensures { λ r. ⌜ r ≡ slotsBy self ⌝ }
     {
@@ -186,30 +187,30 @@ fn managers_at(start: u64, m: Measures, offset_size: u8) -> PagedManagerPlan
     }
 }
 
-// Whether the address of a slot's block does not fit o bytes.
-fn wide_block(b: PagedManagerBlock, o: usize) -> bool
-    ensures { λ r. ⌜ r ≡ wideBlock o b ⌝ }
+// Whether a slot has blocks, and one begins at `limit` or after it.
+fn wide_block(b: PagedManagerBlock, limit: u64) -> bool
+    ensures { λ r. ⌜ r ≡ wideBlock limit b ⌝ }
 {
     if b.count == 0 {
         return false;
     }
-    if is_wide(b.fshd_addr, o) {
+    if limit <= b.fshd_addr {
         return true;
     }
-    is_wide(b.fsse_addr, o)
+    limit <= b.fsse_addr
 }
 
-// Whether the address of a block does not.
-fn wide_managers(p: PagedManagerPlan, o: usize) -> bool
-    ensures { λ r. ⌜ r ≡ wideManagers o p ⌝ }
+// Whether a block of any slot does.
+fn wide_managers(p: PagedManagerPlan, limit: u64) -> bool
+    ensures { λ r. ⌜ r ≡ wideManagers limit p ⌝ }
 {
-    if wide_block(p.slot0, o) {
+    if wide_block(p.slot0, limit) {
         return true;
     }
-    if wide_block(p.slot2, o) {
+    if wide_block(p.slot2, limit) {
         return true;
     }
-    wide_block(p.slot6, o)
+    wide_block(p.slot6, limit)
 }
 
 // The plan after the tests of the runs and of the slots' sums: refusals 4 for the end, 5 and 12.
@@ -223,7 +224,8 @@ fn plan_from(
     offset_size: u8,
 ) -> BlocksPlanned
     requires { ⌜ Ready (now meta) (now raw) (now unclassified) s «offset_size» m ⌝ }
-    ensures { λ r. ⌜ blocksOutcome r ≡ plannedFrom (now (meta .entry)) (now (raw .entry)) (now (unclassified .entry)) s m start «offset_size» ⌝ }
+    ensures { λ r. ⌜ blocksOutcome r ≡ plannedFrom (now (meta .entry)) (now (raw .entry)) (now (unclassified .entry))
+        (undefinedAddr «offset_size») s m start «offset_size» ⌝ }
 {
     if ends_late(start, m) {
         return BlocksPlanned::Refused(Refusal::Overflow);
@@ -232,11 +234,11 @@ fn plan_from(
         return BlocksPlanned::Refused(Refusal::SharedAddress);
     }
     let managers = managers_at(start, m, offset_size);
-    let o = offset_size as usize;
-    if wide_managers(managers, o) {
+    // A block at the undefined address would be skipped by every reader; above it, the address does not fit.
+    if wide_managers(managers, undefined_addr(offset_size)) {
         return BlocksPlanned::Refused(Refusal::WideAddress);
     }
-    if wide_slots(meta, raw, unclassified, s, o) {
+    if wide_slots(meta, raw, unclassified, s, offset_size as usize) {
         return BlocksPlanned::Refused(Refusal::WideAddress);
     }
     BlocksPlanned::Plan(BlocksPlan {

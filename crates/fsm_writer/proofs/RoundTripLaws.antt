@@ -6,13 +6,13 @@ use mathlib.Core.Bool.{true, false, not}
 use mathlib.Core.List.{List, [], _∷_, _++_, append-nil}
 use borrow.Author.Tests.{not-false, ltb-false, leb-true, leb-false, le-ltb, eq-eqb}
 use lib.Dec.{leb}
-use lib.ListN.{length, take, drop, length-take, length-drop}
+use lib.ListN.{length, take}
 use Rattle.error.specs.Outcome.{Outcome, answer, nothing, refuse, firstOf, andThen}
 use Rattle.error.specs.Lent.{With, with, over}
 use Rattle.error.proofs.TestLaws.{and-true, or-false}
 use Rattle.error.proofs.OutcomeLaws.{first-answers}
 use Rattle.fields.specs.Ranges.{top}
-use Rattle.fields.specs.Layout.{FieldFits, window}
+use Rattle.fields.specs.Layout.{FieldFits}
 use Rattle.fields.specs.Width.{encSize, validWidth}
 use Rattle.fields.proofs.WidthLaws.{width-in}
 use Rattle.checksum.specs.Lookup3.{lookup3}
@@ -28,7 +28,7 @@ use Rattle.fsm_blocks.specs.Settings.{startingSet, widthsFor, headerFor, fsseFo
 use Rattle.fsm_blocks.specs.Reading.{readManager, joined, intoRun, parsedFsse, persisted}
 use Rattle.fsm_blocks.specs.Named.{managerCount}
 use Rattle.fsm_blocks.proofs.WrittenLaws.{length-fshd, length-fsse, fshd-read, fsse-read}
-use Rattle.fsm_blocks.proofs.ImageLaws.{manager-read, slots-none, slots-more}
+use Rattle.fsm_blocks.proofs.ImageLaws.{held, manager-read, slots-none, slots-more}
 use Rattle.fsm_writer.specs.Serializing.{ofRun, writtenFshd, writtenFsse}
 use Rattle.fsm_sections.specs.Runs.{wide, anyOf, anyWide}
 use Rattle.fsm_writer.specs.Writing.{written}
@@ -119,22 +119,18 @@ module _ (O : ℕ) (run : List ℕ) (n : ℕ) where
 
 -- ---- so every number fits its field
 
-sections-fit : (c O : ℕ) (l : List FreeSection) → anyWide O l ≡ false → space l ≤ top → All (SectionFits (written c O)) l
+pub sections-fit : (c O : ℕ) (l : List FreeSection) → anyWide O l ≡ false → space l ≤ top → All (SectionFits (written c O)) l
 unfolding anyOf space
 sections-fit c O [] e h = tt
 sections-fit c O (s ∷ l) e h =
     let q = or-false (wide O (s .addr)) (anyWide O l) e in
     (record { addr-fits = fits O (s .addr) (q .0); size-fits = omega arith }, sections-fit c O l (q .1) (omega arith))
 
-row-fits : (O fsse : ℕ) (l : List FreeSection) → O ≤ 8 → fsse < 256 ^ O → space l ≤ top → fsseUsed O (startingSet O) l < 2 ^ 64
+pub row-fits : (O fsse : ℕ) (l : List FreeSection) → O ≤ 8 → fsse < 256 ^ O → space l ≤ top → fsseUsed O (startingSet O) l < 2 ^ 64
     → All FieldFits (fshdRow O (headerFor O (startingSet O) fsse l))
 row-fits O fsse l o f s u = let few : length l ≤ fsseUsed O (startingSet O) l = omega arith in omega arith
 
 -- ---- and what fits is read back
-
--- what stands whole at a place lies within the bytes
-inside : (p : ℕ) (bytes b : List ℕ) → window p (length b) bytes ≡ b → 0 < length b → p + length b ≤ length bytes
-inside p bytes b e h = omega (arith, length-take (length b) (drop p bytes), length-drop p bytes, ap length e)
 
 -- sections that are read, into a lent run with room
 module _ (l : List FreeSection) (out : List ℕ) (even : length out % 2 ≡ 0) (room : length l ≤ length out / 2) where
@@ -188,8 +184,8 @@ module _ (O : ℕ) (l : List FreeSection) (fshd fsse class : ℕ) (low : 1 ≤ O
   module _ (base : ℕ) (bytes : List ℕ) (s : Standing O l fshd fsse header list base bytes) where
     read : readManager O base fshd bytes ≡ answer (bySizeThenAddr l)
     read =
-        let p = inside (fshd + base) bytes header (s .header-there) (omega (arith, length-header)) in
-        let q = inside (fsse + base) bytes list (s .list-there) (omega (arith, length-list)) in
+        let p = held (fshd + base) (length header) bytes header (s .header-there) refl (omega (arith, length-header)) in
+        let q = held (fsse + base) (length list) bytes list (s .list-there) refl (omega (arith, length-list)) in
         manager-read lookup3 O base (startingSet O) fshd fsse class l bytes
         (record {
           slot-defined = s .fshd-defined;

@@ -1,18 +1,18 @@
 -- What an accepted plan says: the sections that it puts, and that no writer refuses the blocks of its slots. Assumes nothing.
 use mathlib.Core.Path.{_≡_, sym, ap, _∙_}
-use Prim.Native.Nat.{ℕ, _+_, _/_, _%_, _≤_}
+use Prim.Native.Nat.{ℕ, _+_, _/_, _%_, _^_, _≤_, _<_}
 use native.Mathlib.Omega.{arith}
-use mathlib.Core.Bool.{Bool, true, false, _&&_, _||_, not}
+use mathlib.Core.Bool.{true, false, _||_, not}
 use mathlib.Core.List.{List, [], _∷_}
 use lib.Dec.{ltb, eqb}
 use lib.ListN.{length}
-use borrow.Author.Tests.{le-leb, le-ltb, eq-eqb, ne-eqb}
+use borrow.Author.Tests.{le-leb, lt-leb, le-ltb, eq-eqb}
 use Rattle.error.specs.declared.Refusal.the-variants.{Width, Page, NotAList, OverCapacity}
 use Rattle.error.specs.Outcome.{answer, Condition, when, firstOf, andThen}
 use Rattle.error.specs.Lent.{With, with, over}
 use Rattle.error.proofs.TestLaws.{or-false}
 use Rattle.error.proofs.OutcomeLaws.{first-answers}
-use Rattle.fields.specs.Ranges.{top}
+use Rattle.fields.specs.Ranges.{top, undefinedAddr}
 use Rattle.fields.specs.Width.{validWidth}
 use Rattle.pairs.specs.Pairs.{isEven}
 use Rattle.checksum.specs.Lookup3.{lookup3}
@@ -24,15 +24,15 @@ use Rattle.fsm_sections.proofs.SlotLaws.{same-order}
 use Rattle.fsm_sections.proofs.SpaceLaws.{space-sorted}
 use Rattle.fsm_blocks.specs.Fshd.{fshdBytes, fshdSize}
 use Rattle.fsm_blocks.specs.Settings.{startingSet, headerFor, fsseFor, fsseUsed, blocksSize}
-use Rattle.fsm_blocks.proofs.LengthLaws.{size-some}
 use Rattle.fsm_plan.specs.declared.Counts.{Counts}
 use Rattle.fsm_plan.specs.declared.chains.Paged.{Paged}
 use Rattle.fsm_plan.specs.declared.blocks.PagedManagerBlock.{PagedManagerBlock}
 use Rattle.fsm_plan.specs.declared.blocks.PagedManagerPlan.{PagedManagerPlan}
 use Rattle.fsm_plan.specs.declared.blocks.BlocksPlan.{BlocksPlan}
-use Rattle.fsm_plan.specs.Blocks.{paged, inSlot0, inSlot2, inLarge, measureOf, measuresOf, addressIn, blockAt, managersAt, wideBlock, plannedBlocks}
+use Rattle.fsm_plan.specs.Blocks.{paged, inSlot0, inSlot2, inLarge, measureOf, measuresOf, blockAt, managersAt, wideBlock, plannedBlocks}
 use Rattle.fsm_plan.specs.Plan.{planSections, planCount, plannedInto, planned}
 use Rattle.fsm_plan.proofs.BlocksLaws.{first-shows, then-answers, Accepted, accepted}
+use Rattle.fsm_plan.proofs.LimitLaws.{block-below}
 use Rattle.fsm_writer.specs.Serializing.{ofRun, writtenFshd, writtenFsse}
 
 -- ---- the writers accept its blocks
@@ -45,8 +45,8 @@ pub record Writable (O fshd fsse : ℕ) (l : List FreeSection) : Type 0 where
   pub fshd-fits : (length l ≡ 0 → ⊥) → wide O fshd ≡ false
   pub fsse-fits : (length l ≡ 0 → ⊥) → wide O fsse ≡ false
   -- a reading skips neither: the premise of the round trip
-  pub fshd-defined : (length l ≡ 0 → ⊥) → fshd ≡ top → ⊥
-  pub fsse-defined : (length l ≡ 0 → ⊥) → fsse ≡ top → ⊥
+  pub fshd-defined : (length l ≡ 0 → ⊥) → fshd ≡ undefinedAddr O → ⊥
+  pub fsse-defined : (length l ≡ 0 → ⊥) → fsse ≡ undefinedAddr O → ⊥
 
 -- a run that holds these sections, in whatever order
 module _ (O fshd fsse : ℕ) (l : List FreeSection) (w : Writable O fshd fsse l) (some : length l ≡ 0 → ⊥) (run : List ℕ) (n : ℕ)
@@ -80,31 +80,21 @@ module _ (O fshd fsse : ℕ) (l : List FreeSection) (w : Writable O fshd fsse l)
 -- ---- an accepted plan
 
 module _ (O : ℕ) (v : validWidth O ≡ true) (l : List FreeSection) (class a : ℕ) (b : PagedManagerBlock) where
-  slot-writable : b ≡ blockAt O class a (measureOf O l) → space l ≤ top → anyWide O l ≡ false → wideBlock O (blockAt O class a (measureOf O l)) ≡ false
-      → a + blocksSize O l ≤ top → Writable O (b .«fshd_addr») (b .«fsse_addr») l
-  slot-writable be z n w k = record {
+  slot-writable : b ≡ blockAt O class a (measureOf O l) → space l ≤ top → anyWide O l ≡ false → wideBlock (undefinedAddr O) (blockAt O class a (measureOf O l)) ≡ false
+      → Writable O (b .«fshd_addr») (b .«fsse_addr») l
+  slot-writable be z n w = record {
     width = v;
     small = z;
     addresses = n;
-    fshd-fits = λ h. ap (wide O) fshd ∙ narrow-block h .0;
-    fsse-fits = λ h. ap (wide O) fsse ∙ narrow-block h .1;
-    fshd-defined = λ h q. omega (arith, k, size-some O l h, fshd ∙ is h a);
-    fsse-defined = λ h q. omega (arith, k, size-some O l h, fsse ∙ is h (a + fshdSize O));
+    fshd-fits = λ h. lt-leb (256 ^ O) (b .«fshd_addr») (omega (arith, below h .0));
+    fsse-fits = λ h. lt-leb (256 ^ O) (b .«fsse_addr») (omega (arith, below h .1));
+    fshd-defined = λ h q. omega (arith, below h .0);
+    fsse-defined = λ h q. omega (arith, below h .1);
   }
     where
-      fshd : b .«fshd_addr» ≡ addressIn (length l) a
-      fshd = ap (λ (x : PagedManagerBlock). x .«fshd_addr») be
-
-      fsse : b .«fsse_addr» ≡ addressIn (length l) (a + fshdSize O)
-      fsse = ap (λ (x : PagedManagerBlock). x .«fsse_addr») be
-
-      is : (length l ≡ 0 → ⊥) → (x : ℕ) → addressIn (length l) x ≡ x
-      is h x = rw (ne-eqb (length l) 0 h)
-
-      narrow-block : (length l ≡ 0 → ⊥) → (wide O (addressIn (length l) a) ≡ false) × (wide O (addressIn (length l) (a + fshdSize O)) ≡ false)
-      narrow-block h =
-          or-false (wide O (addressIn (length l) a)) (wide O (addressIn (length l) (a + fshdSize O)))
-          (sym (ap (λ (t : Bool). not t && (wide O (addressIn (length l) a) || wide O (addressIn (length l) (a + fshdSize O)))) (ne-eqb (length l) 0 h)) ∙ w)
+      below : (length l ≡ 0 → ⊥) → (b .«fshd_addr» < undefinedAddr O) × (b .«fsse_addr» < undefinedAddr O)
+      below h =
+          block-below (undefinedAddr O) b (λ e. h (sym (ap (λ (x : PagedManagerBlock). x .count) be) ∙ e)) (ap (wideBlock (undefinedAddr O)) be ∙ w)
 
 module _ (a b c : List ℕ) (n : Counts) (page start O : ℕ) (out : List ℕ) (p : PagedManagerPlan) (mem : List ℕ) (e : planned a b c n page start O out ≡ answer (with p mem)) where
   abbrev s : Paged
@@ -142,8 +132,8 @@ module _ (a b c : List ℕ) (n : Counts) (page start O : ℕ) (out : List ℕ) (
   abbrev b6 : PagedManagerBlock
   b6 = blockAt O 2 (start + blocksSize O (inSlot0 s a b c) + blocksSize O (inSlot2 s a b c)) (measureOf O (inLarge s a b c))
 
-  blocks : (wideBlock O b0 ≡ false) × ((wideBlock O b2 || wideBlock O b6) ≡ false)
-  blocks = or-false (wideBlock O b0) (wideBlock O b2 || wideBlock O b6) (h .narrow)
+  blocks : (wideBlock (undefinedAddr O) b0 ≡ false) × ((wideBlock (undefinedAddr O) b2 || wideBlock (undefinedAddr O) b6) ≡ false)
+  blocks = or-false (wideBlock (undefinedAddr O) b0) (wideBlock (undefinedAddr O) b2 || wideBlock (undefinedAddr O) b6) (h .narrow)
 
   sections : (anyWide O (inSlot0 s a b c) ≡ false) × ((anyWide O (inSlot2 s a b c) || anyWide O (inLarge s a b c)) ≡ false)
   sections = or-false (anyWide O (inSlot0 s a b c)) (anyWide O (inSlot2 s a b c) || anyWide O (inLarge s a b c)) (h .narrow-sections)
@@ -151,14 +141,14 @@ module _ (a b c : List ℕ) (n : Counts) (page start O : ℕ) (out : List ℕ) (
   -- no writer refuses the blocks of its slots, `fshd-accepted`, `fsse-accepted`, and no reading skips them
   pub slot0-writable : Writable O (p .slot0 .«fshd_addr») (p .slot0 .«fsse_addr») (inSlot0 s a b c)
   slot0-writable =
-      slot-writable O valid (inSlot0 s a b c) 1 start (p .slot0) (ap (λ (x : PagedManagerPlan). x .slot0) plan-is) (h .sum0) (sections .0) (blocks .0) (omega (arith, h .end))
+      slot-writable O valid (inSlot0 s a b c) 1 start (p .slot0) (ap (λ (x : PagedManagerPlan). x .slot0) plan-is) (h .sum0) (sections .0) (blocks .0)
 
   pub slot2-writable : Writable O (p .slot2 .«fshd_addr») (p .slot2 .«fsse_addr») (inSlot2 s a b c)
   slot2-writable =
       slot-writable O valid (inSlot2 s a b c) 1 (start + blocksSize O (inSlot0 s a b c)) (p .slot2) (ap (λ (x : PagedManagerPlan). x .slot2) plan-is) (h .sum2)
-      (or-false (anyWide O (inSlot2 s a b c)) (anyWide O (inLarge s a b c)) (sections .1) .0) (or-false (wideBlock O b2) (wideBlock O b6) (blocks .1) .0) (omega (arith, h .end))
+      (or-false (anyWide O (inSlot2 s a b c)) (anyWide O (inLarge s a b c)) (sections .1) .0) (or-false (wideBlock (undefinedAddr O) b2) (wideBlock (undefinedAddr O) b6) (blocks .1) .0)
 
   pub slot6-writable : Writable O (p .slot6 .«fshd_addr») (p .slot6 .«fsse_addr») (inLarge s a b c)
   slot6-writable =
       slot-writable O valid (inLarge s a b c) 2 (start + blocksSize O (inSlot0 s a b c) + blocksSize O (inSlot2 s a b c)) (p .slot6) (ap (λ (x : PagedManagerPlan). x .slot6) plan-is) (h .sum6)
-      (or-false (anyWide O (inSlot2 s a b c)) (anyWide O (inLarge s a b c)) (sections .1) .1) (or-false (wideBlock O b2) (wideBlock O b6) (blocks .1) .1) (omega (arith, h .end))
+      (or-false (anyWide O (inSlot2 s a b c)) (anyWide O (inLarge s a b c)) (sections .1) .1) (or-false (wideBlock (undefinedAddr O) b2) (wideBlock (undefinedAddr O) b6) (blocks .1) .1)

@@ -9,7 +9,8 @@
 -- That numbers fit their fields is no premise, it follows from acceptance: no refusal 12, so each address fits; no refusal 4, so the sizes and
 -- their sum do; no refusal 14, so count and length do, since memory has less than 2^64 bytes.
 --   fieldsOf    the six fields: sum of sizes, count, address bits, greatest size, the list's address and its length
---   Standing    header and list stand whole in bytes, each at its address plus the base; neither address is the undefined one, which a reading skips
+--   Standing    header and list stand whole in bytes, each at its address plus the base; neither address is the undefined one of the offset size,
+--               which a reading skips (document 02, P2)
 --   ReadBack    all this of one pair of blocks
 --   RoundTrip   of every pair that was written
 use Prim.Native.Nat.{ℕ, _+_, _-_, _*_, _/_, _%_, _^_, _≤_, _<_}
@@ -42,8 +43,8 @@ module _ (O : ℕ) (sections : List FreeSection) (fshd fsse : ℕ) (header list 
 
   pub record Standing (base : ℕ) (bytes : List ℕ) : Type 0 where
     pub short : length bytes < 2 ^ 64
-    pub fshd-defined : fshd ≡ undefinedAddr 8 → ⊥
-    pub fsse-defined : fsse ≡ undefinedAddr 8 → ⊥
+    pub fshd-defined : fshd ≡ undefinedAddr O → ⊥
+    pub fsse-defined : fsse ≡ undefinedAddr O → ⊥
     pub header-there : window (fshd + base) (length header) bytes ≡ header
     pub list-there : window (fsse + base) (length list) bytes ≡ list
 

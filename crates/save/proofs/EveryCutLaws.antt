@@ -42,7 +42,7 @@ use Rattle.fsm_plan.proofs.PlannedLaws.{holding-sorted, length-slots, length-bl
 use Rattle.save.specs.Saving.{asSections, small, smallRaw, large, plan, blockLen, blockBytes, slotAddrs, messageOf, filled, begunOf}
 use Rattle.image.specs.Reading.{Listed, inSlot, listed as listedFrom, readImage, countsOf}
 use Rattle.save.specs.EveryCut.{OneSave, oneSave, afterSteps, imageAfter, metadataSlot, rawSlot, largeSlot, plannedInSlots, plannedSections, plannedCounts, OneStoreAStep, ReadInto, EveryCut, inList, freeIn, EveryCutOfLists}
-use Rattle.save.proofs.PlanLaws.{slots-read, sorted}
+use Rattle.stored_managers.proofs.SlotsLaws.{slots-read, sorted}
 use Rattle.save.proofs.FitLaws.{Ends, list-ends, plan-fits, slots-fit, small-plan}
 use Rattle.save.proofs.BeginLaws.{Planned, Accepted, accepted, filled-is, begun-same}
 use Rattle.save.proofs.ReadLaws.{reads-nothing, reads-slots, listed-is, into-is, nothing-into}

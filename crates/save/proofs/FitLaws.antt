@@ -6,12 +6,11 @@ use Prim.Native.Nat.{ℕ, zero, suc, _+_, _-_, _^_, _≤_, _<_}
 use native.Mathlib.Omega.{arith}
 use mathlib.Core.Bool.{Bool, true, false, cond}
 use mathlib.Core.List.{List, [], _∷_, _++_, map}
-use borrow.Author.Tests.{ltb-true, eqb-true}
+use borrow.Author.Tests.{ltb-true, lt-leb, eqb-true}
 use lib.Dec.{lit<, lit≤, ltb, eqb}
 use lib.ListN.{length}
-use Rattle.fields.specs.Ranges.{top}
+use Rattle.fields.specs.Ranges.{top, undefinedAddr}
 use Rattle.fields.specs.Layout.{AllFit}
-use Rattle.fields.specs.Width.{encSize, leastFrom}
 use Rattle.free_regions.specs.declared.FreeRegion.{FreeRegion}
 use Rattle.free_regions.specs.Regions.{end as endOf}
 use Rattle.free_regions.proofs.OkLaws.{Within}
@@ -21,13 +20,15 @@ use Rattle.free_lists.specs.Lists.{Regions}
 use Rattle.fsm_sections.specs.declared.FreeSection.{FreeSection}
 use Rattle.fsm_sections.specs.Sections.{section, space, All}
 use Rattle.fsm_sections.specs.Pages.{end, cutAt, piecesFrom, pieces, split, belowPage, fromPage}
+use Rattle.fsm_sections.specs.Runs.{anyOf, anyWide}
 use Rattle.fsm_sections.proofs.AllLaws.{all-append, all-map}
 use Rattle.fsm_blocks.specs.Fshd.{fshdSize}
 use Rattle.fsm_blocks.specs.Settings.{Settings, startingSet, fsseUsed}
 use Rattle.fsm_plan.specs.Managers.{Manager, managerSize, sizeOf, slotsFrom}
 use Rattle.file_space_info.specs.Message.{addressRow}
 use Rattle.save.specs.Saving.{asSections, small, smallRaw, large, plan}
-use Rattle.save.proofs.PlanLaws.{ManagerFits, PlanFits}
+use Rattle.stored_managers.proofs.SlotsLaws.{ManagerFits, PlanFits}
+use Rattle.stored_managers.proofs.StoredLaws.{pair-fits}
 
 -- ---- where sections end
 
@@ -83,20 +84,11 @@ Small m = (space (m .sections) ≤ top) × All (Ends top) (m .sections)
 abbrev set8 : Settings
 set8 = startingSet 8
 
-eight : encSize (2 ^ 63 - 1) ≡ 8
-unfolding encSize leastFrom
-eight = refl
-
-pair-fits : (a : ℕ) (l : List FreeSection) → a + (fshdSize 8 + fsseUsed 8 set8 l) ≤ top → space l ≤ top → All (Ends top) l → ManagerFits 8 set8 0 a l
-pair-fits a l h s e =
-    let few : length l ≤ fsseUsed 8 set8 l = omega arith in
-    record {
-      room = omega arith;
-      header = omega arith;
-      bits-some = lit< tt;
-      bits-few = lit≤ tt;
-      sections-fit = all-map (λ x k. record { addr-fits = omega arith; size-fits = rw eight (omega arith) }) l e;
-    }
+-- 8 bytes hold every address
+pub narrow-all : (l : List FreeSection) → All (Ends top) l → anyWide 8 l ≡ false
+unfolding anyOf
+narrow-all [] h = refl
+narrow-all (s ∷ l) h = rw (lt-leb (256 ^ 8) (s .addr) (omega (arith, h .0))) (narrow-all l (h .1))
 
 pub plan-fits : (ms : List Manager) (a : ℕ) → a + sizeOf 8 set8 ms ≤ top → All Small ms → PlanFits 8 set8 0 a ms
 unfolding sizeOf
@@ -106,14 +98,14 @@ plan-fits (m ∷ ms) a h s = (fit (eqb (length (m .sections)) 0) (eqb-true (leng
     fit : (t : Bool) → (t ≡ true → length (m .sections) ≡ 0) → a + cond t 0 (fshdSize 8 + (fsseUsed 8 set8 (m .sections) + 0)) ≤ top
         → 0 < length (m .sections) → ManagerFits 8 set8 0 a (m .sections)
     fit true f k n = let z : length (m .sections) ≡ 0 = f refl in absurd (omega arith)
-    fit false f k n = pair-fits a (m .sections) (omega arith) (s .0 .0) (s .0 .1)
+    fit false f k n = pair-fits 8 0 a (m .sections) (lit≤ tt) (lit≤ tt) (omega arith) (omega arith) (s .0 .0) (narrow-all (m .sections) (s .0 .1))
 
 pub slots-fit : (ms : List Manager) (a : ℕ) → a + sizeOf 8 set8 ms ≤ top → AllFit (addressRow 8 (slotsFrom 8 set8 a ms))
 unfolding sizeOf slotsFrom
 slots-fit [] a h = tt
 slots-fit (m ∷ ms) a h = (fit (eqb (length (m .sections)) 0), slots-fit ms (a + managerSize 8 set8 m) (omega arith))
   where
-    fit : (t : Bool) → cond t top a < 256 ^ 8
+    fit : (t : Bool) → cond t (undefinedAddr 8) a < 256 ^ 8
     fit true = lit< tt
     fit false = omega arith
 

@@ -1,4 +1,3 @@
-pub mod PlanLaws
 pub mod FitLaws
 pub mod BeginLaws
 pub mod ReadLaws

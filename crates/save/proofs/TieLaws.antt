@@ -1,12 +1,12 @@
 -- The plan and the blocks of lists' runs are those of the lists' regions. Assumes nothing.
 --   Passed    what refusal 3's test leaves of a run for the plan's own tests
 use mathlib.Core.Path.{_≡_, refl, sym, ap, _∙_}
-use Prim.Native.Nat.{ℕ, _+_, _-_, _/_, _%_, _≤_, _<_, _^_}
+use Prim.Native.Nat.{ℕ, _+_, _/_, _%_, _≤_, _<_}
 use native.Mathlib.Omega.{arith}
-use mathlib.Core.Bool.{Bool, true, false, cond, not, _&&_, _||_}
+use mathlib.Core.Bool.{Bool, true, false, cond, _||_}
 use mathlib.Core.List.{List, [], _∷_, map}
-use borrow.Author.Tests.{le-ltb, le-leb, lt-leb, lt-ltb, eq-eqb, ne-eqb, eqb-false, ltb-true, ltb-false}
-use lib.Dec.{ltb, eqb}
+use borrow.Author.Tests.{le-ltb, le-leb, lt-ltb, eq-eqb, ne-eqb, ltb-true, ltb-false}
+use lib.Dec.{ltb}
 use lib.ListN.{length}
 use Rattle.error.specs.declared.Refusal.the-variants.{Overflow, SharedAddress, WideAddress, OverCapacity}
 use Rattle.error.specs.Outcome.{Outcome, answer, refused, Condition, when, firstOf, andThen}
@@ -29,21 +29,21 @@ use Rattle.free_lists.specs.Lists.{Regions, listsIn, regionsIn, areLists, share
 use Rattle.fsm_sections.specs.declared.FreeSection.{FreeSection}
 use Rattle.fsm_sections.specs.Sections.{section, decode, space, All}
 use Rattle.fsm_sections.specs.Pages.{end, slot0, slot2, slot6}
-use Rattle.fsm_sections.specs.Runs.{endsAbove, wide, anyOf, anyWide}
+use Rattle.fsm_sections.specs.Runs.{endsAbove, anyWide}
 use Rattle.fsm_blocks.specs.Settings.{startingSet, blocksSize}
-use Rattle.fsm_blocks.proofs.LengthLaws.{size-least}
 use Rattle.fsm_plan.specs.declared.Counts.{Counts}
-use Rattle.fsm_plan.specs.declared.measure.Measure.{Measure}
 use Rattle.fsm_plan.specs.declared.blocks.Measures.{Measures}
 use Rattle.fsm_plan.specs.declared.blocks.BlocksPlan.{BlocksPlan}
 use Rattle.fsm_plan.specs.Managers.{managersOf, sizeOf, blocksFrom}
 use Rattle.fsm_plan.specs.Order.{repeats}
-use Rattle.fsm_plan.specs.Blocks.{paged, inSlot0, inSlot2, inLarge, measureOf, measuresOf, slotsMeasured, sizeTests, blockAt, endAt, managersAt, blocksAt, wideBlock, wideManagers, runTests, plannedFrom, plannedBlocks}
+use Rattle.fsm_plan.specs.Blocks.{paged, inSlot0, inSlot2, inLarge, measureOf, measuresOf, slotsMeasured, sizeTests, endAt, managersAt, blocksAt, wideManagers, runTests, plannedFrom, plannedBlocks}
+use Rattle.fsm_plan.proofs.BlocksLaws.{then-first}
+use Rattle.fsm_plan.proofs.LimitLaws.{managers-narrow}
 use Rattle.fsm_plan.proofs.PlannedLaws.{plan-size}
 use Rattle.fsm_writer.specs.Paged.{writtenManagers}
 use Rattle.save.specs.Saving.{asSections, small, smallRaw, large, blockLen, blockBytes, tooLarge}
 use Rattle.save.specs.Beginning.{countsIn}
-use Rattle.save.proofs.FitLaws.{Ends, list-ends, small-plan}
+use Rattle.save.proofs.FitLaws.{Ends, list-ends, narrow-all, small-plan}
 use Rattle.save.proofs.OnceLaws.{slot6-once}
 
 -- ---- a run that is a list passes the plan's tests
@@ -78,16 +78,6 @@ each-list xs ys zs f e =
 
 -- ---- conditions in a row
 
-then-first : {A B : Type 0} (cs : List Condition) (x : Outcome A) (f : A → Outcome B) → andThen (firstOf cs x) f ≡ firstOf cs (andThen x f)
-unfolding firstOf andThen
-then-first [] x f = refl
-then-first {A} {B} (c ∷ cs) x f = pick (c .holds) (then-first cs x f)
-  where
-    pick : (t : Bool) → andThen (firstOf cs x) f ≡ firstOf cs (andThen x f)
-        → andThen (cond t (refused (c .refusal)) (firstOf cs x)) f ≡ cond t (refused (c .refusal)) (firstOf cs (andThen x f))
-    pick true e = refl
-    pick false e = e
-
 -- refusal 4 by seven tests, and by four: the lengths are among the end
 seven : {A : Type 0} (p p′ q q′ r r′ e : Bool) (cs : List Condition) (x : Outcome A) → (p′ ≡ true → e ≡ true) → (q′ ≡ true → e ≡ true) → (r′ ≡ true → e ≡ true)
     → firstOf (when p Overflow ∷ when p′ Overflow ∷ [])
@@ -118,26 +108,6 @@ seven false p′ false q′ false r′ false cs x f g h = rw (no p′ f, no q′
     no : (t : Bool) → (t ≡ true → false ≡ true) → t ≡ false
     no true k = sym (k refl)
     no false k = refl
-
--- ---- 8 bytes hold every address
-
-narrow : (a : ℕ) → a ≤ top → wide 8 a ≡ false
-narrow a h = lt-leb (256 ^ 8) a (omega arith)
-
-narrow-all : (l : List FreeSection) → All (Ends top) l → anyWide 8 l ≡ false
-unfolding anyOf
-narrow-all [] h = refl
-narrow-all (s ∷ l) h = rw (narrow (s .addr) (omega (arith, h .0))) (narrow-all l (h .1))
-
-narrow-block : (class a : ℕ) (m : Measure) → ((m .count ≡ 0 → ⊥) → a + 82 ≤ top) → wideBlock 8 (blockAt 8 class a m) ≡ false
-narrow-block class a m h = pick (eqb (m .count) 0) (eqb-false (m .count) 0)
-  where
-    pick : (t : Bool) → (t ≡ false → m .count ≡ 0 → ⊥) → (not t && (wide 8 (cond t (256 ^ 8 - 1) a) || wide 8 (cond t (256 ^ 8 - 1) (a + 82)))) ≡ false
-    pick true f = refl
-    pick false f = let k : a + 82 ≤ top = h (f refl) in rw (narrow a (omega arith), narrow (a + 82) k)
-
-room : (l : List FreeSection) → (length l ≡ 0 → ⊥) → 82 ≤ blocksSize 8 l
-room l n = omega (arith, size-least 8 l n)
 
 -- ---- the plan of three lists
 
@@ -180,7 +150,7 @@ module _ (page start : ℕ) (rs : Regions) where
       }
 
   abbrev pub wideTest : Bool
-  wideTest = wideManagers 8 (managersAt 8 start M) || (anyWide 8 S || (anyWide 8 R || anyWide 8 G))
+  wideTest = wideManagers top (managersAt 8 start M) || (anyWide 8 S || (anyWide 8 R || anyWide 8 G))
 
   abbrev pub later : List Condition
   later = when (repeats G) SharedAddress ∷ when wideTest WideAddress ∷ []
@@ -200,11 +170,8 @@ module _ (page start : ℕ) (rs : Regions) where
     no-wide e =
         let s = sums e in
         let p = small-plan page rs ends (s .sum0) (s .sum2) (s .sum6) in
-        let a0 : wideBlock 8 (blockAt 8 1 start (M .slot0)) ≡ false = narrow-block 1 start (M .slot0) (λ n. omega (arith, s .last, len-is, room S n)) in
-        let a2 : wideBlock 8 (blockAt 8 1 (start + blocksSize 8 S) (M .slot2)) ≡ false = narrow-block 1 (start + blocksSize 8 S) (M .slot2) (λ n. omega (arith, s .last, len-is, room R n)) in
-        let a6 : wideBlock 8 (blockAt 8 2 (start + blocksSize 8 S + blocksSize 8 R) (M .slot6)) ≡ false =
-        narrow-block 2 (start + blocksSize 8 S + blocksSize 8 R) (M .slot6) (λ n. omega (arith, s .last, len-is, room G n)) in
-        rw (a0, a2, a6, narrow-all S (p .0 .1), narrow-all R (p .1 .1 .0 .1), narrow-all G (p .1 .1 .1 .1 .1 .1 .0 .1))
+        let b : wideManagers top (managersAt 8 start M) ≡ false = managers-narrow top (omega arith) start S R G (omega (arith, s .last, end-is)) in
+        rw (b, narrow-all S (p .0 .1), narrow-all R (p .1 .1 .0 .1), narrow-all G (p .1 .1 .1 .1 .1 .1 .0 .1))
 
 -- ---- by the runs
 
@@ -252,7 +219,7 @@ module _ (xs ys zs : List ℕ) (f : FileLists) (page start : ℕ) (some : 0 < pa
       (firstOf
       (when (ltb top (endAt start (Ms m r u))) Overflow
       ∷ when (repeats (slot6 page m r u)) SharedAddress
-      ∷ when (wideManagers 8 (managersAt 8 start (Ms m r u)) || (anyWide 8 (slot0 page m) || (anyWide 8 (slot2 page r) || anyWide 8 (slot6 page m r u)))) WideAddress
+      ∷ when (wideManagers top (managersAt 8 start (Ms m r u)) || (anyWide 8 (slot0 page m) || (anyWide 8 (slot2 page r) || anyWide 8 (slot6 page m r u)))) WideAddress
       ∷ [])
       (answer (blocksAt 8 start (Ms m r u))))))
 
@@ -260,11 +227,11 @@ module _ (xs ys zs : List ℕ) (f : FileLists) (page start : ℕ) (some : 0 < pa
   unfolding plannedBlocks slotsMeasured plannedFrom andThen
   planned-is =
       first-pass (runTests xs ys zs n page 8) _ runs-pass
-      ∙ then-first (sizeTests 8 (inSlot0 (paged n page) xs ys zs)) _ (λ m. plannedFrom xs ys zs (paged n page) m start 8)
+      ∙ then-first (sizeTests 8 (inSlot0 (paged n page) xs ys zs)) _ (λ m. plannedFrom xs ys zs top (paged n page) m start 8)
       ∙ ap (firstOf (sizeTests 8 (inSlot0 (paged n page) xs ys zs)))
-      (then-first (sizeTests 8 (inSlot2 (paged n page) xs ys zs)) _ (λ m. plannedFrom xs ys zs (paged n page) m start 8)
+      (then-first (sizeTests 8 (inSlot2 (paged n page) xs ys zs)) _ (λ m. plannedFrom xs ys zs top (paged n page) m start 8)
       ∙ ap (firstOf (sizeTests 8 (inSlot2 (paged n page) xs ys zs)))
-      (then-first (sizeTests 8 (inLarge (paged n page) xs ys zs)) (answer (measuresOf (paged n page) xs ys zs 8)) (λ m. plannedFrom xs ys zs (paged n page) m start 8)))
+      (then-first (sizeTests 8 (inLarge (paged n page) xs ys zs)) (answer (measuresOf (paged n page) xs ys zs 8)) (λ m. plannedFrom xs ys zs top (paged n page) m start 8)))
       ∙ (λ i. planOf (e0 i) (e2 i) (e6 i))
       ∙ in-four page start rs
 

@@ -1,5 +1,6 @@
--- Laws of managers on file, at any offset size, settings and base: how long their blocks are, where they stand, and that they are read back. Assumes nothing.
---   ManagerFits   what the blocks of sections at an address need in order to be read back: they end within 64 bits, and their fields hold their numbers
+-- Managers on file, at any offset size, settings and base: blocks that stand in bytes one after another are read back. Assumes nothing.
+--   ManagerFits   what the blocks of sections at an address need in order to be read back: they end within 64 bits, neither begins at the
+--                 undefined address, and their fields hold their numbers
 --   PlanFits      the same of managers one after another
 --   sorted        what a slot reads as
 use mathlib.Core.Path.{_≡_, refl, sym, ap, _∙_}
@@ -9,10 +10,11 @@ use native.Mathlib.Omega.{arith}
 use mathlib.Core.Bool.{cond}
 use mathlib.Core.List.{List, [], _∷_, _++_, map}
 use lib.Dec.{eqb}
+use borrow.Author.Tests.{eq-eqb}
 use lib.ListN.{length, take, drop, replicate, length-replicate}
 use lib.Seq.{take-at, drop-at, take-all, take-take}
 use Rattle.error.specs.Outcome.{answer}
-use Rattle.fields.specs.Ranges.{top}
+use Rattle.fields.specs.Ranges.{top, undefinedAddr}
 use Rattle.fields.specs.Layout.{FieldFits, window}
 use Rattle.fields.proofs.LayoutLaws.{window-window}
 use Rattle.fsm_sections.specs.declared.FreeSection.{FreeSection}
@@ -43,6 +45,7 @@ sorted m = bySizeThenAddr (m .sections)
 module _ (O : ℕ) (set : Settings) (base : ℕ) where
   pub record ManagerFits (a : ℕ) (l : List FreeSection) : Type 0 where
     pub room : a + base + (fshdSize O + fsseUsed O set l) ≤ top
+    pub defined : a + fshdSize O < undefinedAddr O
     pub header : All FieldFits (fshdRow O (headerFor O set (a + fshdSize O) l))
     pub bits-some : 0 < set .bits
     pub bits-few : set .bits ≤ 64
@@ -67,8 +70,8 @@ module _ (O : ℕ) (set : Settings) (base : ℕ) where
         let list-there : window (a + base + fshdSize O) u image ≡ B ++ Z = second-stands (a + base) (fshdSize O) u image A (B ++ Z) e lenA lenBZ in
         let order : a + fshdSize O + base ≡ a + base + fshdSize O = omega arith in
         manager-read sum O base set a (a + fshdSize O) class l image (record {
-          slot-defined = λ z. omega (arith, f .room);
-          fsse-defined = λ z. omega (arith, f .room);
+          slot-defined = λ z. omega (arith, f .defined);
+          fsse-defined = λ z. omega (arith, f .defined);
           slot-near = omega (arith, f .room);
           fsse-near = omega (arith, f .room);
           header-fits = f .header;
@@ -81,9 +84,9 @@ module _ (O : ℕ) (set : Settings) (base : ℕ) where
         })
 
     slot-read : (a class : ℕ) (l : List FreeSection) → window (a + base) (managerSize O set (manager class l)) image ≡ managerBytes O set sum a (manager class l)
-        → (0 < length l → ManagerFits a l) → readManager O base (cond (eqb (length l) 0) top a) image ≡ answer (bySizeThenAddr l)
+        → (0 < length l → ManagerFits a l) → readManager O base (cond (eqb (length l) 0) (undefinedAddr O) a) image ≡ answer (bySizeThenAddr l)
     unfolding bySizeThenAddr readManager
-    slot-read a class [] e f = refl
+    slot-read a class [] e f = rw (eq-eqb (undefinedAddr O) (undefinedAddr O) refl)
     slot-read a class (s ∷ l) e f = rw (filled s l) (pair-read a class (s ∷ l) (rw (filled s l) at e) (f (zero-lt-suc (length l))))
 
     -- each slot of managers whose blocks stand in the image, one after another

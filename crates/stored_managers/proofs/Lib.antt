@@ -1,0 +1,6 @@
+pub mod SlotsLaws
+pub mod StoredLaws
+pub mod PlanLaws
+pub mod AllOnesLaws
+pub mod StoringLaws
+pub mod StoredCase
