@@ -73,6 +73,22 @@ over-cut zero (suc n) [] (x ∷ xs) h = refl
 over-cut zero (suc n) (v ∷ vs) (x ∷ xs) h = ap (λ (l : List ℕ). v ∷ l) (over-cut zero n vs xs (omega arith))
 over-cut (suc i) n vs (x ∷ xs) h = ap (λ (l : List ℕ). x ∷ l) (over-cut i n vs xs (omega arith))
 
+-- at the end nothing is written
+pub over-end : (i : ℕ) (vs xs : List ℕ) → length xs ≤ i → over i vs xs ≡ xs
+over-end i vs xs h = sym (over-cut i 0 vs xs (omega arith)) ∙ over-nil i xs
+
+-- ---- what was written, taken out again
+
+pub drop-over : (i : ℕ) (vs xs : List ℕ) → drop i (over i vs xs) ≡ over 0 vs (drop i xs)
+drop-over zero vs xs = refl
+drop-over (suc i) vs [] = refl
+drop-over (suc i) vs (x ∷ xs) = drop-over i vs xs
+
+pub take-over : (vs xs : List ℕ) → length vs ≤ length xs → take (length vs) (over 0 vs xs) ≡ vs
+take-over [] xs h = refl
+take-over (v ∷ vs) [] h = absurd (omega arith)
+take-over (v ∷ vs) (x ∷ xs) h = ap (λ (l : List ℕ). v ∷ l) (take-over vs xs (omega arith))
+
 -- ---- one store of a loop that writes a run in order
 
 pub store-after : (i p v : ℕ) (vs xs : List ℕ) → p ≡ i + length vs → set (over i vs xs) p v ≡ over i (vs ++ (v ∷ [])) xs

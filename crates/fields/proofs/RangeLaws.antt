@@ -14,7 +14,7 @@ use Rattle.error.proofs.TestLaws.{and-true}
 use Rattle.error.proofs.OutcomeLaws.{refuses, passes, first-holds, first-passes}
 use Rattle.fields.specs.Ranges.{top, enough, sum, range, undefinedAddr, undefinedAt, firstMultiple, alignedUp}
 use Rattle.fields.specs.Width.{validWidth}
-use Rattle.fields.proofs.WidthLaws.{width-low, width-high, width-in, pow256}
+use Rattle.fields.proofs.WidthLaws.{width-low, width-high, width-in, pow256, some-power}
 
 -- ---- `ensure_len`
 
@@ -69,7 +69,7 @@ module _ (O : ℕ) where
     shifted = shl-exact {a = 1} 1 (8 * O) 64 (lit< tt) (omega arith) ∙ omega (arith, pow256 O)
 
     pub ones-some : 1 ≤ 1 * 2 ^ (8 * O) % 2 ^ 64
-    ones-some = let l : 0 ≤ O = omega arith in let p : 256 ^ 0 ≤ 256 ^ O = pow-le-pow-right (lit≤ tt) l in omega (arith, shifted)
+    ones-some = omega (arith, shifted, some-power O)
 
     pub ones-narrow : 1 * 2 ^ (8 * O) % 2 ^ 64 - 1 ≡ sat (undefinedAddr O)
     unfolding sat

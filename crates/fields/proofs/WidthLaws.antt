@@ -29,6 +29,9 @@ pow256 zero = refl
 pow256 (suc w) =
     pow-suc 256 w ∙ ap (λ (n : ℕ). n * 256) (pow256 w) ∙ sym (pow-add 2 (8 * w) 8) ∙ ap (λ (n : ℕ). 2 ^ n) (sym (mul-suc 8 w))
 
+pub some-power : (w : ℕ) → 1 ≤ 256 ^ w
+some-power w = let h : 0 ≤ w = omega arith in let p : 256 ^ 0 ≤ 256 ^ w = pow-le-pow-right (lit≤ tt) h in omega arith
+
 -- there is one least width
 pub least-one : (v w k : ℕ) → Least v w → Least v k → w ≡ k
 least-one v w k p q =

@@ -7,11 +7,12 @@ use native.Mathlib.Nat.{mul-div-cancel, add-sub-cancel-left}
 use native.Mathlib.Omega.{arith}
 use borrow.Author.Tests.{ltb-false}
 use lib.Dec.{eqb, lit<}
-use lib.ListN.{length, take, drop, getD}
+use lib.ListN.{length, drop, getD}
 use lib.Seq.{drop-at}
 use Rattle.error.specs.Outcome.{answer}
 use Rattle.error.specs.Lent.{With, with, over}
 use Rattle.error.proofs.OutcomeLaws.{first-answers}
+use Rattle.error.proofs.OverLaws.{take-over}
 use Rattle.fields.specs.Le.{leBytes}
 use Rattle.fields.specs.Layout.{Field, field, row, layout, AllFit, fieldAt}
 use Rattle.fields.specs.Width.{validWidth}
@@ -103,11 +104,6 @@ module _ (O L : ℕ) (m : FileSpaceInfo) (addrs : List ℕ) (widths : (validWidt
       ∙ ap (λ (l : List ℕ). answer (with (record { info = m; count = length (carried m addrs) }) (over 0 l xs))) addresses
 
 -- ---- what `serialize` wrote, `parse` gives back
-
-take-over : (v d : List ℕ) → length v ≤ length d → take (length v) (over 0 v d) ≡ v
-take-over [] d h = refl
-take-over (x ∷ v) [] h = absurd (omega arith)
-take-over (x ∷ v) (y ∷ d) h = ap (λ (l : List ℕ). x ∷ l) (take-over v d (omega arith))
 
 addresses-fit : (addrs : List ℕ) → ((i : ℕ) → getD addrs i 0 < 2 ^ 64) → AllFit (addressRow 8 addrs)
 addresses-fit [] h = tt

@@ -11,6 +11,7 @@ use lib.Dec.{ltb, lit≤}
 use lib.ListN.{length, drop, length-append, length-drop}
 use lib.Seq.{drop-drop}
 use Rattle.error.specs.declared.Refusal.the-variants.{InvalidManager}
+use Rattle.error.proofs.OutcomeLaws.{then-then, then-same}
 use Rattle.error.specs.Outcome.{Outcome, answer, refused, andThen}
 use Rattle.error.proofs.TestLaws.{le-or-lt}
 use Rattle.fields.specs.Layout.{leAt}
@@ -24,7 +25,6 @@ use Rattle.fsm_blocks.specs.declared.header.FsmHeader.{FsmHeader}
 use Rattle.fsm_blocks.specs.declared.groups.GroupWidths.{GroupWidths}
 use Rattle.fsm_blocks.specs.Parts.{counted, addresses, widthsIn, Narrow, WidthsOf}
 use Rattle.fsm_blocks.proofs.BytesLaws.{leAt-drop}
-use Rattle.fsm_blocks.proofs.ThenLaws.{then-then, then-same}
 use Rattle.fsm_blocks.proofs.ScanLaws.{readGroups-zero, scan-short, scan-refused, scan-step}
 
 -- ---- `passes`

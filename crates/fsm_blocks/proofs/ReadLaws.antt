@@ -11,6 +11,7 @@ use Rattle.error.specs.declared.Refusal.the-variants.{Width, NotAList, OverCapa
 use Rattle.error.specs.declared.Number.{Number}
 use Rattle.error.specs.declared.Number.the-variants as number
 use Rattle.error.specs.Answers.{numberOutcome}
+use Rattle.error.proofs.OutcomeLaws.{then-then}
 use Rattle.error.specs.Outcome.{Outcome, answer, refused, when, firstOf, andThen, sat}
 use Rattle.error.specs.Lent.{With, left, leaving, over}
 use Rattle.fields.specs.Width.{validWidth}
@@ -19,7 +20,7 @@ use Rattle.fsm_sections.specs.Sections.{flat}
 use Rattle.fsm_blocks.specs.Reading.{readSlots, joined, intoRun, persisted}
 use Rattle.fsm_blocks.specs.Parts.{got, Accepted}
 use Rattle.fsm_blocks.specs.Named.{slotsCount}
-use Rattle.fsm_blocks.proofs.ThenLaws.{then-then, sized-is}
+use Rattle.fsm_blocks.proofs.ThenLaws.{sized-is}
 use Rattle.fsm_blocks.proofs.IntoLaws.{into, into-width, into-odd, into-refused, into-over, into-is}
 
 module _ (slots : List ℕ) (base O : ℕ) (bytes out : List ℕ) where

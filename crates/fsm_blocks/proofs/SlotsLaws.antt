@@ -16,6 +16,7 @@ use Rattle.error.specs.Answers.{numberOutcome}
 use Rattle.error.specs.Outcome.{Outcome, answer, refused, firstOf, andThen, sat}
 use Rattle.error.specs.Lent.{over}
 use Rattle.error.proofs.OverLaws.{length-over, over-nil}
+use Rattle.error.proofs.OutcomeLaws.{then-then, then-same}
 use Rattle.fields.specs.Layout.{window}
 use Rattle.fields.specs.Width.{validWidth}
 use Rattle.pairs.proofs.PairLaws.{over-flat}
@@ -27,7 +28,7 @@ use Rattle.fsm_blocks.specs.declared.manager.Named.the-variants.{Nowhere
 use Rattle.fsm_blocks.specs.Reading.{readManager, readSlots, joined}
 use Rattle.fsm_blocks.specs.Parts.{got, Accepted, counted, sectionsBy}
 use Rattle.fsm_blocks.specs.Named.{namedOutcome, Inside, managerCount, slotsCount}
-use Rattle.fsm_blocks.proofs.ThenLaws.{then-then, then-same, then-refused, sized-is, not-refused, both-accepted}
+use Rattle.fsm_blocks.proofs.ThenLaws.{then-refused, sized-is, not-refused, both-accepted}
 use Rattle.fsm_blocks.proofs.FsseLaws.{read-total}
 use Rattle.fsm_sections.proofs.SectionsLaws.{section-form}
 

@@ -1,4 +1,4 @@
--- Laws of outcomes in a row: what holds of an answer, and what follows on it. Assumes nothing.
+-- Laws of outcomes in a row: what holds of an answer, and what a number made of it tells. Assumes nothing.
 use mathlib.Core.Path.{_≡_, refl, ap}
 use mathlib.Core.Bool.{Bool, true, false}
 use mathlib.Core.List.{List, [], _∷_}
@@ -32,22 +32,10 @@ then-cong (answer a) f g h e = e a h
 then-cong nothing f g h e = refl
 then-cong (refuse n vs) f g h e = refl
 
-pub then-same : {A B : Type 0} (x : Outcome A) (f g : A → Outcome B) → ((a : A) → f a ≡ g a) → andThen x f ≡ andThen x g
-unfolding andThen
-then-same (answer a) f g e = e a
-then-same nothing f g e = refl
-then-same (refuse n vs) f g e = refl
-
 pub when-cong : {A : Type 0} (t : Bool) (r : Refusal) (x y : Outcome A) → (t ≡ false → x ≡ y) → firstOf (when t r ∷ []) x ≡ firstOf (when t r ∷ []) y
 unfolding firstOf
 when-cong true r x y e = refl
 when-cong false r x y e = e refl
-
-pub then-then : {A B C : Type 0} (x : Outcome A) (f : A → Outcome B) (g : B → Outcome C) → andThen (andThen x f) g ≡ andThen x (λ a. andThen (f a) g)
-unfolding andThen
-then-then (answer a) f g = refl
-then-then nothing f g = refl
-then-then (refuse n vs) f g = refl
 
 -- ---- what is answered
 

@@ -2,8 +2,8 @@
 use mathlib.Core.Path.{_≡_, refl, sym, ap, _∙_, subst}
 use Prim.Native.Nat.{ℕ, _≤_, _<_}
 use native.Mathlib.Omega.{arith}
-use mathlib.Core.Bool.{Bool, true, false, cond, _||_}
-use mathlib.Core.List.{List, [], _∷_}
+use mathlib.Core.Bool.{Bool, true, false, _||_}
+use mathlib.Core.List.{List, []}
 use lib.Dec.{ltb}
 use lib.ListN.{length}
 use borrow.Author.Tests.{ltb-false}
@@ -11,10 +11,10 @@ use Rattle.error.specs.declared.Checked.{Checked}
 use Rattle.error.specs.declared.Checked.the-variants as checked
 use Rattle.error.specs.declared.Refusal.{Refusal}
 use Rattle.error.specs.declared.Refusal.the-variants.{Overflow, SharedAddress, WideAddress}
-use Rattle.error.specs.Outcome.{Outcome, answer, nothing, refuse, refused, Condition, firstOf, andThen}
+use Rattle.error.specs.Outcome.{Outcome, answer, refused, firstOf, andThen}
 use Rattle.error.specs.Answers.{checkedOutcome}
 use Rattle.error.proofs.TestLaws.{or-false, or-decides, or-leaves}
-use Rattle.error.proofs.OutcomeLaws.{NoneHolds, first-none, first-holds, first-passes, first-pass}
+use Rattle.error.proofs.OutcomeLaws.{first-none, first-holds, first-passes, first-pass, first-shows, then-answers}
 use Rattle.fields.specs.Ranges.{top, undefinedAddr}
 use Rattle.fields.proofs.WidthLaws.{width-in}
 use Rattle.fsm_sections.specs.declared.FreeSection.{FreeSection}
@@ -22,6 +22,7 @@ use Rattle.fsm_sections.specs.declared.Source.{Source}
 use Rattle.fsm_sections.specs.Sections.{decode, space}
 use Rattle.fsm_sections.specs.Pages.{slot0}
 use Rattle.fsm_sections.specs.Chains.{sectionsOf}
+use Rattle.fsm_sections.specs.Runs.{anyWide}
 use Rattle.fsm_sections.specs.Sources.{chainsOf, smallSource, Given}
 use Rattle.fsm_sections.proofs.SlotLaws.{slot6-runs}
 use Rattle.fsm_blocks.specs.Fshd.{fshdSize}
@@ -38,38 +39,9 @@ use Rattle.fsm_plan.specs.declared.blocks.PagedManagerPlan.{PagedManager
 use Rattle.fsm_plan.specs.declared.blocks.BlocksPlan.{BlocksPlan}
 use Rattle.fsm_plan.specs.Order.{repeats, sourceOf}
 use Rattle.fsm_plan.specs.Blocks.{paged, inSlot0, inSlot2, inLarge, wideSections, sizeTests, measureOf, measured, measuresOf, slotsMeasured}
-use Rattle.fsm_plan.specs.Blocks.{endAt, managersAt, blocksAt, wideManagers, Placed, runTests, plannedFrom, plannedBlocks, Ready, measuredOutcome, measuresOutcome}
+use Rattle.fsm_plan.specs.Blocks.{endAt, managersAt, blocksAt, wideBlock, wideManagers, Placed, runTests, plannedFrom, plannedBlocks, Ready, measuredOutcome, measuresOutcome}
 use Rattle.fsm_plan.proofs.RunsLaws.{Tested, tests-refuse, tests-pass, tests-show, small-same, large-given}
 use Rattle.fsm_plan.proofs.MeasureLaws.{measure-refused, measure-known, measured-same}
-
--- ---- what an answer says of all that came before it
-
-pub first-shows : {A : Type 0} (cs : List Condition) (x : Outcome A) (y : A) → firstOf cs x ≡ answer y → NoneHolds cs × (x ≡ answer y)
-unfolding firstOf
-first-shows [] x y e = (tt, e)
-first-shows (c ∷ cs) x y e = pick (c .holds) refl e (first-shows cs x y)
-  where
-    pick : (t : Bool) → c .holds ≡ t → cond t (refused (c .refusal)) (firstOf cs x) ≡ answer y → (firstOf cs x ≡ answer y → NoneHolds cs × (x ≡ answer y))
-        → ((c .holds ≡ false) × NoneHolds cs) × (x ≡ answer y)
-    pick true t e ih = let z : _≡_ {A = ℕ} 0 1 = cc in absurd (omega arith)
-    pick false t e ih = let q = ih e in ((t, q .0), q .1)
-
-pub then-answers : {A B : Type 0} (x : Outcome A) (f : A → Outcome B) (y : B) → andThen x f ≡ answer y → (v : A) × (x ≡ answer v) × (f v ≡ answer y)
-unfolding andThen
-then-answers (answer a) f y e = (a, refl, e)
-then-answers nothing f y e = let z : _≡_ {A = ℕ} 0 1 = cc in absurd (omega arith)
-then-answers (refuse n vs) f y e = let z : _≡_ {A = ℕ} 0 1 = cc in absurd (omega arith)
-
--- what follows on conditions
-pub then-first : {A B : Type 0} (cs : List Condition) (x : Outcome A) (f : A → Outcome B) → andThen (firstOf cs x) f ≡ firstOf cs (andThen x f)
-unfolding firstOf andThen
-then-first [] x f = refl
-then-first {A} {B} (c ∷ cs) x f = pick (c .holds) (then-first cs x f)
-  where
-    pick : (t : Bool) → andThen (firstOf cs x) f ≡ firstOf cs (andThen x f)
-        → andThen (cond t (refused (c .refusal)) (firstOf cs x)) f ≡ cond t (refused (c .refusal)) (firstOf cs (andThen x f))
-    pick true e = refl
-    pick false e = e
 
 -- ---- the sections of a slot as its source gives them
 
@@ -231,8 +203,13 @@ pub record Accepted (a b c : List ℕ) (n : Counts) (page start O : ℕ) (p : Bl
   pub plan : p ≡ blocksAt O start (measuresOf (paged n page) a b c O)
   pub end : endAt start (measuresOf (paged n page) a b c O) ≤ top
   pub once : repeats (inLarge (paged n page) a b c) ≡ false
-  pub narrow : wideManagers (undefinedAddr O) (managersAt O start (measuresOf (paged n page) a b c O)) ≡ false
-  pub narrow-sections : wideSections (paged n page) a b c O ≡ false
+  -- the blocks of each slot begin below the limit, and the addresses of its sections fit
+  pub low0 : wideBlock (undefinedAddr O) (managersAt O start (measuresOf (paged n page) a b c O) .slot0) ≡ false
+  pub low2 : wideBlock (undefinedAddr O) (managersAt O start (measuresOf (paged n page) a b c O) .slot2) ≡ false
+  pub low6 : wideBlock (undefinedAddr O) (managersAt O start (measuresOf (paged n page) a b c O) .slot6) ≡ false
+  pub narrow0 : anyWide O (inSlot0 (paged n page) a b c) ≡ false
+  pub narrow2 : anyWide O (inSlot2 (paged n page) a b c) ≡ false
+  pub narrow6 : anyWide O (inLarge (paged n page) a b c) ≡ false
 
 module _ (a b c : List ℕ) (n : Counts) (page start O : ℕ) (p : BlocksPlan) (e : plannedBlocks a b c n page start O ≡ answer p) where
   pub accepted : Accepted a b c n page start O p
@@ -250,7 +227,12 @@ module _ (a b c : List ℕ) (n : Counts) (page start O : ℕ) (p : BlocksPlan) (
       let q : plannedFrom a b c (undefinedAddr O) s (measuresOf s a b c O) start O ≡ answer p = ap (λ (x : Measures). plannedFrom a b c (undefinedAddr O) s x start O) (sym mm) ∙ g .2 in
       let k = first-shows _ _ p q in
       let pe : answer (blocksAt O start (measuresOf s a b c O)) ≡ answer p = k .1 in
-      let w = or-false (wideManagers (undefinedAddr O) (managersAt O start (measuresOf s a b c O))) (wideSections s a b c O) (k .0 .1 .1 .0) in
+      let r = managersAt O start (measuresOf s a b c O) in
+      let w = or-false (wideManagers (undefinedAddr O) r) (wideSections s a b c O) (k .0 .1 .1 .0) in
+      let b0 = or-false (wideBlock (undefinedAddr O) (r .slot0)) (wideBlock (undefinedAddr O) (r .slot2) || wideBlock (undefinedAddr O) (r .slot6)) (w .0) in
+      let b2 = or-false (wideBlock (undefinedAddr O) (r .slot2)) (wideBlock (undefinedAddr O) (r .slot6)) (b0 .1) in
+      let s0 = or-false (anyWide O (inSlot0 s a b c)) (anyWide O (inSlot2 s a b c) || anyWide O (inLarge s a b c)) (w .1) in
+      let s2 = or-false (anyWide O (inSlot2 s a b c)) (anyWide O (inLarge s a b c)) (s0 .1) in
       record {
         tested = tests-show a b c n page O checked.Passed (sym (first-pass (runTests a b c n page O) (answer tt) (f .0))) refl;
         sum0 = ltb-false top _ (p0 .0 .0);
@@ -259,6 +241,10 @@ module _ (a b c : List ℕ) (n : Counts) (page start O : ℕ) (p : BlocksPlan) (
         plan = cc;
         end = ltb-false top _ (k .0 .0);
         once = k .0 .1 .0;
-        narrow = w .0;
-        narrow-sections = w .1;
+        low0 = b0 .0;
+        low2 = b2 .0;
+        low6 = b2 .1;
+        narrow0 = s0 .0;
+        narrow2 = s2 .0;
+        narrow6 = s2 .1;
       }

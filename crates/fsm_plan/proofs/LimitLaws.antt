@@ -1,16 +1,16 @@
--- Where the blocks of a plan begin: below the limit if no test refuses them. At offset size 8 refusal 4 leaves no block at 2^64 - 1, so the limit
--- may be that address or the next, and the plan is the same. Assumes nothing.
+-- Where the blocks of a plan begin: below the limit if no test refuses them. At offset size 8 refusal 4 leaves no block at 2^64 - 1, so the plan is
+-- the same with every limit from that address on. Assumes nothing.
 use mathlib.Core.Path.{_≡_, refl, sym, ap, _∙_}
-use Prim.Native.Nat.{ℕ, _+_, _^_, _≤_, _<_}
+use Prim.Native.Nat.{ℕ, _+_, _≤_, _<_}
 use native.Mathlib.Omega.{arith}
 use mathlib.Core.Bool.{Bool, true, false, cond, _&&_, _||_, not}
 use mathlib.Core.List.{List}
 use lib.Dec.{ltb, leb, eqb}
 use borrow.Author.Tests.{ltb-false, leb-false, lt-leb, ne-eqb, eqb-false}
 use Rattle.error.specs.declared.Refusal.the-variants.{Overflow}
-use Rattle.error.specs.Outcome.{Outcome, answer, nothing, refuse, firstOf, andThen}
+use Rattle.error.specs.Outcome.{Outcome, answer, firstOf}
 use Rattle.error.proofs.TestLaws.{or-false}
-use Rattle.error.proofs.OutcomeLaws.{first-holds}
+use Rattle.error.proofs.OutcomeLaws.{first-holds, first-shows, then-alike}
 use Rattle.fields.specs.Ranges.{top, undefinedAddr}
 use Rattle.fsm_sections.specs.declared.FreeSection.{FreeSection}
 use Rattle.fsm_blocks.specs.Fshd.{fshdSize}
@@ -23,7 +23,6 @@ use Rattle.fsm_plan.specs.declared.blocks.PagedManagerBlock.{PagedManage
 use Rattle.fsm_plan.specs.declared.blocks.BlocksPlan.{BlocksPlan}
 use Rattle.fsm_plan.specs.Blocks.{paged, inSlot0, inSlot2, inLarge, sizeTests, measureOf, measuresOf, slotsMeasured, blockAt, endAt, managersAt}
 use Rattle.fsm_plan.specs.Blocks.{wideBlock, wideManagers, runTests, plannedFrom, plannedBelow, plannedBlocks}
-use Rattle.fsm_plan.proofs.BlocksLaws.{first-shows}
 
 -- ---- blocks that no test refuses
 
@@ -59,28 +58,22 @@ module _ (limit : ℕ) (high : top ≤ limit) where
         let b6 = block-narrow 2 a6 (m .slot6) (λ n. omega (arith, size-some 8 l6 n)) in
         rw (b0, b2, b6)
 
--- ---- so the plan is what it is with the limit 256 ^ 8, at which an address does not fit
+-- ---- so the plan is what it is with any such limit, as with 256 ^ 8, at which an address does not fit
 
-then-alike : {A B : Type 0} (x : Outcome A) (f g : A → Outcome B) → ((v : A) → x ≡ answer v → f v ≡ g v) → andThen x f ≡ andThen x g
-unfolding andThen
-then-alike (answer v) f g h = h v refl
-then-alike nothing f g h = refl
-then-alike (refuse n vs) f g h = refl
-
-module _ (a b c : List ℕ) (s : Paged) (start : ℕ) where
+module _ (limit : ℕ) (high : top ≤ limit) (a b c : List ℕ) (s : Paged) (start : ℕ) where
   abbrev M : Measures
   M = measuresOf s a b c 8
 
-  from-alike : plannedFrom a b c (undefinedAddr 8) s M start 8 ≡ plannedFrom a b c (256 ^ 8) s M start 8
+  from-alike : plannedFrom a b c (undefinedAddr 8) s M start 8 ≡ plannedFrom a b c limit s M start 8
   unfolding plannedFrom
   from-alike = pick (ltb top (endAt start M)) refl
     where
-      pick : (t : Bool) → ltb top (endAt start M) ≡ t → plannedFrom a b c (undefinedAddr 8) s M start 8 ≡ plannedFrom a b c (256 ^ 8) s M start 8
+      pick : (t : Bool) → ltb top (endAt start M) ≡ t → plannedFrom a b c (undefinedAddr 8) s M start 8 ≡ plannedFrom a b c limit s M start 8
       pick true e = first-holds _ Overflow _ _ e ∙ sym (first-holds _ Overflow _ _ e)
       pick false e =
           let k : endAt start M ≤ top = ltb-false top (endAt start M) e in
           let u = managers-narrow (undefinedAddr 8) (omega arith) start (inSlot0 s a b c) (inSlot2 s a b c) (inLarge s a b c) k in
-          let v = managers-narrow (256 ^ 8) (omega arith) start (inSlot0 s a b c) (inSlot2 s a b c) (inLarge s a b c) k in
+          let v = managers-narrow limit high start (inSlot0 s a b c) (inSlot2 s a b c) (inLarge s a b c) k in
           rw (u, v)
 
   measures-are : (m : Measures) → slotsMeasured s a b c 8 ≡ answer m → m ≡ M
@@ -92,13 +85,14 @@ module _ (a b c : List ℕ) (s : Paged) (start : ℕ) where
       let z : answer M ≡ answer m = r .1 in
       cc
 
-pub same-at-8 : (a b c : List ℕ) (n : Counts) (page start : ℕ) → plannedBlocks a b c n page start 8 ≡ plannedBelow a b c (256 ^ 8) n page start 8
+pub same-at-8 : (limit : ℕ) → top ≤ limit → (a b c : List ℕ) (n : Counts) (page start : ℕ)
+    → plannedBlocks a b c n page start 8 ≡ plannedBelow a b c limit n page start 8
 unfolding plannedBlocks
-same-at-8 a b c n page start =
+same-at-8 limit high a b c n page start =
     let s = paged n page in
-    let by : ℕ → Measures → Outcome BlocksPlan = λ limit m. plannedFrom a b c limit s m start 8 in
+    let by : ℕ → Measures → Outcome BlocksPlan = λ l m. plannedFrom a b c l s m start 8 in
     ap (firstOf (runTests a b c n page 8))
-    (then-alike (slotsMeasured s a b c 8) (by (undefinedAddr 8)) (by (256 ^ 8))
+    (then-alike (slotsMeasured s a b c 8) (by (undefinedAddr 8)) (by limit)
     (λ m e.
-    let k : m ≡ measuresOf s a b c 8 = measures-are a b c s start m e in
-    ap (by (undefinedAddr 8)) k ∙ from-alike a b c s start ∙ ap (by (256 ^ 8)) (sym k)))
+    let k : m ≡ measuresOf s a b c 8 = measures-are limit high a b c s start m e in
+    ap (by (undefinedAddr 8)) k ∙ from-alike limit high a b c s start ∙ ap (by limit) (sym k)))

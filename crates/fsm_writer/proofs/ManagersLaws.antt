@@ -2,7 +2,6 @@
 use mathlib.Core.Path.{_≡_, sym, ap, ap₂, _∙_, subst}
 use Prim.Native.Nat.{ℕ, _+_, _-_, _≤_, _<_}
 use native.Mathlib.Omega.{arith}
-use mathlib.Core.Bool.{false, _||_}
 use mathlib.Core.List.{List, [], _∷_, _++_, append-nil}
 use lib.Dec.{ltb}
 use lib.ListN.{length, length-append, take, drop}
@@ -11,7 +10,6 @@ use Rattle.error.specs.declared.Refusal.{Refusal}
 use Rattle.error.specs.declared.Refusal.the-variants.{OverCapacity}
 use Rattle.error.specs.Outcome.{Outcome, answer, refused, when, firstOf, andThen}
 use Rattle.error.specs.Lent.{With, with, left, leaving, over}
-use Rattle.error.proofs.TestLaws.{or-false}
 use Rattle.error.proofs.OverLaws.{length-over, over-nil}
 use Rattle.error.proofs.OutcomeLaws.{first-none, first-holds, first-passes}
 use Rattle.checksum.specs.Lookup3.{lookup3}
@@ -23,7 +21,6 @@ use Rattle.fsm_sections.specs.Sources.{chainsOf, smallSource, Given}
 use Rattle.fsm_sections.specs.Passes.{Numbers}
 use Rattle.fsm_sections.specs.Sections.{bySizeThenAddr, decode, space, distinct}
 use Rattle.fsm_sections.specs.Pages.{slot0, slot2, slot6}
-use Rattle.fsm_sections.specs.Runs.{anyWide}
 use Rattle.fsm_sections.proofs.SectionsLaws.{length-sorted}
 use Rattle.fsm_sections.proofs.SizesLaws.{distinct-sorted}
 use Rattle.fsm_sections.proofs.SlotLaws.{slot6-runs}
@@ -219,18 +216,12 @@ module _ (a b c : List ℕ) (n : Counts) (page start O : ℕ) (p : BlocksPlan) (
   all-room : p .managers .«end_of_managers» ≤ start + length out → blocksSize O (inSlot0 S a b c) + blocksSize O (inSlot2 S a b c) + blocksSize O (inLarge S a b c) ≤ length out
   all-room h = omega (arith, ap (λ (q : BlocksPlan). q .managers .«end_of_managers») (acc .plan))
 
-  sections : (anyWide O (inSlot0 S a b c) ≡ false) × ((anyWide O (inSlot2 S a b c) || anyWide O (inLarge S a b c)) ≡ false)
-  sections = or-false (anyWide O (inSlot0 S a b c)) (anyWide O (inSlot2 S a b c) || anyWide O (inLarge S a b c)) (acc .narrow-sections)
-
-  others : (anyWide O (inSlot2 S a b c) ≡ false) × (anyWide O (inLarge S a b c) ≡ false)
-  others = or-false (anyWide O (inSlot2 S a b c)) (anyWide O (inLarge S a b c)) (sections .1)
-
   pub first-asked : (s : Source) → s ≡ smallSource page (n .meta) → p .managers .«end_of_managers» ≤ start + length out → Asked a a a s (p .measures .slot0) start (length out)
   first-asked s e room = (
     subst (λ (x : Source). Given x a a a) (sym e) (small-given page (n .meta) a (t .some) (t .ends-x)),
     (
       subst (λ (x : Source). Numbers (sectionsOf (chainsOf x a a a))) (sym e) (small-numbers page (n .meta) a (t .some) (t .ends-x)),
-      ((t .low, t .high, sorted-narrow O _ _ (order0 s e) (sections .0)), (ap (λ (q : BlocksPlan). q .measures .slot0) (acc .plan) ∙ same-measure O _ _ (order0 s e), (omega (arith, ends), omega (arith, len0, all-room room)))),
+      ((t .low, t .high, sorted-narrow O _ _ (order0 s e) (acc .narrow0)), (ap (λ (q : BlocksPlan). q .measures .slot0) (acc .plan) ∙ same-measure O _ _ (order0 s e), (omega (arith, ends), omega (arith, len0, all-room room)))),
     ),
   )
 
@@ -252,7 +243,7 @@ module _ (a b c : List ℕ) (n : Counts) (page start O : ℕ) (p : BlocksPlan) (
         (
           subst (λ (x : Source). Numbers (sectionsOf (chainsOf x b b b))) (sym f2) (small-numbers page (n .raw) b (t .some) (t .ends-y)),
           (
-            (t .low, t .high, sorted-narrow O _ _ (order2 S2 f2) (others .0)),
+            (t .low, t .high, sorted-narrow O _ _ (order2 S2 f2) (acc .narrow2)),
             (
               ap (λ (q : BlocksPlan). q .measures .slot2) (acc .plan) ∙ same-measure O _ _ (order2 S2 f2),
               (
@@ -284,7 +275,7 @@ module _ (a b c : List ℕ) (n : Counts) (page start O : ℕ) (p : BlocksPlan) (
           (
             subst (λ (x : Source). Numbers (sectionsOf (chainsOf x a b c))) (sym f6) (large-numbers a b c n page O t),
             (
-              (t .low, t .high, sorted-narrow O _ _ (order6 S6 f6) (others .1)),
+              (t .low, t .high, sorted-narrow O _ _ (order6 S6 f6) (acc .narrow6)),
               (
                 ap (λ (q : BlocksPlan). q .measures .slot6) (acc .plan) ∙ same-measure O _ _ (order6 S6 f6),
                 (

@@ -7,10 +7,11 @@ use mathlib.Core.List.{List, [], _∷_, _++_, append-nil}
 use borrow.Author.Tests.{not-false, ltb-false, leb-true, leb-false, le-ltb, eq-eqb}
 use lib.Dec.{leb}
 use lib.ListN.{length, take}
-use Rattle.error.specs.Outcome.{Outcome, answer, nothing, refuse, firstOf, andThen}
+use Rattle.error.specs.Outcome.{Outcome, answer, firstOf, andThen}
 use Rattle.error.specs.Lent.{With, with, over}
 use Rattle.error.proofs.TestLaws.{and-true, or-false}
-use Rattle.error.proofs.OutcomeLaws.{first-answers}
+use Rattle.error.proofs.OutcomeLaws.{first-answers, then-answers}
+use Rattle.error.proofs.OverLaws.{take-over}
 use Rattle.fields.specs.Ranges.{top}
 use Rattle.fields.specs.Layout.{FieldFits}
 use Rattle.fields.specs.Width.{encSize, validWidth}
@@ -34,15 +35,12 @@ use Rattle.fsm_sections.specs.Runs.{wide, anyOf, anyWide}
 use Rattle.fsm_writer.specs.Writing.{written}
 use Rattle.fsm_writer.specs.RoundTrip.{fieldsOf, Standing, ReadBack, RoundTrip}
 use Rattle.fsm_blocks.proofs.LengthLaws.{widths-are}
-use Rattle.fsm_writer.proofs.RowLaws.{take-over}
 
 -- ---- what acceptance says
 
-then-answers : {A B R : Type 0} (s : Outcome A) (g : A → Outcome B) (y : B) → andThen s g ≡ answer y → ((x : A) → s ≡ answer x → g x ≡ answer y → R) → R
-unfolding andThen
-then-answers (answer a) g y e k = k a refl e
-then-answers nothing g y e k = let z : _≡_ {A = ℕ} 0 1 = cc in absurd (omega arith)
-then-answers (refuse m vs) g y e k = let z : _≡_ {A = ℕ} 0 1 = cc in absurd (omega arith)
+-- with what is answered first as a variable, so that `rw` can go under it
+by-answer : {A B R : Type 0} (s : Outcome A) (g : A → Outcome B) (y : B) → andThen s g ≡ answer y → ((x : A) → s ≡ answer x → g x ≡ answer y → R) → R
+by-answer s g y e k = let q = then-answers s g y e in k (q .0) (q .1) (q .2)
 
 -- an address that is not refused as 12 fits
 fits : (O a : ℕ) → wide O a ≡ false → a < 256 ^ O
@@ -73,7 +71,7 @@ module _ (O : ℕ) (run : List ℕ) (n : ℕ) where
   header-fits : (fsse : ℕ) (x : List ℕ) (a : ℕ) (u : List ℕ) → writtenFshd O run n fsse x ≡ answer (with a u) → HeaderFits fsse a u
   unfolding writtenFshd
   header-fits fsse x a u e =
-      then-answers (ofRun O run n) _ (with a u) e
+      by-answer (ofRun O run n) _ (with a u) e
       (λ m i g.
       let r : RunFits m = run-fits m i in
       let q = first-answers _ _ (with a u) g in
@@ -100,7 +98,7 @@ module _ (O : ℕ) (run : List ℕ) (n : ℕ) where
   list-fits : (fshd class : ℕ) (y : List ℕ) (b : ℕ) (v : List ℕ) → writtenFsse O run n fshd class y ≡ answer (with b v) → ListFits fshd class b y v
   unfolding writtenFsse
   list-fits fshd class y b v e =
-      then-answers (ofRun O run n) _ (with b v) e
+      by-answer (ofRun O run n) _ (with b v) e
       (λ m i g.
       let r : RunFits m = run-fits m i in
       let q = first-answers _ _ (with b v) g in

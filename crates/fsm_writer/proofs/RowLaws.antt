@@ -7,7 +7,7 @@ use mathlib.Core.List.{List, [], _∷_, _++_, append-assoc, append-nil}
 use lib.ListN.{length, length-append, take, getD}
 use lib.Seq.{take-all}
 use Rattle.error.specs.Lent.{over}
-use Rattle.error.proofs.OverLaws.{length-over, over-right, over-nil}
+use Rattle.error.proofs.OverLaws.{length-over, over-right, over-nil, take-over}
 use Rattle.fields.specs.Le.{leBytes}
 use Rattle.fields.specs.Layout.{row, widths, layout, span}
 use Rattle.fields.specs.Width.{encSize}
@@ -86,11 +86,6 @@ module _ (ws vs d : List ℕ) (same : length ws ≡ length vs) (room : span (wid
     row-done h = now .image ∙ rw (take-all i ws h, take-all i vs (omega arith))
 
 -- ---- a block and its checksum
-
-pub take-over : (u d : List ℕ) → length u ≤ length d → take (length u) (over 0 u d) ≡ u
-take-over [] d h = refl
-take-over (x ∷ u) [] h = absurd (omega arith)
-take-over (x ∷ u) (y ∷ d) h = ap (λ (m : List ℕ). x ∷ m) (take-over u d (omega arith))
 
 pub sealed-put : (sum : List ℕ → ℕ) (u d m x : List ℕ) (n : ℕ) → n ≡ length u → n ≤ length d → m ≡ over 0 u d → x ≡ over n (leBytes 4 (sum (take n m))) m → x ≡ over 0 (sealed sum u) d
 sealed-put sum u d m x n e h f g =

@@ -2,7 +2,7 @@
 use mathlib.Core.Path.{_≡_, sym, ap, _∙_}
 use Prim.Native.Nat.{ℕ, _+_, _/_, _%_, _^_, _≤_, _<_}
 use native.Mathlib.Omega.{arith}
-use mathlib.Core.Bool.{true, false, _||_, not}
+use mathlib.Core.Bool.{true, false, not}
 use mathlib.Core.List.{List, [], _∷_}
 use lib.Dec.{ltb, eqb}
 use lib.ListN.{length}
@@ -10,8 +10,7 @@ use borrow.Author.Tests.{le-leb, lt-leb, le-ltb, eq-eqb}
 use Rattle.error.specs.declared.Refusal.the-variants.{Width, Page, NotAList, OverCapacity}
 use Rattle.error.specs.Outcome.{answer, Condition, when, firstOf, andThen}
 use Rattle.error.specs.Lent.{With, with, over}
-use Rattle.error.proofs.TestLaws.{or-false}
-use Rattle.error.proofs.OutcomeLaws.{first-answers}
+use Rattle.error.proofs.OutcomeLaws.{first-answers, first-shows, then-answers}
 use Rattle.fields.specs.Ranges.{top, undefinedAddr}
 use Rattle.fields.specs.Width.{validWidth}
 use Rattle.pairs.specs.Pairs.{isEven}
@@ -31,7 +30,7 @@ use Rattle.fsm_plan.specs.declared.blocks.PagedManagerPlan.{PagedManagerPlan}
 use Rattle.fsm_plan.specs.declared.blocks.BlocksPlan.{BlocksPlan}
 use Rattle.fsm_plan.specs.Blocks.{paged, inSlot0, inSlot2, inLarge, measureOf, measuresOf, blockAt, managersAt, wideBlock, plannedBlocks}
 use Rattle.fsm_plan.specs.Plan.{planSections, planCount, plannedInto, planned}
-use Rattle.fsm_plan.proofs.BlocksLaws.{first-shows, then-answers, Accepted, accepted}
+use Rattle.fsm_plan.proofs.BlocksLaws.{Accepted, accepted}
 use Rattle.fsm_plan.proofs.LimitLaws.{block-below}
 use Rattle.fsm_writer.specs.Serializing.{ofRun, writtenFshd, writtenFsse}
 
@@ -123,32 +122,17 @@ module _ (a b c : List ℕ) (n : Counts) (page start O : ℕ) (out : List ℕ) (
   valid : validWidth O ≡ true
   valid = rw (le-leb 1 O (h .tested .low), le-leb O 8 (h .tested .high))
 
-  abbrev b0 : PagedManagerBlock
-  b0 = blockAt O 1 start (measureOf O (inSlot0 s a b c))
-
-  abbrev b2 : PagedManagerBlock
-  b2 = blockAt O 1 (start + blocksSize O (inSlot0 s a b c)) (measureOf O (inSlot2 s a b c))
-
-  abbrev b6 : PagedManagerBlock
-  b6 = blockAt O 2 (start + blocksSize O (inSlot0 s a b c) + blocksSize O (inSlot2 s a b c)) (measureOf O (inLarge s a b c))
-
-  blocks : (wideBlock (undefinedAddr O) b0 ≡ false) × ((wideBlock (undefinedAddr O) b2 || wideBlock (undefinedAddr O) b6) ≡ false)
-  blocks = or-false (wideBlock (undefinedAddr O) b0) (wideBlock (undefinedAddr O) b2 || wideBlock (undefinedAddr O) b6) (h .narrow)
-
-  sections : (anyWide O (inSlot0 s a b c) ≡ false) × ((anyWide O (inSlot2 s a b c) || anyWide O (inLarge s a b c)) ≡ false)
-  sections = or-false (anyWide O (inSlot0 s a b c)) (anyWide O (inSlot2 s a b c) || anyWide O (inLarge s a b c)) (h .narrow-sections)
-
   -- no writer refuses the blocks of its slots, `fshd-accepted`, `fsse-accepted`, and no reading skips them
   pub slot0-writable : Writable O (p .slot0 .«fshd_addr») (p .slot0 .«fsse_addr») (inSlot0 s a b c)
   slot0-writable =
-      slot-writable O valid (inSlot0 s a b c) 1 start (p .slot0) (ap (λ (x : PagedManagerPlan). x .slot0) plan-is) (h .sum0) (sections .0) (blocks .0)
+      slot-writable O valid (inSlot0 s a b c) 1 start (p .slot0) (ap (λ (x : PagedManagerPlan). x .slot0) plan-is) (h .sum0) (h .narrow0) (h .low0)
 
   pub slot2-writable : Writable O (p .slot2 .«fshd_addr») (p .slot2 .«fsse_addr») (inSlot2 s a b c)
   slot2-writable =
       slot-writable O valid (inSlot2 s a b c) 1 (start + blocksSize O (inSlot0 s a b c)) (p .slot2) (ap (λ (x : PagedManagerPlan). x .slot2) plan-is) (h .sum2)
-      (or-false (anyWide O (inSlot2 s a b c)) (anyWide O (inLarge s a b c)) (sections .1) .0) (or-false (wideBlock (undefinedAddr O) b2) (wideBlock (undefinedAddr O) b6) (blocks .1) .0)
+      (h .narrow2) (h .low2)
 
   pub slot6-writable : Writable O (p .slot6 .«fshd_addr») (p .slot6 .«fsse_addr») (inLarge s a b c)
   slot6-writable =
       slot-writable O valid (inLarge s a b c) 2 (start + blocksSize O (inSlot0 s a b c) + blocksSize O (inSlot2 s a b c)) (p .slot6) (ap (λ (x : PagedManagerPlan). x .slot6) plan-is) (h .sum6)
-      (or-false (anyWide O (inSlot2 s a b c)) (anyWide O (inLarge s a b c)) (sections .1) .1) (or-false (wideBlock (undefinedAddr O) b2) (wideBlock (undefinedAddr O) b6) (blocks .1) .1)
+      (h .narrow6) (h .low6)

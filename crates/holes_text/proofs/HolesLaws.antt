@@ -15,7 +15,7 @@ use Rattle.error.specs.Refusals.{numberOf}
 use Rattle.error.specs.Outcome.{Outcome, answer, nothing, refuse, refused, when, firstOf, andThen, sat}
 use Rattle.error.specs.Lent.{With, with, Left, left, leaving, over}
 use Rattle.error.proofs.TestLaws.{le-or-lt}
-use Rattle.error.proofs.OutcomeLaws.{passes, first-holds}
+use Rattle.error.proofs.OutcomeLaws.{passes, first-holds, then-first}
 use Rattle.fsm_sections.specs.declared.FreeSection.{FreeSection}
 use Rattle.fsm_sections.specs.Sections.{flat}
 use Rattle.fsm_blocks.specs.Reading.{joined}
@@ -25,7 +25,6 @@ use Rattle.image.specs.declared.ImageAnswer.the-variants.{Read, Refused}
 use Rattle.image.specs.declared.ImageRead.{ImageRead}
 use Rattle.image.specs.Answers.{outcomeWith, imageOutcome}
 use Rattle.image.specs.Reading.{readImage, countsOf, readInto, imageInto}
-use Rattle.image.proofs.PlaceLaws.{first-then}
 use Rattle.text.specs.Text.{written}
 use Rattle.holes_text.specs.Listing.{slotsOf, listingText, refusedText}
 use Rattle.holes_text.specs.Holes.{imageLimit, sectionLimit, atMost, holesRead, textOf, holesText}
@@ -81,10 +80,10 @@ module _ (run : List ℕ) (size : 2 * sectionLimit ≡ length run) where
       let n = length (joined ls) in
       let half : length run / 2 ≡ sectionLimit = omega arith in
       sym (passes _ NotAList _ even)
-      ∙ first-then (when (ltb (length run / 2) n) (OverCapacity (sat n) (length run / 2)) ∷ []) (answer (with n (over 0 (flat (joined ls)) run)))
+      ∙ then-first (when (ltb (length run / 2) n) (OverCapacity (sat n) (length run / 2)) ∷ []) (answer (with n (over 0 (flat (joined ls)) run)))
       (λ w. answer (with (countsOf ls) (w .memory)))
       ∙ ap (λ (h : ℕ). firstOf (when (ltb h n) (OverCapacity (sat n) h) ∷ []) (filled ls)) half
-      ∙ sym (first-then (when (ltb sectionLimit n) (OverCapacity (sat n) sectionLimit) ∷ []) (answer ls) filled)
+      ∙ sym (then-first (when (ltb sectionLimit n) (OverCapacity (sat n) sectionLimit) ∷ []) (answer ls) filled)
   into nothing = sym (passes _ NotAList _ even)
   into (refuse n vs) = sym (passes _ NotAList _ even)
 

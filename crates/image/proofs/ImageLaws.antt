@@ -12,7 +12,7 @@ use Rattle.error.specs.declared.Refusal.the-variants.{NotAList}
 use Rattle.error.specs.Refusals.{numberOf, valuesOf}
 use Rattle.error.specs.Outcome.{Outcome, answer, nothing, refuse, refused, Condition, when, firstOf, andThen}
 use Rattle.error.specs.Lent.{With, with, Left, left, leaving}
-use Rattle.error.proofs.OutcomeLaws.{passes, refuses, first-passes}
+use Rattle.error.proofs.OutcomeLaws.{passes, refuses, first-passes, then-first}
 use Rattle.fsm_sections.specs.declared.FreeSection.{FreeSection}
 use Rattle.fsm_blocks.specs.declared.fsse.SectionsAnswer.{SectionsAnswer}
 use Rattle.fsm_blocks.specs.declared.fsse.SectionsAnswer.the-variants as sections
@@ -24,7 +24,6 @@ use Rattle.file_space_info.specs.Message.{fixedRead}
 use Rattle.image.specs.declared.ImageRead.{ImageRead}
 use Rattle.image.specs.Answers.{imageOutcome, countsIn, refusedRead}
 use Rattle.image.specs.Reading.{messageAt, addressesIn, readImage, countsOf, readInto, imageInto}
-use Rattle.image.proofs.PlaceLaws.{first-then}
 
 -- ---- what an outcome leaves, with another answer in the place of its own
 
@@ -58,9 +57,9 @@ module _ (out : List ℕ) where
   -- the counts are answered in the place of the sum
   counts-for-sum : (o : Outcome (List (List FreeSection))) → readInto out o ≡ andThen (run o) (λ w. answer (with (countsOf (got o)) (w .memory)))
   unfolding andThen
-  counts-for-sum (answer ls) = sym (first-then (odd ∷ []) (intoRun out (joined ls)) (λ w. answer (with (countsOf ls) (w .memory))))
-  counts-for-sum nothing = sym (first-then (odd ∷ []) nothing (λ (w : With ℕ (List ℕ)). answer (with (countsOf []) (w .memory))))
-  counts-for-sum (refuse n vs) = sym (first-then (odd ∷ []) (refuse n vs) (λ (w : With ℕ (List ℕ)). answer (with (countsOf []) (w .memory))))
+  counts-for-sum (answer ls) = sym (then-first (odd ∷ []) (intoRun out (joined ls)) (λ w. answer (with (countsOf ls) (w .memory))))
+  counts-for-sum nothing = sym (then-first (odd ∷ []) nothing (λ (w : With ℕ (List ℕ)). answer (with (countsOf []) (w .memory))))
+  counts-for-sum (refuse n vs) = sym (then-first (odd ∷ []) (refuse n vs) (λ (w : With ℕ (List ℕ)). answer (with (countsOf []) (w .memory))))
 
   -- where an answer is given, the slots were read
   passed : (t : Bool) (r : Refusal) (x : Outcome (With ℕ (List ℕ))) (n : ℕ) → answer n ≡ leaving out (firstOf (when t r ∷ []) x) .outcome → answer n ≡ leaving out x .outcome

@@ -1,8 +1,8 @@
 -- The message at a place: the bytes that the code takes for it, and what their reading leaves. Assumes nothing.
 use mathlib.Core.Path.{_≡_, refl, sym, ap, ap₂, _∙_}
-use mathlib.Core.Bool.{Bool, true, false, cond}
+use mathlib.Core.Bool.{Bool, true, false}
 use mathlib.Core.Logic.{⊎-elim}
-use mathlib.Core.List.{List, [], _∷_}
+use mathlib.Core.List.{List, []}
 use Prim.Native.Nat.{ℕ, _+_, _-_, _≤_, _<_, min}
 use native.Mathlib.Nat.{le-of-lt}
 use native.Mathlib.Omega.{arith}
@@ -11,11 +11,11 @@ use lib.ListN.{length, take, drop, replicate, length-take, length-drop, drop-of-
 use lib.Seq.{take-all, take-at, length-take-le}
 use Rattle.error.specs.declared.Refusal.{Refusal}
 use Rattle.error.specs.Refusals.{numberOf, valuesOf}
-use Rattle.error.specs.Outcome.{Outcome, answer, nothing, refuse, refused, Condition, firstOf, andThen}
+use Rattle.error.specs.Outcome.{Outcome, answer, nothing, refuse, refused, firstOf, andThen}
 use Rattle.error.specs.Lent.{With, with, Left, left, leaving, over}
 use Rattle.error.proofs.TestLaws.{le-or-lt}
 use Rattle.error.proofs.OverLaws.{length-over}
-use Rattle.error.proofs.OutcomeLaws.{first-append, passes}
+use Rattle.error.proofs.OutcomeLaws.{first-append, passes, then-first}
 use Rattle.fields.specs.Layout.{window}
 use Rattle.file_space_info.specs.declared.FileSpaceInfo.{FileSpaceInfo}
 use Rattle.file_space_info.specs.declared.Parsed.{Parsed}
@@ -54,16 +54,6 @@ pub message-few : (place : ℕ) (image : List ℕ) → length (messageAt place i
 message-few place image = rw length-take (omega arith)
 
 -- ---- their reading into twelve places
-
--- what follows on conditions
-pub first-then : {A B : Type 0} (cs : List Condition) (x : Outcome A) (f : A → Outcome B) → andThen (firstOf cs x) f ≡ firstOf cs (andThen x f)
-unfolding firstOf andThen
-first-then [] x f = refl
-first-then (c ∷ cs) x f = pick (c .holds) (first-then cs x f)
-  where
-    pick : (t : Bool) → andThen (firstOf cs x) f ≡ firstOf cs (andThen x f) → andThen (cond t (refused (c .refusal)) (firstOf cs x)) f ≡ cond t (refused (c .refusal)) (firstOf cs (andThen x f))
-    pick true ih = refl
-    pick false ih = ih
 
 abbrev pub zeros : List ℕ
 zeros = replicate 12 0
@@ -127,7 +117,7 @@ module _ (bs : List ℕ) where
         let m = infoOf 8 8 bs in
         first-append (fixedTests 8 8 bs) _ _
         ∙ ap (firstOf (fixedTests 8 8 bs)) (sym (passes _ _ _ (le-ltb 12 (count m) (count-few m))))
-        ∙ sym (first-then (fixedTests 8 8 bs) (answer m) (λ m. answer (whole m)))
+        ∙ sym (then-first (fixedTests 8 8 bs) (answer m) (λ m. answer (whole m)))
 
     module _ (p : Parsed) (ys : List ℕ) (e : left (parsedOutcome p) ys ≡ leaving zeros (parsed bs 8 8 zeros)) where
       read : left (parsedOutcome p) ys ≡ leaving zeros (andThen (fixedRead 8 8 bs) (λ m. answer (whole m)))

@@ -12,7 +12,7 @@ use Rattle.error.specs.declared.Refusal.the-variants.{Overflow, SharedAddress, 
 use Rattle.error.specs.Outcome.{Outcome, answer, refused, Condition, when, firstOf, andThen}
 use Rattle.error.specs.Lent.{With, with, over}
 use Rattle.error.proofs.TestLaws.{and-true, or-false}
-use Rattle.error.proofs.OutcomeLaws.{NoneHolds, first-pass, first-append}
+use Rattle.error.proofs.OutcomeLaws.{NoneHolds, first-pass, first-append, then-first}
 use Rattle.fields.specs.Ranges.{top}
 use Rattle.checksum.specs.Lookup3.{lookup3}
 use Rattle.free_regions.specs.Regions.{region, okFrom}
@@ -37,7 +37,6 @@ use Rattle.fsm_plan.specs.declared.blocks.BlocksPlan.{BlocksPlan}
 use Rattle.fsm_plan.specs.Managers.{managersOf, sizeOf, blocksFrom}
 use Rattle.fsm_plan.specs.Order.{repeats}
 use Rattle.fsm_plan.specs.Blocks.{paged, inSlot0, inSlot2, inLarge, measureOf, measuresOf, slotsMeasured, sizeTests, endAt, managersAt, blocksAt, wideManagers, runTests, plannedFrom, plannedBlocks}
-use Rattle.fsm_plan.proofs.BlocksLaws.{then-first}
 use Rattle.fsm_plan.proofs.LimitLaws.{managers-narrow}
 use Rattle.fsm_plan.proofs.PlannedLaws.{plan-size}
 use Rattle.fsm_writer.specs.Paged.{writtenManagers}

@@ -10,12 +10,11 @@ use lib.ListN.{length, drop, length-drop}
 use borrow.Author.Tests.{ltb-false, lt-ltb, eq-eqb, ne-eqb}
 use Rattle.error.specs.declared.Refusal.the-variants.{InvalidManager}
 use Rattle.error.specs.Outcome.{Outcome, answer, refused, when, firstOf}
-use Rattle.error.proofs.OutcomeLaws.{first-holds, first-passes}
+use Rattle.error.proofs.OutcomeLaws.{first-holds, first-passes, first-shows, then-answers}
 use Rattle.fields.specs.Ranges.{top, undefinedAddr}
 use Rattle.fsm_sections.specs.declared.FreeSection.{FreeSection}
 use Rattle.fsm_blocks.specs.Fshd.{Header, fshdSize, parseFshd}
 use Rattle.fsm_blocks.specs.Reading.{listAt, readNamed, managerAt, readManager}
-use Rattle.fsm_plan.proofs.BlocksLaws.{first-shows, then-answers}
 use Rattle.fsm_plan.proofs.LimitLaws.{same-at-8}
 use Rattle.stored_managers.specs.AllOnes.{AllOnes}
 use Rattle.stored_managers.proofs.PlanLaws.{plan-is}
@@ -81,10 +80,10 @@ all-ones = record {
   list-skipped = λ O base h bytes. list-skipped O base bytes h;
   list-other = λ O base h bytes. list-other O base bytes h;
   list-there = λ O base h bytes. list-there O base bytes h;
-  greatest-refused = greatest-refused;
+  greatest-refused = λ O base bytes o short. greatest-refused O base bytes (omega arith) short;
   stored = stored-plan;
   plan-is = λ a b c n page start O. plan-is a b c start O n page;
   slot-at-8 = slot-at-8;
   list-at-8 = list-at-8;
-  plan-at-8 = same-at-8;
+  plan-at-8 = λ a b c n page start. same-at-8 _ (lit≤ tt) a b c n page start;
 }

@@ -1,17 +1,18 @@
 -- The plan is the one that asks only that addresses fit, and then refusal 12 where a block begins at the undefined address. Assumes nothing.
 use mathlib.Core.Path.{_≡_, refl, sym, ap, _∙_}
 use Prim.Native.Nat.{ℕ, _-_, _^_, _≤_, _<_}
-use native.Mathlib.Nat.{pow-le-pow-right}
 use native.Mathlib.Omega.{arith}
 use mathlib.Core.Logic.{⊎-elim}
 use mathlib.Core.Bool.{Bool, true, false, _&&_, _||_, not}
 use mathlib.Core.List.{List, [], _∷_}
-use lib.Dec.{ltb, leb, eqb, lit≤}
+use lib.Dec.{ltb, leb, eqb}
 use borrow.Author.Tests.{le-leb, lt-leb, eq-eqb, ne-eqb}
 use Rattle.error.specs.declared.Refusal.the-variants.{Overflow, SharedAddress, WideAddress}
-use Rattle.error.specs.Outcome.{Outcome, answer, nothing, refuse, when, firstOf, andThen}
+use Rattle.error.specs.Outcome.{Outcome, answer, when, firstOf, andThen}
 use Rattle.error.proofs.TestLaws.{le-or-lt}
+use Rattle.error.proofs.OutcomeLaws.{then-first, then-then, then-same}
 use Rattle.fields.specs.Ranges.{top, undefinedAddr}
+use Rattle.fields.proofs.WidthLaws.{some-power}
 use Rattle.fsm_plan.specs.declared.Counts.{Counts}
 use Rattle.fsm_plan.specs.declared.chains.Paged.{Paged}
 use Rattle.fsm_plan.specs.declared.blocks.Measures.{Measures}
@@ -20,7 +21,6 @@ use Rattle.fsm_plan.specs.declared.blocks.PagedManagerPlan.{PagedManagerPlan}
 use Rattle.fsm_plan.specs.declared.blocks.BlocksPlan.{BlocksPlan}
 use Rattle.fsm_plan.specs.Order.{repeats}
 use Rattle.fsm_plan.specs.Blocks.{paged, inLarge, wideSections, slotsMeasured, endAt, managersAt, blocksAt, wideBlock, wideManagers, runTests, plannedFrom, plannedBelow, plannedBlocks}
-use Rattle.fsm_plan.proofs.BlocksLaws.{then-first}
 use Rattle.stored_managers.specs.AllOnes.{beginsAt, anyBeginsAt}
 
 -- ---- an address that is not below a limit is the limit, or not below the next
@@ -80,19 +80,9 @@ later false false false true false x = refl
 later false false false false true x = refl
 later false false false false false x = refl
 
-then-same : {A B C : Type 0} (x : Outcome A) (f : A → Outcome B) (g : B → Outcome C) (h : A → Outcome C) → ((v : A) → h v ≡ andThen (f v) g)
-    → andThen x h ≡ andThen (andThen x f) g
-unfolding andThen
-then-same (answer v) f g h e = e v
-then-same nothing f g h e = refl
-then-same (refuse n vs) f g h e = refl
-
 module _ (a b c : List ℕ) (start O : ℕ) where
   abbrev test : BlocksPlan → Outcome BlocksPlan
   test p = firstOf (when (anyBeginsAt (undefinedAddr O) (p .managers)) WideAddress ∷ []) (answer p)
-
-  power : 1 ≤ 256 ^ O
-  power = let h : 0 ≤ O = omega arith in let p : 256 ^ 0 ≤ 256 ^ O = pow-le-pow-right (lit≤ tt) h in omega arith
 
   from-is : (s : Paged) (m : Measures) → plannedFrom a b c (undefinedAddr O) s m start O ≡ andThen (plannedFrom a b c (256 ^ O) s m start O) test
   unfolding plannedFrom andThen
@@ -102,7 +92,7 @@ module _ (a b c : List ℕ) (start O : ℕ) where
       let r = repeats (inLarge s a b c) in
       let w = wideSections s a b c O in
       let x = blocksAt O start m in
-      rw (managers-next (256 ^ O) power q)
+      rw (managers-next (256 ^ O) (some-power O) q)
       (later l r (wideManagers (256 ^ O) q) (anyBeginsAt (undefinedAddr O) q) w x
       ∙ sym (then-first (when l Overflow ∷ when r SharedAddress ∷ when (wideManagers (256 ^ O) q || w) WideAddress ∷ []) (answer x) test))
 
@@ -111,5 +101,6 @@ module _ (a b c : List ℕ) (start O : ℕ) where
   plan-is n page =
       let s = paged n page in
       ap (firstOf (runTests a b c n page O))
-      (then-same (slotsMeasured s a b c O) (λ m. plannedFrom a b c (256 ^ O) s m start O) test (λ m. plannedFrom a b c (undefinedAddr O) s m start O) (from-is s))
+      (then-same (slotsMeasured s a b c O) _ _ (from-is s)
+      ∙ sym (then-then (slotsMeasured s a b c O) (λ m. plannedFrom a b c (256 ^ O) s m start O) test))
       ∙ sym (then-first (runTests a b c n page O) _ test)

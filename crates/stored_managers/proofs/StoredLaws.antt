@@ -1,22 +1,21 @@
 -- The blocks of an accepted plan in bytes: where they begin, which slots are stored, and that these are read back. Assumes nothing.
 use mathlib.Core.Path.{_≡_, refl, sym, ap, _∙_, subst}
 use Prim.Native.Nat.{ℕ, zero, suc, _+_, _-_, _*_, _/_, _%_, _^_, _≤_, _<_}
-use native.Mathlib.Nat.{pow-suc, pow-le-pow-right}
+use native.Mathlib.Nat.{pow-suc}
 use native.Mathlib.Omega.{arith}
-use mathlib.Core.Bool.{Bool, true, false, cond, _||_}
+use mathlib.Core.Bool.{Bool, true, false, cond}
 use mathlib.Core.List.{List, []}
-use lib.Dec.{eqb, lit≤}
+use lib.Dec.{eqb}
 use lib.ListN.{length}
 use borrow.Author.Tests.{le-ltb, eq-eqb, ne-eqb, eqb-false}
 use Rattle.error.specs.Outcome.{answer, firstOf, andThen}
 use Rattle.error.specs.Lent.{with, over}
-use Rattle.error.proofs.TestLaws.{or-false}
 use Rattle.fields.specs.Le.{leBytes, leValue}
 use Rattle.fields.specs.Layout.{window}
 use Rattle.fields.specs.Ranges.{top, undefinedAddr}
 use Rattle.fields.specs.Width.{encSize}
 use Rattle.fields.proofs.LeLaws.{read-back}
-use Rattle.fields.proofs.WidthLaws.{width-in}
+use Rattle.fields.proofs.WidthLaws.{width-in, some-power}
 use Rattle.checksum.specs.Lookup3.{lookup3}
 use Rattle.fsm_sections.specs.declared.FreeSection.{FreeSection}
 use Rattle.fsm_sections.specs.Sections.{decode, flat, space}
@@ -46,9 +45,6 @@ use Rattle.stored_managers.proofs.SlotsLaws.{ManagerFits, PlanFits, slo
 -- ---- what O bytes hold
 
 -- of a number whose bits are all one
-some-power : (n : ℕ) → 1 ≤ 256 ^ n
-some-power n = let h : 0 ≤ n = omega arith in let p : 256 ^ 0 ≤ 256 ^ n = pow-le-pow-right (lit≤ tt) h in omega arith
-
 ones-in : (w k : ℕ) → storedIn w (256 ^ (w + k) - 1) ≡ 256 ^ w - 1
 unfolding leBytes leValue
 ones-in zero k = refl
@@ -116,16 +112,6 @@ module _ (a b c : List ℕ) (n : Counts) (page start O : ℕ) (p : BlocksPlan) (
   abbrev limit : ℕ
   limit = undefinedAddr O
 
-  blocks-low : (wideBlock limit (q .slot0) ≡ false) × ((wideBlock limit (q .slot2) ≡ false) × (wideBlock limit (q .slot6) ≡ false))
-  blocks-low =
-      let x = or-false (wideBlock limit (q .slot0)) (wideBlock limit (q .slot2) || wideBlock limit (q .slot6)) (h .narrow) in
-      (x .0, or-false (wideBlock limit (q .slot2)) (wideBlock limit (q .slot6)) (x .1))
-
-  narrow : (anyWide O l0 ≡ false) × ((anyWide O l2 ≡ false) × (anyWide O l6 ≡ false))
-  narrow =
-      let x = or-false (anyWide O l0) (anyWide O l2 || anyWide O l6) (h .narrow-sections) in
-      (x .0, or-false (anyWide O l2) (anyWide O l6) (x .1))
-
   begins : (f : PagedManagerPlan → PagedManagerBlock) → wideBlock limit (f q) ≡ false → Begins O (f (p .managers))
   begins f w some = block-below limit (f (p .managers)) some (ap (λ (x : PagedManagerPlan). wideBlock limit (f x)) plan-is ∙ w)
 
@@ -137,9 +123,9 @@ module _ (a b c : List ℕ) (n : Counts) (page start O : ℕ) (p : BlocksPlan) (
   slots-are =
       let o = h .tested .high in
       let z = stored-ones O o in
-      let u = stored-head O l0 start o (λ k. omega (arith, low l0 1 start (blocks-low .0) k)) in
-      let v = stored-head O l2 (start + blocksSize O l0) o (λ k. omega (arith, low l2 1 (start + blocksSize O l0) (blocks-low .1 .0) k)) in
-      let w = stored-head O l6 (start + blocksSize O l0 + blocksSize O l2) o (λ k. omega (arith, low l6 2 (start + blocksSize O l0 + blocksSize O l2) (blocks-low .1 .1) k)) in
+      let u = stored-head O l0 start o (λ k. omega (arith, low l0 1 start (h .low0) k)) in
+      let v = stored-head O l2 (start + blocksSize O l0) o (λ k. omega (arith, low l2 1 (start + blocksSize O l0) (h .low2) k)) in
+      let w = stored-head O l6 (start + blocksSize O l0 + blocksSize O l2) o (λ k. omega (arith, low l6 2 (start + blocksSize O l0 + blocksSize O l2) (h .low6) k)) in
       ap (storedSlots O) plan-is
       ∙ rw (u, v, w, z) (sym (plan-slots O page (decode (n .meta) a) (decode (n .raw) b) (decode (n .unclassified) c) start))
 
@@ -168,9 +154,9 @@ module _ (a b c : List ℕ) (n : Counts) (page start O : ℕ) (p : BlocksPlan) (
         let x6 = start + blocksSize O l0 + blocksSize O l2 in
         let y2 = start + managerSize O (startingSet O) (manager 1 l0) + 0 in
         let y6 = y2 + managerSize O (startingSet O) (manager 1 l2) + 0 + 0 + 0 in
-        let f0 = slot-fits l0 1 start start refl (blocks-low .0) (h .sum0) (narrow .0) (omega arith) (omega (arith, total)) in
-        let f2 = slot-fits l2 1 x2 y2 (omega (arith, size-is O 1 l0)) (blocks-low .1 .0) (h .sum2) (narrow .1 .0) (omega arith) (omega (arith, total)) in
-        let f6 = slot-fits l6 2 x6 y6 (omega (arith, size-is O 1 l0, size-is O 1 l2)) (blocks-low .1 .1) (h .sum6) (narrow .1 .1) (omega arith) (omega (arith, total)) in
+        let f0 = slot-fits l0 1 start start refl (h .low0) (h .sum0) (h .narrow0) (omega arith) (omega (arith, total)) in
+        let f2 = slot-fits l2 1 x2 y2 (omega (arith, size-is O 1 l0)) (h .low2) (h .sum2) (h .narrow2) (omega arith) (omega (arith, total)) in
+        let f6 = slot-fits l6 2 x6 y6 (omega (arith, size-is O 1 l0, size-is O 1 l2)) (h .low6) (h .sum6) (h .narrow6) (omega arith) (omega (arith, total)) in
         (f0, (none, (f2, (none, (none, (none, (f6, (none, (none, (none, (none, (none, tt))))))))))))
       where
         none : {y : ℕ} → 0 < 0 → ManagerFits O (startingSet O) base y []
@@ -193,9 +179,9 @@ module _ (a b c : List ℕ) (n : Counts) (page start O : ℕ) (p : BlocksPlan) (
 
   pub stored-plan : StoredPlan a b c n page start O p
   stored-plan = record {
-    begins0 = begins (λ x. x .slot0) (blocks-low .0);
-    begins2 = begins (λ x. x .slot2) (blocks-low .1 .0);
-    begins6 = begins (λ x. x .slot6) (blocks-low .1 .1);
+    begins0 = begins (λ x. x .slot0) (h .low0);
+    begins2 = begins (λ x. x .slot2) (h .low2);
+    begins6 = begins (λ x. x .slot6) (h .low6);
     slots = slots-are;
     read = reads;
     persisted-read = reads-into;

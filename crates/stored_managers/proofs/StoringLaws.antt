@@ -1,17 +1,17 @@
 -- `store_managers`: what is written into the part of the bytes that is lent stands in the bytes at its place, and is read there. Assumes nothing.
 use mathlib.Core.Path.{_≡_, refl, sym, ap, _∙_}
 use mathlib.Core.Logic.{⊎-elim}
-use Prim.Native.Nat.{ℕ, zero, suc, _+_, _-_, _^_, _≤_, _<_, min}
+use Prim.Native.Nat.{ℕ, _+_, _-_, _^_, _≤_, _<_, min}
 use native.Mathlib.Omega.{arith}
-use mathlib.Core.List.{List, [], _∷_, _++_}
+use mathlib.Core.List.{List, [], _++_}
 use lib.ListN.{length, take, drop, length-drop, drop-of-length-le}
 use lib.Seq.{take-all}
 use borrow.Author.Tests.{ltb-false}
 use Rattle.error.specs.Outcome.{Outcome, answer, nothing, refuse, sat, andThen}
 use Rattle.error.specs.Lent.{With, with, Left, left, leaving, over}
 use Rattle.error.proofs.TestLaws.{le-or-lt}
-use Rattle.error.proofs.OutcomeLaws.{first-answers}
-use Rattle.error.proofs.OverLaws.{length-over, over-nil}
+use Rattle.error.proofs.OutcomeLaws.{first-answers, then-answers}
+use Rattle.error.proofs.OverLaws.{length-over, over-nil, over-end, drop-over, take-over}
 use Rattle.fields.specs.Layout.{window}
 use Rattle.checksum.specs.Lookup3.{lookup3}
 use Rattle.fsm_blocks.specs.Settings.{startingSet}
@@ -21,25 +21,12 @@ use Rattle.fsm_plan.specs.declared.Counts.{Counts}
 use Rattle.fsm_plan.specs.declared.blocks.BlocksPlan.{BlocksPlan}
 use Rattle.fsm_plan.specs.Managers.{sizeOf}
 use Rattle.fsm_plan.specs.Blocks.{plannedBlocks}
-use Rattle.fsm_plan.proofs.BlocksLaws.{then-answers}
 use Rattle.fsm_plan.proofs.PlannedLaws.{length-blocks}
 use Rattle.fsm_writer.specs.Paged.{managersIn, managersBytes, writtenManagers}
-use Rattle.fsm_writer.proofs.RowLaws.{take-over}
 use Rattle.stored_managers.specs.Storing.{storedSlots, sectionsBySlot, storedManagers}
 use Rattle.stored_managers.proofs.StoredLaws.{stored-plan}
 
 -- ---- a run that is written over bytes
-
--- past their end nothing is written
-over-past : (i : ℕ) (vs xs : List ℕ) → length xs ≤ i → over i vs xs ≡ xs
-over-past i vs [] h = refl
-over-past zero vs (x ∷ xs) h = absurd (omega arith)
-over-past (suc i) vs (x ∷ xs) h = ap (λ (l : List ℕ). x ∷ l) (over-past i vs xs (omega arith))
-
-drop-over : (i : ℕ) (vs xs : List ℕ) → drop i (over i vs xs) ≡ over 0 vs (drop i xs)
-drop-over zero vs xs = refl
-drop-over (suc i) vs [] = refl
-drop-over (suc i) vs (x ∷ xs) = drop-over i vs xs
 
 there : (i : ℕ) (vs xs : List ℕ) → length vs ≤ length (drop i xs) → window i (length vs) (over i vs xs) ≡ vs
 there i vs xs h = ap (take (length vs)) (drop-over i vs xs) ∙ take-over vs (drop i xs) h
@@ -54,7 +41,7 @@ module _ (i k : ℕ) (xs : List ℕ) (ke : k ≡ min i (length xs)) where
   cut-over : (vs : List ℕ) → over k vs xs ≡ over i vs xs
   cut-over vs =
       ⊎-elim (λ (l : i ≤ length xs). let e : k ≡ i = omega arith in ap (λ (n : ℕ). over n vs xs) e)
-      (λ (l : length xs < i). over-past k vs xs (omega arith) ∙ sym (over-past i vs xs (omega arith))) (le-or-lt i (length xs))
+      (λ (l : length xs < i). over-end k vs xs (omega arith) ∙ sym (over-end i vs xs (omega arith))) (le-or-lt i (length xs))
 
 pub cut-place : (i r k n : ℕ) → n ≤ 2 ^ 64 - 1 → r ≡ sat i → k ≡ min r n → k ≡ min i n
 unfolding sat

@@ -9,13 +9,9 @@ use lib.ListN.{length, take, getD, set, length-append}
 use lib.Seq.{take-append-seam, take-length}
 use Rattle.error.specs.Lent.{With, with, over}
 use Rattle.error.proofs.TestLaws.{le-or-lt}
-use Rattle.error.proofs.OverLaws.{length-over, over-nil, over-right, over-cut, set-over, down-next}
+use Rattle.error.proofs.OverLaws.{length-over, over-nil, over-right, over-cut, over-end, set-over, down-next}
 use Rattle.text.specs.Decimal.{decimal}
 use Rattle.text.specs.Text.{written}
-
--- at the end nothing is written
-over-end : (i : ℕ) (vs xs : List ℕ) → length xs ≤ i → over i vs xs ≡ xs
-over-end i vs xs h = sym (over-cut i 0 vs xs (omega arith)) ∙ over-nil i xs
 
 -- ---- one text after another
 
