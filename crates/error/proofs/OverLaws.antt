@@ -2,7 +2,7 @@
 use mathlib.Core.Path.{_≡_, refl, sym, ap, _∙_}
 use mathlib.Core.List.{List, [], _∷_, _++_}
 use Prim.Native.Nat.{ℕ, zero, suc, _+_, _-_, _≤_, _<_}
-use native.Mathlib.Nat.{suc-add, add-suc, le-of-suc-le-suc, not-suc-le-zero, le-of-lt}
+use native.Mathlib.Nat.{zero-add, sub-zero, suc-sub-suc, suc-add, add-suc, le-of-suc-le-suc, not-suc-le-zero, le-of-lt}
 use native.Mathlib.Numerals.{add-one}
 use native.Mathlib.Omega.{arith}
 use lib.ListN.{length, take, drop, getD, set, replicate, length-replicate, replicate-append-replicate, drop-of-length-le}
@@ -25,6 +25,12 @@ pub over-is : (vs xs : List ℕ) → length vs ≤ length xs → over 0 vs xs �
 over-is [] xs h = over-nil 0 xs
 over-is (v ∷ vs) [] h = absurd (not-suc-le-zero h)
 over-is (v ∷ vs) (x ∷ xs) h = ap (λ (l : List ℕ). v ∷ l) (over-is vs xs (le-of-suc-le-suc h))
+
+-- written at the front of zeros
+pub over-zeros : (vs : List ℕ) (n : ℕ) → length vs ≤ n → over 0 vs (replicate n 0) ≡ vs ++ replicate (n - length vs) 0
+over-zeros [] n h = rw sub-zero (over-nil 0 (replicate n 0))
+over-zeros (v ∷ vs) zero h = absurd (not-suc-le-zero h)
+over-zeros (v ∷ vs) (suc n) h = rw suc-sub-suc (ap (λ (l : List ℕ). v ∷ l) (over-zeros vs n (le-of-suc-le-suc h)))
 
 pub set-over : (xs : List ℕ) (i v : ℕ) → set xs i v ≡ over i (v ∷ []) xs
 set-over [] i v = refl
@@ -108,11 +114,14 @@ fill-next from j v xs h =
     ∙ ap (λ (l : List ℕ). over from l xs) (replicate-append-replicate (j - from) 1 v)
     ∙ ap (λ (k : ℕ). over from (replicate k v) xs) n
 
--- a store of a copy of s, upwards and downwards
+-- a store of a copy of s, upwards, to the front, and downwards
 pub down-next : (to j : ℕ) (s xs : List ℕ) → j < length s → set (over to (take j s) xs) (to + j) (getD s j 0) ≡ over to (take (j + 1) s) xs
 down-next to j s xs h =
     store-after to (to + j) (getD s j 0) (take j s) xs (ap (λ (k : ℕ). to + k) (sym (length-take-le j s (le-of-lt h))))
     ∙ ap (λ (l : List ℕ). over to l xs) (sym (take-suc s j 0 h) ∙ ap (λ (k : ℕ). take k s) (sym (add-one j)))
+
+pub front-next : (j : ℕ) (s xs : List ℕ) → j < length s → set (over 0 (take j s) xs) j (getD s j 0) ≡ over 0 (take (j + 1) s) xs
+front-next j s xs h = ap (λ (k : ℕ). set (over 0 (take j s) xs) k (getD s j 0)) (sym (zero-add j)) ∙ down-next 0 j s xs h
 
 pub up-next : (to j : ℕ) (s xs : List ℕ) → j < length s → set (over (to + suc j) (drop (suc j) s) xs) (to + j) (getD s j 0) ≡ over (to + j) (drop j s) xs
 up-next to j s xs h =

@@ -3,7 +3,7 @@ use mathlib.Core.Path.{_≡_, refl, sym, ap, ap₂, _∙_}
 use mathlib.Core.Bool.{Bool, true, false, not, _&&_}
 use mathlib.Core.List.{List, [], _∷_}
 use Prim.Native.Nat.{ℕ, zero, suc, _+_, _-_, _*_, _≤_, _<_, min}
-use native.Mathlib.Nat.{zero-add, suc-mul, le-of-suc-le-suc, not-suc-le-zero, div-mul-le-self, mul-le-mul-right}
+use native.Mathlib.Nat.{suc-mul, le-of-suc-le-suc, not-suc-le-zero, div-mul-le-self, mul-le-mul-right}
 use native.Mathlib.Omega.{arith}
 use borrow.Author.Tests.{lt-ltb, le-ltb, eq-eqb, ne-eqb, leb-true, ltb-false, not-false}
 use lib.Dec.{ltb, leb, eqb, lit≤}
@@ -15,7 +15,7 @@ use Rattle.error.specs.Outcome.{Outcome, answer, refused, when, firstOf}
 use Rattle.error.specs.Lent.{With, with, left, leaving, over}
 use Rattle.error.proofs.TestLaws.{and-true}
 use Rattle.error.proofs.OutcomeLaws.{refuses, passes, first-holds, first-passes, NoneHolds, first-pass, first-answers, first-append, first-refuses}
-use Rattle.error.proofs.OverLaws.{down-next}
+use Rattle.error.proofs.OverLaws.{front-next}
 use Rattle.fields.specs.Le.{leValue}
 use Rattle.fields.specs.Layout.{span, leAt, fieldAt}
 use Rattle.fields.specs.Width.{validWidth}
@@ -141,9 +141,7 @@ read-step w n at i bs xs {out} {v} e h r o =
     let m : min w 8 ≡ w = omega arith in
     let g : v ≡ getD s i 0 =
     r ∙ ap (λ (k : ℕ). leAt (at + i * w) k bs) m ∙ sym (getD-numbers w n i (drop at bs) h ∙ ap (λ (l : List ℕ). leValue (take w l)) (drop-drop (i * w) at bs)) in
-    ap₂ (λ (l : List ℕ) (x : ℕ). set l i x) o g
-    ∙ ap (λ (k : ℕ). set (over 0 (take i s) xs) k (getD s i 0)) (sym (zero-add i))
-    ∙ down-next 0 i s xs (omega (arith, length-numbers w n (drop at bs)))
+    ap₂ (λ (l : List ℕ) (x : ℕ). set l i x) o g ∙ front-next i s xs (omega (arith, length-numbers w n (drop at bs)))
 
 -- one field more within n of them
 pub next-within : (w n i : ℕ) → i < n → i * w + w ≤ n * w

@@ -2,7 +2,7 @@
 use mathlib.Core.Path.{_≡_, refl, sym, ap, ap₂, _∙_}
 use mathlib.Core.List.{List, [], _∷_, _++_, map}
 use Prim.Native.Nat.{ℕ, zero, suc, _+_, _-_, _≤_, _<_}
-use native.Mathlib.Nat.{zero-add, sub-zero, suc-sub-suc, le-of-suc-le-suc, not-suc-le-zero}
+use native.Mathlib.Nat.{le-of-suc-le-suc, not-suc-le-zero}
 use native.Mathlib.Omega.{arith}
 use lib.ListN.{length, take, getD, set, replicate, length-map}
 use lib.Seq.{take-all}
@@ -12,7 +12,7 @@ use Rattle.error.specs.declared.Number.the-variants as number
 use Rattle.error.specs.Answers.{numberOutcome}
 use Rattle.error.specs.Outcome.{Outcome, answer, nothing, refuse, firstOf, andThen}
 use Rattle.error.specs.Lent.{over}
-use Rattle.error.proofs.OverLaws.{over-nil, down-next}
+use Rattle.error.proofs.OverLaws.{over-zeros, front-next}
 use Rattle.fsm_sections.specs.declared.FreeSection.{FreeSection}
 use Rattle.fsm_blocks.specs.Reading.{readManager, readSlots}
 use Rattle.fsm_blocks.specs.Parts.{got, Accepted, counted}
@@ -59,22 +59,13 @@ module _ (image slots : List ℕ) where
         let l : i < length s = rw length-map h in
         record {
           within = omega arith;
-          same =
-              ap₂ (λ (c : List ℕ) (k : ℕ). set c i k) (now .same) (e ∙ sym (getD-counts slots i h))
-              ∙ ap (λ (k : ℕ). set (over 0 (take i s) (replicate 12 0)) k (getD s i 0)) (sym (zero-add i))
-              ∙ down-next 0 i s (replicate 12 0) l;
+          same = ap₂ (λ (c : List ℕ) (k : ℕ). set c i k) (now .same) (e ∙ sym (getD-counts slots i h)) ∙ front-next i s (replicate 12 0) l;
         }
 
     pub counts-end : length slots ≤ i → counts ≡ over 0 (map (sectionsIn image) slots) (replicate 12 0)
     counts-end h = now .same ∙ ap (λ (s : List ℕ). over 0 s (replicate 12 0)) (take-all i (map (sectionsIn image) slots) (rw length-map h))
 
 -- ---- the counts of an accepted reading
-
--- what is written over zeros from the front
-pub over-zeros : (vs : List ℕ) (n : ℕ) → length vs ≤ n → over 0 vs (replicate n 0) ≡ vs ++ replicate (n - length vs) 0
-over-zeros [] n h = rw sub-zero (over-nil 0 (replicate n 0))
-over-zeros (v ∷ vs) zero h = absurd (not-suc-le-zero h)
-over-zeros (v ∷ vs) (suc n) h = rw suc-sub-suc (ap (λ (l : List ℕ). v ∷ l) (over-zeros vs n (le-of-suc-le-suc h)))
 
 module _ (image : List ℕ) where
   slot-lengths : (slots : List ℕ) → Accepted (readSlots 8 0 slots image) → map (sectionsIn image) slots ≡ map length (got (readSlots 8 0 slots image))

@@ -2,7 +2,7 @@
 use mathlib.Core.Path.{_≡_, refl, sym, ap, ap₂, _∙_}
 use mathlib.Core.Bool.{Bool, true, false}
 use mathlib.Core.Logic.{⊎-elim}
-use mathlib.Core.List.{List, []}
+use mathlib.Core.List.{List}
 use Prim.Native.Nat.{ℕ, _+_, _-_, _≤_, _<_, min}
 use native.Mathlib.Nat.{le-of-lt}
 use native.Mathlib.Omega.{arith}
@@ -14,7 +14,7 @@ use Rattle.error.specs.Refusals.{numberOf, valuesOf}
 use Rattle.error.specs.Outcome.{Outcome, answer, nothing, refuse, refused, firstOf, andThen}
 use Rattle.error.specs.Lent.{With, with, Left, left, leaving, over}
 use Rattle.error.proofs.TestLaws.{le-or-lt}
-use Rattle.error.proofs.OverLaws.{length-over}
+use Rattle.error.proofs.OverLaws.{length-over, over-zeros}
 use Rattle.error.proofs.OutcomeLaws.{first-append, passes, then-first}
 use Rattle.fields.specs.Layout.{window}
 use Rattle.file_space_info.specs.declared.FileSpaceInfo.{FileSpaceInfo}
@@ -23,7 +23,6 @@ use Rattle.file_space_info.specs.declared.Parsed.the-variants.{Message, Refused
 use Rattle.file_space_info.specs.Message.{fixedLen, infoOf, fixedTests, fixedRead, present, Read, parsed, parsedOutcome}
 use Rattle.file_space_info.proofs.ReadLaws.{length-numbers}
 use Rattle.image.specs.Reading.{messageAt, addressesIn}
-use Rattle.image.proofs.CountLaws.{over-zeros}
 
 -- ---- the bytes
 

@@ -6,7 +6,7 @@ use native.Mathlib.Omega.{arith}
 use lib.ListN.{length, take, getD, set}
 use lib.Seq.{take-length}
 use Rattle.error.specs.Lent.{over}
-use Rattle.error.proofs.OverLaws.{length-over, over-nil, over-cut, down-next}
+use Rattle.error.proofs.OverLaws.{length-over, over-nil, over-cut, front-next}
 
 module _ (numbers run₀ : List ℕ) where
   -- i numbers are put
@@ -22,14 +22,7 @@ module _ (numbers run₀ : List ℕ) where
 
   pub front-step : (i : ℕ) (run : List ℕ) → Front i run → i < length numbers → Front (i + 1) (set run i (getD numbers i 0))
   front-step i run f h =
-      let z : i ≡ 0 + i = omega arith in
-      record {
-        inside = omega arith;
-        same =
-            ap (λ (m : List ℕ). set m i (getD numbers i 0)) (f .same)
-            ∙ ap (λ (k : ℕ). set (over 0 (take i numbers) run₀) k (getD numbers i 0)) z
-            ∙ down-next 0 i numbers run₀ h;
-      }
+      record { inside = omega arith; same = ap (λ (m : List ℕ). set m i (getD numbers i 0)) (f .same) ∙ front-next i numbers run₀ h }
 
   -- all are put, or the run is full
   pub front-all : (i : ℕ) (run : List ℕ) → Front i run → length numbers ≤ i → run ≡ over 0 numbers run₀
