@@ -24,7 +24,8 @@ fn lookup3(figures: &Figures) {
             (state >> 24) as u8
         })
         .collect();
-    for len in [64, 4096, 1 << 20] {
+    // In short input the last block, of 1 to 12 bytes, shows.
+    for len in [5, 12, 29, 64, 4096, 1 << 20] {
         let input = &bytes[..len];
         figures.compare(
             &format!("lookup3, {len} bytes"),

@@ -1,4 +1,5 @@
 pub mod WordLaws
 pub mod TailLaws
+pub mod LastBlockLaws
 pub mod HashLaws
 pub mod TrailingLaws

@@ -1,7 +1,7 @@
--- The last switch, by what it adds: at most twelve bytes add what a block adds whose missing bytes are 0. Assumes nothing.
+-- The last switch, by what it adds: at most twelve bytes add what they spell, word by word. Assumes nothing.
 use mathlib.Core.Path.{_≡_, refl, sym, ap, _∙_}
 use mathlib.Core.List.{List, [], _∷_}
-use Prim.Native.Nat.{ℕ, zero, suc, _+_, _*_, _/_, _%_, _^_, _≤_, _<_}
+use Prim.Native.Nat.{ℕ, zero, suc, _+_, _*_, _/_, _%_, _^_, _≤_}
 use native.Mathlib.Nat.{add-zero, add-suc, suc-add, mul-assoc, add-mul, zero-mul, mul-one, mod-lt}
 use native.Mathlib.Omega.{arith}
 use lib.Dec.{lit<}
@@ -11,12 +11,7 @@ use lib.Seq.{drop-drop}
 use Rattle.fields.specs.Le.{leValue}
 use Rattle.checksum.specs.declared.Words.{Words}
 use Rattle.checksum.specs.Lookup3.{add32, blockAdded, gained, byteAdded, tailAdded}
-
--- words below 2^32
-pub record Low (w : Words) : Type 0 where
-  pub low-a : w .a < 2 ^ 32
-  pub low-b : w .b < 2 ^ 32
-  pub low-c : w .c < 2 ^ 32
+use Rattle.checksum.specs.LastBlock.{Low}
 
 add-add : (x y z : ℕ) → add32 (add32 x y) z ≡ add32 x (z + y)
 unfolding add32

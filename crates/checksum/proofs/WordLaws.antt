@@ -1,12 +1,12 @@
 -- Laws of 32-bit words: the rotation, the wrapping difference, and the word that bytes spell. Assumes nothing.
 use mathlib.Core.Path.{_≡_, refl, sym, ap, _∙_, subst}
 use mathlib.Core.List.{List, [], _∷_}
-use Prim.Native.Nat.{ℕ, _+_, _-_, _*_, _/_, _%_, _^_, _≤_, _<_}
+use Prim.Native.Nat.{ℕ, _+_, _-_, _*_, _/_, _%_, _^_, _<_}
 use native.Mathlib.Nat.{le-of-lt, sub-add-cancel, add-sub-of-le, mul-div-cancel, mul-mod-left, add-zero}
 use native.Mathlib.Omega.{arith}
 use lib.Bits.{bitOr, or-shifted}
 use lib.Pow.{pow-pos, shr-lt, mod-pow-add}
-use lib.ListN.{length, getD, take, drop, List·getD-eq-default}
+use lib.ListN.{getD, take, drop}
 use lib.Seq.{getD-drop}
 use Rattle.fields.specs.Le.{leValue}
 use Rattle.checksum.specs.Lookup3.{rotl32, sub32}
@@ -50,21 +50,8 @@ four (a ∷ b ∷ []) = omega arith
 four (a ∷ b ∷ c ∷ []) = omega arith
 four (a ∷ b ∷ c ∷ d ∷ k) = omega arith
 
-module _ (at : ℕ) (k : List ℕ) where
-  pub word-is : leValue (take 4 (drop at k)) ≡ getD k at 0 + getD k (at + 1) 0 * 256 + getD k (at + 2) 0 * 65536 + getD k (at + 3) 0 * 16777216
-  word-is =
-      let e : getD (drop at k) 0 0 ≡ getD k at 0 = getD-drop at k 0 0 ∙ ap (λ (n : ℕ). getD k n 0) (add-zero at) in
-      omega (arith, four (drop at k), getD-drop at k 1 0, getD-drop at k 2 0, getD-drop at k 3 0)
-
-  -- where fewer than four bytes are left, those
-  pub word-three : length k ≤ at + 3 → leValue (take 4 (drop at k)) ≡ getD k at 0 + getD k (at + 1) 0 * 256 + getD k (at + 2) 0 * 65536
-  word-three h = omega (arith, word-is, List·getD-eq-default k 0 h)
-
-  pub word-two : length k ≤ at + 2 → leValue (take 4 (drop at k)) ≡ getD k at 0 + getD k (at + 1) 0 * 256
-  word-two h = omega (arith, word-three (omega arith), List·getD-eq-default k 0 h)
-
-  pub word-one : length k ≤ at + 1 → leValue (take 4 (drop at k)) ≡ getD k at 0
-  word-one h = omega (arith, word-two (omega arith), List·getD-eq-default k 0 h)
-
-  pub word-none : length k ≤ at → leValue (take 4 (drop at k)) ≡ 0
-  word-none h = omega (arith, word-one (omega arith), List·getD-eq-default k 0 h)
+pub word-is : (at : ℕ) (k : List ℕ)
+    → leValue (take 4 (drop at k)) ≡ getD k at 0 + getD k (at + 1) 0 * 256 + getD k (at + 2) 0 * 65536 + getD k (at + 3) 0 * 16777216
+word-is at k =
+    let e : getD (drop at k) 0 0 ≡ getD k at 0 = getD-drop at k 0 0 ∙ ap (λ (n : ℕ). getD k n 0) (add-zero at) in
+    omega (arith, four (drop at k), getD-drop at k 1 0, getD-drop at k 2 0, getD-drop at k 3 0)

@@ -1,2 +1,3 @@
 pub mod Lookup3
+pub mod LastBlock
 pub mod Trailing

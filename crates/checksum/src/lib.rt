@@ -5,6 +5,7 @@ ghost use lib.ListN.{length, take, drop};
 ghost use Rattle.error.specs.Answers.{checkedOutcome};
 ghost use Rattle.fields.specs.Le.{leValue};
 ghost use Rattle.checksum.specs.Lookup3.{sub32, xor32, rotl32, mixed, finished, blockAdded, tailAdded, hashOf, lookup3};
+ghost use Rattle.checksum.specs.LastBlock.{padded};
 ghost use Rattle.checksum.specs.Trailing.{trailing};
 use error::Checked;
 use error::Refusal;
@@ -94,29 +95,6 @@ fn word(bytes: &[u8], at: usize) -> u32
         + (wide(bytes[at + 3]) << 24)
 }
 
-// The same where fewer than four bytes may be left.
-fn part_word(bytes: &[u8], at: usize) -> u32
-    ensures { λ r. ⌜ r ≡ leValue (take 4 (drop at (now (bytes .entry)))) ⌝ }
-{
-    let len = bytes.len();
-    if len <= at {
-        return 0;
-    }
-    let left = len - at;
-    if 4 <= left {
-        return word(bytes, at);
-    }
-    let one = wide(bytes[at]);
-    if left < 2 {
-        return one;
-    }
-    let two = one + (wide(bytes[at + 1]) << 8);
-    if left < 3 {
-        return two;
-    }
-    two + (wide(bytes[at + 2]) << 16)
-}
-
 // Adds the twelve bytes at `at`.
 fn add_block(w: Words, bytes: &[u8], at: usize) -> Words
     requires { ⌜ at + 12 ≤ length (now bytes) ⌝ }
@@ -129,16 +107,28 @@ fn add_block(w: Words, bytes: &[u8], at: usize) -> Words
     }
 }
 
+// The last bytes, twelve at the most, as one block whose missing bytes are 0. It is made on the stack, since a constant would
+// be read-only memory, and by or, since a plain copy would become a call of C's `memcpy`.
+fn last_block(bytes: &[u8]) -> [u8; 12]
+    requires { ⌜ length (now bytes) ≤ 12 ⌝ }
+    ensures { λ r. ⌜ r ≡ padded (now (bytes .entry)) ⌝ }
+{
+    let mut block = [0; 12];
+    let mut i = 0;
+    while i < bytes.len() {
+        block[i] = block[i] | bytes[i];
+        i += 1;
+    }
+    block
+}
+
 // Adds the last bytes, twelve at the most, as lookup3.c's switch does.
 fn add_tail(w: Words, bytes: &[u8]) -> Words
     requires { ⌜ length (now bytes) ≤ 12 ⌝ }
     ensures { λ r. ⌜ r ≡ tailAdded 0 (now (bytes .entry)) w ⌝ }
 {
-    Words {
-        a: std::num::wrapping_add_u32(w.a, part_word(bytes, 0)),
-        b: std::num::wrapping_add_u32(w.b, part_word(bytes, 4)),
-        c: std::num::wrapping_add_u32(w.c, part_word(bytes, 8)),
-    }
+    let block = last_block(bytes);
+    add_block(w, &block, 0)
 }
 
 // A length modulo 2^32.
