@@ -6,6 +6,7 @@ include!("files.rs");
 mod blocks;
 mod figures;
 mod lists;
+mod paged;
 mod save;
 
 use figures::Figures;
@@ -39,6 +40,7 @@ fn main() {
     let figures = Figures::begin(std::env::args().nth(1).unwrap_or_default());
     lookup3(&figures);
     lists::run(&figures);
+    paged::run(&figures);
     blocks::run(&figures);
     save::run(&figures);
 }

@@ -1,10 +1,9 @@
 -- Calls that numbers encode, made one after another on three lists, and the free bytes after them. Assumes nothing.
 use mathlib.Core.Path.{_≡_, refl, sym, ap, ap₂, _∙_}
-use Prim.Native.Nat.{ℕ, suc, _+_, _^_, _≤_, _<_}
+use Prim.Native.Nat.{ℕ, _+_, _^_, _≤_, _<_}
 use native.Mathlib.Omega.{arith}
 use mathlib.Core.List.{List, [], _∷_}
 use lib.ListN.{length, getD, drop, length-drop}
-use lib.Seq.{drop-cons}
 use Rattle.free_regions.specs.Sets.{howMany}
 use Rattle.free_space.specs.declared.list.FreeList.{FreeList}
 use Rattle.free_space.specs.Runs.{recordOf}
@@ -15,6 +14,7 @@ use Rattle.free_lists.specs.declared.calls.Which.the-variants.{Metadata, Raw, U
 use Rattle.free_lists.specs.declared.calls.ListCall.{ListCall}
 use Rattle.free_lists.specs.Lists.{Lists, listsIn}
 use Rattle.free_lists.specs.History.{CallOn, on, next, listsAfter, emptyLists, lastOver, wasFree}
+use Rattle.free_lists.proofs.DropLaws.{drop-four}
 use Rattle.free_lists.proofs.HistoryLaws.{history}
 use Rattle.end_to_end.specs.Encoding.{whichOf, callOf, callOnOf, callsOf, runsOf, afterCalls, runsAfter}
 
@@ -40,16 +40,7 @@ module _ (calls : List ℕ) (at : ℕ) where
   -- the call at a place stands before those that follow it
   first-on : at + 4 ≤ length calls → callsOf (drop at calls) ≡ first ∷ callsOf rest
   unfolding callsOf
-  first-on h =
-      let e1 : suc at ≡ at + 1 = omega arith in
-      let e2 : suc (at + 1) ≡ at + 2 = omega arith in
-      let e3 : suc (at + 2) ≡ at + 3 = omega arith in
-      let e4 : suc (at + 3) ≡ at + 4 = omega arith in
-      let d3 : drop (at + 3) calls ≡ number 3 ∷ rest = drop-cons calls (at + 3) 0 (omega arith) ∙ rw e4 in
-      let d2 : drop (at + 2) calls ≡ number 2 ∷ number 3 ∷ rest = drop-cons calls (at + 2) 0 (omega arith) ∙ rw (e3, d3) in
-      let d1 : drop (at + 1) calls ≡ number 1 ∷ number 2 ∷ number 3 ∷ rest = drop-cons calls (at + 1) 0 (omega arith) ∙ rw (e2, d2) in
-      let d0 : drop at calls ≡ getD calls at 0 ∷ number 1 ∷ number 2 ∷ number 3 ∷ rest = drop-cons calls at 0 (omega arith) ∙ rw (e1, d1) in
-      ap callsOf d0
+  first-on h = ap callsOf (drop-four calls at h)
 
   pub after-step : (ls ls₂ : Lists) (i : Which) (c : ListCall) → i ≡ whichOf (getD calls at 0) → c ≡ callOf (number 1) (number 2) (number 3)
       → at + 4 ≤ length calls → ls₂ ≡ next (on i c) ls → listsAfter (callsOf (drop at calls)) ls ≡ listsAfter (callsOf rest) ls₂

@@ -4,3 +4,4 @@ pub mod CutLaws
 pub mod DemandedLaws
 pub mod AnewLaws
 pub mod Cases
+pub mod AfterStepsLaws

@@ -1,11 +1,11 @@
 -- Each refusal's number and values, by cases. Assumes nothing.
---   numberOf   the number, 1 to 14, under which document 01 lists a refusal ("Fourteen ways to say no")
+--   numberOf   the number under which a refusal is listed: 1 to 14 by document 01 ("Fourteen ways to say no"), 15 by document 02 (P4: "15, after 6")
 --   valuesOf   the values that it names, in its order ("A refusal carries its number and the values named"): "expected and available" of 7,
 --              "the byte" of 8 and 9, "stored and computed" of 11, "needed and given" of 14; the others have none
 use Prim.Native.Nat.{ℕ}
 use mathlib.Core.List.{List, [], _∷_}
 use Rattle.error.specs.declared.Refusal.{Refusal}
-use Rattle.error.specs.declared.Refusal.the-variants.{Width, Page, NotAList, Overflow, SharedAddress, PartUnit, Short, MessageVersion, Strategy, InvalidManager, Checksum, WideAddress, Place, OverCapacity}
+use Rattle.error.specs.declared.Refusal.the-variants.{Width, Page, NotAList, Overflow, SharedAddress, PartUnit, OtherKind, Short, MessageVersion, Strategy, InvalidManager, Checksum, WideAddress, Place, OverCapacity}
 
 abbrev pub numberOf : Refusal → ℕ
 numberOf Width = 1
@@ -14,6 +14,7 @@ numberOf NotAList = 3
 numberOf Overflow = 4
 numberOf SharedAddress = 5
 numberOf PartUnit = 6
+numberOf OtherKind = 15
 numberOf (Short expected available) = 7
 numberOf (MessageVersion byte) = 8
 numberOf (Strategy byte) = 9
@@ -30,6 +31,7 @@ valuesOf NotAList = []
 valuesOf Overflow = []
 valuesOf SharedAddress = []
 valuesOf PartUnit = []
+valuesOf OtherKind = []
 valuesOf (Short expected available) = expected ∷ available ∷ []
 valuesOf (MessageVersion byte) = byte ∷ []
 valuesOf (Strategy byte) = byte ∷ []

@@ -1,5 +1,5 @@
-// The fourteen refusals: the variants of `FormatError` (error.rs) that this library needs, each with its values, and
-// those that stand for what the Rust asserts or leaves to the caller.
+// The fifteen refusals: the variants of `FormatError` (error.rs) that this library needs, each with its values, and
+// those that stand for what the Rust asserts or leaves to the caller. They stand in the order in which they are given.
 ghost use mathlib.Core.Path.{_≡_};
 ghost use Rattle.error.specs.Refusals.{numberOf};
 
@@ -16,6 +16,8 @@ pub enum Refusal {
     SharedAddress,
     // A length is no multiple of its unit.
     PartUnit,
+    // A freed byte lies in a page that is not marked with the kind.
+    OtherKind,
     // Fewer bytes than the fixed part needs.
     Short { expected: u64, available: u64 },
     // The version byte of the File Space Info message is not 1.
@@ -34,7 +36,7 @@ pub enum Refusal {
 }
 
 impl Refusal {
-    // The refusal's number, 1 to 14.
+    // The refusal's number, 1 to 15.
     pub fn number(self) -> u8
         ensures { λ r. ⌜ r ≡ numberOf self ⌝ }
     {
@@ -45,6 +47,7 @@ impl Refusal {
             Refusal::Overflow => 4,
             Refusal::SharedAddress => 5,
             Refusal::PartUnit => 6,
+            Refusal::OtherKind => 15,
             Refusal::Short {
                 expected: _,
                 available: _,

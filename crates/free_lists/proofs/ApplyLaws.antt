@@ -8,7 +8,7 @@ use Rattle.fields.specs.Ranges.{Range}
 use Rattle.free_space.specs.declared.list.FreeList.{FreeList}
 use Rattle.free_space.specs.declared.list.Kept.{Kept}
 use Rattle.free_space.specs.declared.list.Given.{Given}
-use Rattle.free_space.specs.Calls.{Gave, keptOutcome, givenOutcome, keeping, freed, allocated, allocatedUnits, rangeTaken, trailingTaken}
+use Rattle.free_space.specs.Calls.{Gave, recordAfter, keptOutcome, givenOutcome, keeping, freed, allocated, allocatedUnits, rangeTaken, trailingTaken}
 use Rattle.free_lists.specs.declared.FileLists.{FileLists}
 use Rattle.free_lists.specs.declared.calls.Which.{Which}
 use Rattle.free_lists.specs.declared.calls.Which.the-variants.{Metadata, Raw, Unclassified}
@@ -16,7 +16,7 @@ use Rattle.free_lists.specs.declared.calls.ListCall.{ListCall}
 use Rattle.free_lists.specs.declared.calls.ListCall.the-variants as call
 use Rattle.free_lists.specs.declared.calls.Performed.{Performed}
 use Rattle.free_lists.specs.Lists.{LentList, listIn, Lists, listsOf, listsIn}
-use Rattle.free_lists.specs.History.{mapped, recordAfter, effect, bytes, perform, givenOut, answeredOutcome, on, next}
+use Rattle.free_lists.specs.History.{mapped, effect, bytes, perform, givenOut, answeredOutcome, on, next}
 
 -- ---- one list
 

@@ -46,7 +46,7 @@ record Good (c : ListCall) (l : LentList) (d : Effect) : Type 0 where
   list : isList (d .left .run) (d .left .list) ≡ isList (l .run) (l .list)
   free : (b : ℕ) → Free (regionsOf (d .left)) b ↔ Now (goesOver c (d .outcome) b) (Free (regionsOf l) b)
 
-holds-or : (s e b : ℕ) → ((holds (bytes s e) b ≡ true) × Between s e b) ⊎ ((holds (bytes s e) b ≡ false) × (Between s e b → ⊥))
+pub holds-or : (s e b : ℕ) → ((holds (bytes s e) b ≡ true) × Between s e b) ⊎ ((holds (bytes s e) b ≡ false) × (Between s e b → ⊥))
 holds-or s e b =
     ⊎-elim (λ h. ⊎-elim (λ k. inr (rw (le-leb s b h, le-ltb b e k), λ t. omega arith)) (λ k. inl (rw (le-leb s b h, lt-ltb b e k), (h, k))) (le-or-lt e b))
     (λ h. inr (rw (lt-leb s b h), λ t. omega arith)) (le-or-lt s b)

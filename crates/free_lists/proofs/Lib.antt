@@ -2,6 +2,9 @@ pub mod CallLaws
 pub mod FreeBytesLaws
 pub mod HistoryLaws
 pub mod SharingLaws
+pub mod SearchLaws
 pub mod TrailingLaws
 pub mod ApplyLaws
 pub mod RunLaws
+pub mod DecidedLaws
+pub mod DropLaws

@@ -141,7 +141,7 @@ module _ (ls : Lists) where
       back p q (Unclassified, f) = p .1 (inr (q .1 (inr f)))
 
   -- two lists share a byte where the test says so, and nowhere else
-  shared : sharedByte (regionsIn ls) ≡ true → TwoShare ls
+  pub shared : sharedByte (regionsIn ls) ≡ true → TwoShare ls
   shared e = go (shareBytes (of Metadata) (of Raw)) refl (shareBytes (of Metadata) (of Unclassified)) refl e
     where
       go : (s : Bool) → shareBytes (of Metadata) (of Raw) ≡ s → (t : Bool) → shareBytes (of Metadata) (of Unclassified) ≡ t
@@ -171,7 +171,7 @@ module _ (ls : Lists) where
     raw-unclassified : Common (Free (of Raw)) (Free (of Unclassified)) → ⊥
     raw-unclassified = not-common Raw Unclassified (rest-no .1)
 
-    none-shared : TwoShare ls → ⊥
+    pub none-shared : TwoShare ls → ⊥
     none-shared (Metadata, Metadata, e, q) = true-not-false true refl e
     none-shared (Metadata, Raw, e, q) = meta-raw q
     none-shared (Metadata, Unclassified, e, q) = meta-unclassified q

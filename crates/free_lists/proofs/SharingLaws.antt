@@ -27,11 +27,10 @@ use Rattle.free_space.proofs.DecodeLaws.{here}
 use Rattle.free_space.proofs.CheckLaws.{denied, held}
 use Rattle.free_space.proofs.ListLaws.{listed}
 use Rattle.pairs.proofs.PairLaws.{length-decode, decode-at, decode-end}
-use Rattle.free_lists.specs.declared.Cursors.{Cursors}
 use Rattle.free_lists.specs.declared.FileLists.{FileLists}
 use Rattle.free_lists.specs.Trailing.{falling, walk, runStart}
 use Rattle.free_lists.specs.Lists.{Lists, listsIn, regionsIn, areLists, sharedByte, apart, together}
-use Rattle.free_lists.specs.Walks.{InOrder, AllInOrder, remaining}
+use Rattle.free_lists.specs.Walks.{countsOf, InOrder, AllInOrder, remaining}
 
 -- ---- regions in order
 
@@ -64,7 +63,7 @@ module _ {xs : List ℕ} {n : ℕ} (p : InOrder xs n) (i : ℕ) (r : FreeRegion)
   order-fits = subst (Fit 0) at-i (ok-at 0 i (decode n xs) (region 0 0) (p .ok) long)
 
   -- those from it on begin at its address or later
-  from-here : Within (r .addr) top (drop i (decode n xs))
+  pub from-here : Within (r .addr) top (drop i (decode n xs))
   from-here =
       subst (λ (q : FreeRegion). Within (q .addr) top (drop i (decode n xs))) at-i
       (drop-within 0 top i (decode n xs) (region 0 0) (ok-prop 0 (decode n xs) .0 (p .ok)) long)
@@ -111,14 +110,11 @@ module _ {xs : List ℕ} {n : ℕ} {ys : List ℕ} {m i j : ℕ} (c : Compared x
 -- ---- refusals 3 and 5 of three lists
 
 module _ (xs ys zs : List ℕ) (f : FileLists) where
-  abbrev counts : Cursors
-  counts = record { meta = f .metadata .count; raw = f .raw .count; unclassified = f .unclassified .count }
-
   abbrev ls : Lists
   ls = listsIn xs ys zs f
 
   -- b and s are the flags of the code
-  pub lists-order : {b : Bool} → b ≡ areLists ls → not b ≡ false → AllInOrder xs ys zs counts
+  pub lists-order : {b : Bool} → b ≡ areLists ls → not b ≡ false → AllInOrder xs ys zs (countsOf f)
   lists-order e h =
       let p = and-true (isList xs (f .metadata)) _ (held e h) in
       let q = and-true (isList ys (f .raw)) (isList zs (f .unclassified)) (p .1) in
@@ -138,10 +134,10 @@ module _ (xs ys zs : List ℕ) (f : FileLists) where
     none : o ≡ checked.Passed → NoneHolds (apart ls)
     none h = first-answers (apart ls) tt tt (sym a ∙ ap checkedOutcome h) .0
 
-    pub fine-order : o ≡ checked.Passed → AllInOrder xs ys zs counts
+    pub fine-order : o ≡ checked.Passed → AllInOrder xs ys zs (countsOf f)
     fine-order h = lists-order refl (none h .0)
 
-    pub start-is : (eof n : ℕ) → o ≡ checked.Passed → n ≡ walk eof (falling (remaining xs ys zs counts)) → answer n ≡ runStart ls eof
+    pub start-is : (eof n : ℕ) → o ≡ checked.Passed → n ≡ walk eof (falling (remaining xs ys zs (countsOf f))) → answer n ≡ runStart ls eof
     unfolding runStart
     start-is eof n h e = ap answer e ∙ sym (first-pass (apart ls) _ (none h))
 

@@ -3,7 +3,6 @@
 -- arguments": the enum `ListCall` of the code.
 --   Effect          what a call comes to: its outcome, an accepted call's with the bytes that it goes over, and the list that it leaves
 --   mapped          an outcome with another answer
---   recordAfter     the record after an outcome: an answer's; a refusal or Nothing leaves the old one
 --   effect, kept, gave   what a call comes to by its outcome: of any call; of one that gives nothing out; of one that gives an address out
 --   bytes           the places from one up to another
 --   perform         a call on a list, by the definition that the contract of the call cites: acceptance and address are "those that the rules
@@ -36,7 +35,7 @@ use Rattle.free_regions.specs.Sets.{howMany}
 use Rattle.free_space.specs.declared.list.FreeList.{FreeList}
 use Rattle.free_space.specs.Runs.{recordOf, isList}
 use Rattle.free_space.specs.Questions.{freeBytes}
-use Rattle.free_space.specs.Calls.{Gave, keeping, freed, allocated, allocatedUnits, rangeTaken, trailingTaken}
+use Rattle.free_space.specs.Calls.{Gave, recordAfter, keeping, freed, allocated, allocatedUnits, rangeTaken, trailingTaken}
 use Rattle.free_lists.specs.declared.calls.Which.{Which}
 use Rattle.free_lists.specs.declared.calls.Which.the-variants.{Metadata, Raw, Unclassified}
 use Rattle.free_lists.specs.declared.calls.ListCall.{ListCall}
@@ -55,12 +54,6 @@ abbrev pub mapped : {A B : Type 0} → (A → B) → Outcome A → Outcome B
 mapped f (answer a) = answer (f a)
 mapped f nothing = nothing
 mapped f (refuse n vs) = refuse n vs
-
--- the record of an answer; a refusal or Nothing leaves the old one
-abbrev pub recordAfter : {A : Type 0} → (A → FreeList) → FreeList → Outcome A → FreeList
-recordAfter list l (answer a) = list a
-recordAfter list l nothing = l
-recordAfter list l (refuse n vs) = l
 
 -- list and over give the record of an answer, and the bytes that it goes over
 abbrev pub effect : {A : Type 0} → (A → FreeList) → (A → Range) → FreeList → Left A (List ℕ) → Effect

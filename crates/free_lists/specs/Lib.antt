@@ -1,4 +1,5 @@
 pub mod Lists
+pub mod Decided
 pub mod Trailing
 pub mod History
 pub mod Walks

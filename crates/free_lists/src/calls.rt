@@ -1,9 +1,9 @@
 // A call on one of the three lists of a file, as a value, and the one function that makes it.
 ghost use mathlib.Core.Path.{_≡_};
 ghost use mathlib.Core.List.{[], _∷_};
-ghost use Rattle.free_space.specs.Calls.{keptOutcome, givenOutcome, keeping};
+ghost use Rattle.free_space.specs.Calls.{keptOutcome, givenOutcome, recordAfter, keeping};
 ghost use Rattle.free_lists.specs.Lists.{listIn, listsIn};
-ghost use Rattle.free_lists.specs.History.{mapped, recordAfter, perform, givenOut, answeredOutcome, on, next};
+ghost use Rattle.free_lists.specs.History.{mapped, perform, givenOut, answeredOutcome, on, next};
 use crate::FileLists;
 use error::Refusal;
 use free_space::list::FreeList;
@@ -100,7 +100,7 @@ pub fn perform(run: &mut [u64], list: FreeList, call: ListCall) -> Performed
     }
 }
 
-fn lists_of(metadata: FreeList, raw: FreeList, unclassified: FreeList) -> FileLists
+pub(crate) fn lists_of(metadata: FreeList, raw: FreeList, unclassified: FreeList) -> FileLists
     ensures { λ r. ⌜ r ≡ record { metadata = metadata; raw = raw; unclassified = unclassified } ⌝ }
 {
     FileLists {

@@ -1,14 +1,16 @@
 // The three lists of a file: what is asked of them together, and the calls on them.
 pub mod calls;
+pub mod decide;
+mod share;
 
 ghost use mathlib.Core.Path.{_≡_};
 ghost use Prim.Native.Nat.{max};
 ghost use Rattle.error.specs.Answers.{checkedOutcome, numberOutcome};
-ghost use Rattle.free_regions.specs.Regions.{shareBytes};
-ghost use Rattle.free_space.specs.Runs.{regionAt, decode};
-ghost use Rattle.free_lists.specs.Lists.{listsIn, areLists, sharedByte, together};
+ghost use Rattle.free_lists.specs.Lists.{listsIn, areLists, together};
 ghost use Rattle.free_lists.specs.Trailing.{falling, walk, runStart};
-ghost use Rattle.free_lists.specs.Walks.{InOrder, AllInOrder, regionsTo, remaining, height, Onward};
+ghost use Rattle.free_lists.specs.Walks.{InOrder, AllInOrder, remaining, height, Onward};
+use crate::share::nth_region;
+use crate::share::share_any;
 use error::Checked;
 use error::Number;
 use error::Refusal;
@@ -16,7 +18,6 @@ use free_regions::FreeRegion;
 use free_space::check::is_list;
 use free_space::list::FreeList;
 use numbers::max;
-use pairs::pair_at;
 
 // The records of the three lists of a file. Their runs are lent beside them, in the same order.
 pub struct FileLists {
@@ -38,63 +39,6 @@ pub fn are_lists(meta: &[u64], raw: &[u64], unclassified: &[u64], lists: FileLis
     is_list(unclassified, lists.unclassified)
 }
 
-// The i-th region. A number that the run does not have is 0.
-fn nth_region(run: &[u64], i: usize) -> FreeRegion
-    ensures { λ r. ⌜ r ≡ regionAt (now (run .entry)) i ⌝ }
-{
-    let p = pair_at(run, i);
-    FreeRegion {
-        addr: p.addr,
-        len: p.len,
-    }
-}
-
-// Whether two lists share a byte: of the two regions at hand, the one that ends first is passed.
-fn share_two(a: &[u64], n: usize, b: &[u64], m: usize) -> bool
-    requires { ⌜ InOrder (now a) n × InOrder (now b) m ⌝ }
-    ensures { λ r. ⌜ r ≡ shareBytes (decode n (now (a .entry))) (decode m (now (b .entry))) ⌝ }
-{
-    let mut i = 0;
-    let mut j = 0;
-    while i < n {
-        if m <= j {
-            return false;
-        }
-        let r = nth_region(a, i);
-        let s = nth_region(b, j);
-        if r.addr + r.len <= s.addr {
-            i += 1;
-        } else {
-            if r.addr < s.addr + s.len {
-                return true;
-            }
-            j += 1;
-        }
-    }
-    false
-}
-
-// How many regions of each of three lists there are to look at.
-struct Cursors {
-    meta: usize,
-    raw: usize,
-    unclassified: usize,
-}
-
-// Whether two of three lists share a byte.
-fn share_any(meta: &[u64], raw: &[u64], unclassified: &[u64], all: Cursors) -> bool
-    requires { ⌜ AllInOrder (now meta) (now raw) (now unclassified) all ⌝ }
-    ensures { λ r. ⌜ r ≡ sharedByte (regionsTo (now (meta .entry)) (now (raw .entry)) (now (unclassified .entry)) all) ⌝ }
-{
-    if share_two(meta, all.meta, raw, all.raw) {
-        return true;
-    }
-    if share_two(meta, all.meta, unclassified, all.unclassified) {
-        return true;
-    }
-    share_two(raw, all.raw, unclassified, all.unclassified)
-}
-
 // Refusals 3 and 5 of three lists that are given together.
 pub fn check_lists(meta: &[u64], raw: &[u64], unclassified: &[u64], lists: FileLists) -> Checked
     ensures { λ r. ⌜ checkedOutcome r ≡ together (listsIn (now (meta .entry)) (now (raw .entry)) (now (unclassified .entry)) lists) ⌝ }
@@ -102,15 +46,17 @@ pub fn check_lists(meta: &[u64], raw: &[u64], unclassified: &[u64], lists: FileL
     if !are_lists(meta, raw, unclassified, lists) {
         return Checked::Refused(Refusal::NotAList);
     }
-    let all = Cursors {
-        meta: lists.metadata.count,
-        raw: lists.raw.count,
-        unclassified: lists.unclassified.count,
-    };
-    if share_any(meta, raw, unclassified, all) {
+    if share_any(meta, raw, unclassified, lists) {
         return Checked::Refused(Refusal::SharedAddress);
     }
     Checked::Passed
+}
+
+// How many regions of each of three lists there are to look at.
+struct Cursors {
+    meta: usize,
+    raw: usize,
+    unclassified: usize,
 }
 
 // The region that the walk comes to next, and the cursors after it.

@@ -1,4 +1,5 @@
 pub mod AnswerLaws
+pub mod CarryLaws
 pub mod CheckLaws
 pub mod CutLaws
 pub mod DecodeLaws

@@ -13,18 +13,19 @@ use Rattle.error.specs.Lent.{with, over}
 use Rattle.error.proofs.OverLaws.{over-nil, over-front}
 use Rattle.error.proofs.OutcomeLaws.{refuses, passes}
 use Rattle.free_regions.specs.declared.FreeRegion.{FreeRegion}
-use Rattle.free_regions.specs.Regions.{region, sumOfLengths, piece, spliced}
+use Rattle.free_regions.specs.Regions.{region, end, sumOfLengths, piece, spliced}
 use Rattle.pairs.proofs.PairLaws.{length-decode, length-flat, flat-decode, length-spliced}
 use Rattle.pairs.specs.Pairs.{capacity}
 use Rattle.free_regions.proofs.CutSets.{piece-none, piece-some}
 use Rattle.free_regions.proofs.LengthLaws.{sum-parts, sum-spliced}
 use Rattle.free_space.specs.declared.list.FreeList.{FreeList}
 use Rattle.free_space.specs.declared.run.Patch.{Patch}
+use Rattle.free_space.specs.declared.run.Patch.the-variants.{One}
 use Rattle.free_space.specs.declared.decide.Decision.the-variants.{Refused, Nothing, Change}
 use Rattle.free_space.specs.Runs.{recordOf, decode, flat, regions, isList, stored}
 use Rattle.free_space.specs.Calls.{leave, placed, giving, keeping}
 use Rattle.free_space.specs.Splices.{Goes, patch, Replaces}
-use Rattle.free_space.specs.Decisions.{fitted, givenBy, keptBy}
+use Rattle.free_space.specs.Decisions.{fitted, givenBy, keptBy, Folds}
 use Rattle.free_space.proofs.ListLaws.{listed}
 use Rattle.free_space.proofs.DecodeLaws.{region-form}
 
@@ -55,6 +56,17 @@ module _ (given n a lo hi total : ℕ) (p : Patch) where
 
   pub fitted-is : lo + length (patch p) + (n - hi) ≤ given → Change a lo hi total p ≡ fitted given n a lo hi total p
   fitted-is h = rw (le-ltb given (lo + length (patch p) + (n - hi)) h)
+
+-- what is freed lies in the one region that is put in
+pub folds-fitted : (given n a lo hi total : ℕ) (r : FreeRegion) (b len : ℕ) → r .addr ≤ b → b + len ≤ end r → Folds b len (fitted given n a lo hi total (One r))
+folds-fitted given n a lo hi total r b len low high = go (ltb given needed)
+  where
+    needed : ℕ
+    needed = lo + 1 + (n - hi)
+
+    go : (t : Bool) → Folds b len (cond t (Refused (OverCapacity needed given)) (Change a lo hi total (One r)))
+    go true = tt
+    go false = (low, high)
 
 -- a change that is fitted to the run leaves the regions, or is refused, as the definitions of the calls say
 module _ (xs : List ℕ) (l : FreeList) (a lo hi total : ℕ) (p : Patch) (t : Replaces xs l lo hi total (patch p)) where

@@ -3,6 +3,7 @@
 -- In quotes: document 01's words, from "The list", from the refusal of that number or from the heading named.
 --   Gave          the address that a call gives out, and the record after it
 --   keptOutcome, givenOutcome   the outcome that an answer of the code stands for ("Language forms": "for every case of the enum")
+--   recordAfter   the record after an outcome: an answer's; a refusal or Nothing leaves the old one
 --   notList       refusal 3, "Not a list": of the run and the record
 --   overflows     refusal 4: "address plus length"
 --   partUnit      refusal 6: "a length that is no multiple of its nonzero unit"
@@ -28,7 +29,7 @@ use mathlib.Core.List.{List, [], _∷_}
 use lib.Dec.{ltb, eqb}
 use lib.ListN.{length, getD}
 use Rattle.error.specs.declared.Refusal.the-variants.{NotAList, Overflow, SharedAddress, PartUnit, OverCapacity}
-use Rattle.error.specs.Outcome.{Outcome, answer, nothing, refused, Condition, when, firstOf}
+use Rattle.error.specs.Outcome.{Outcome, answer, nothing, refuse, refused, Condition, when, firstOf}
 use Rattle.error.specs.Lent.{With, with}
 use Rattle.fields.specs.Ranges.{top}
 use Rattle.free_regions.specs.declared.FreeRegion.{FreeRegion}
@@ -54,6 +55,12 @@ abbrev pub givenOutcome : Given → Outcome Gave
 givenOutcome (given.At a l) = answer (record { addr = a; list = l })
 givenOutcome given.Nothing = nothing
 givenOutcome (given.Refused r) = refused r
+
+-- the record of an answer; a refusal or Nothing leaves the old one
+abbrev pub recordAfter : {A : Type 0} → (A → FreeList) → FreeList → Outcome A → FreeList
+recordAfter list l (answer a) = list a
+recordAfter list l nothing = l
+recordAfter list l (refuse n vs) = l
 
 -- ---- refusals
 

@@ -9,7 +9,7 @@ ghost use Rattle.free_regions.specs.Units.{interiorStart, interiorSpan};
 ghost use Rattle.free_space.specs.Runs.{regionAt, regions, isList};
 ghost use Rattle.free_space.specs.Calls.{placed, keeping, giving, without, allocated, allocatedUnits, freed, rangeTaken, trailingTaken, partUnit};
 ghost use Rattle.free_space.specs.Splices.{Apart, Goes, patch, Replaces};
-ghost use Rattle.free_space.specs.Decisions.{fitted, ifList, Applicable, Gives, Keeps};
+ghost use Rattle.free_space.specs.Decisions.{numberIn, fitted, ifList, Applicable, Gives, Keeps, Folds};
 use crate::check::is_list;
 use crate::fit::Search;
 use crate::fit::best_fit;
@@ -29,7 +29,7 @@ use free_regions::FreeRegion;
 use numbers::saturating_sub;
 
 // What is known before anything changes. The calls carry it out, or several of them together.
-pub(crate) enum Decision {
+pub enum Decision {
     Refused(Refusal),
     // The list stays as it is, and no address is given out.
     Nothing,
@@ -42,6 +42,23 @@ pub(crate) enum Decision {
         total: u64,
         patch: Patch,
     },
+}
+
+// The number of the refusal that a decision is, 0 where it is none.
+pub fn refusal_number(d: Decision) -> u8
+    ensures { λ r. ⌜ r ≡ numberIn d ⌝ }
+{
+    match d {
+        Decision::Refused(r) => r.number(),
+        Decision::Nothing => 0,
+        Decision::Change {
+            addr: _,
+            lo: _,
+            hi: _,
+            total: _,
+            patch: _,
+        } => 0,
+    }
 }
 
 // A change, if the run has room for the regions that it leaves, of which `total` is the sum of the lengths.
@@ -140,7 +157,7 @@ fn take_units(run: &[u64], list: FreeList, i: usize, r: FreeRegion, len: u64, un
 }
 
 // `alloc`: the smallest region that is long enough serves.
-pub(crate) fn decide_alloc(run: &[u64], list: FreeList, len: u64) -> Decision
+pub fn decide_alloc(run: &[u64], list: FreeList, len: u64) -> Decision
     ensures { λ d. ⌜ Gives (now (run .entry)) list (allocated (now (run .entry)) list len) d ⌝ }
 {
     if len == 0 {
@@ -168,7 +185,7 @@ fn is_part(len: u64, unit: u64) -> bool
 }
 
 // `alloc_whole_units`: the region with the least whole units that suffice serves.
-pub(crate) fn decide_whole_units(run: &[u64], list: FreeList, len: u64, unit: u64) -> Decision
+pub fn decide_whole_units(run: &[u64], list: FreeList, len: u64, unit: u64) -> Decision
     ensures { λ d. ⌜ Gives (now (run .entry)) list (allocatedUnits (now (run .entry)) list len unit) d ⌝ }
 {
     if is_part(len, unit) {
@@ -222,8 +239,9 @@ fn cut_between(
 }
 
 // `free`: bytes that are free already are refused.
-pub(crate) fn decide_free(run: &[u64], list: FreeList, addr: u64, len: u64) -> Decision
-    ensures { λ d. ⌜ Keeps (now (run .entry)) list (freed (now (run .entry)) list addr len) d ⌝ }
+pub fn decide_free(run: &[u64], list: FreeList, addr: u64, len: u64) -> Decision
+    ensures decided { λ d. ⌜ Keeps (now (run .entry)) list (freed (now (run .entry)) list addr len) d ⌝ }
+    ensures folds { λ d. ⌜ Folds addr len d ⌝ }
 {
     if !is_list(run, list) {
         return Decision::Refused(Refusal::NotAList);

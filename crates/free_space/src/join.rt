@@ -9,7 +9,7 @@ ghost use Rattle.free_regions.specs.Regions.{region, end, sumOfLengths, absorb,
 ghost use Rattle.free_space.specs.Runs.{regionAt, regions, isList};
 ghost use Rattle.free_space.specs.Calls.{placed, keeping};
 ghost use Rattle.free_space.specs.Splices.{Apart};
-ghost use Rattle.free_space.specs.Decisions.{Keeps};
+ghost use Rattle.free_space.specs.Decisions.{Keeps, Folds};
 use crate::decide::Decision;
 use crate::decide::change;
 use crate::list::FreeList;
@@ -43,7 +43,8 @@ fn join_below(run: &[u64], list: FreeList, i: usize, new: FreeRegion) -> Joined
         × (insert new (regions (now (run .entry)) list)
         ≡ take (j .index) (regions (now (run .entry)) list) ++ absorb (j .region) (drop i (regions (now (run .entry)) list)))
         × (j .region .len + sumOfLengths (drop i (regions (now (run .entry)) list))
-        ≡ new .len + sumOfLengths (drop (j .index) (regions (now (run .entry)) list))) ⌝ }
+        ≡ new .len + sumOfLengths (drop (j .index) (regions (now (run .entry)) list)))
+        × (j .region .addr ≤ new .addr) ⌝ }
 {
     if 0 < i {
         let r = region_at(run, i - 1);
@@ -63,7 +64,8 @@ fn join_above(run: &[u64], list: FreeList, i: usize, new: FreeRegion) -> Joined
     ensures { λ j. ⌜ (i ≤ j .index) × (j .index ≤ list .count)
         × (absorb new (drop i (regions (now (run .entry)) list)) ≡ j .region ∷ drop (j .index) (regions (now (run .entry)) list))
         × (j .region .len + sumOfLengths (drop (j .index) (regions (now (run .entry)) list))
-        ≡ new .len + sumOfLengths (drop i (regions (now (run .entry)) list))) ⌝ }
+        ≡ new .len + sumOfLengths (drop i (regions (now (run .entry)) list)))
+        × (j .region .addr ≡ new .addr) × (end new ≤ end (j .region)) ⌝ }
 {
     if i < list.count {
         let r = region_at(run, i);
@@ -80,7 +82,8 @@ fn join_above(run: &[u64], list: FreeList, i: usize, new: FreeRegion) -> Joined
 // Frees `new`, which shares no byte with the regions and stands before that at `i`.
 pub(crate) fn put_between(run: &[u64], list: FreeList, i: usize, new: FreeRegion) -> Decision
     requires { ⌜ Apart (now run) list (new .addr) (end new) i i × (0 < new .len) × (end new ≤ top) ⌝ }
-    ensures { λ d. ⌜ Keeps (now (run .entry)) list (placed keeping (now (run .entry)) list (insert new (regions (now (run .entry)) list))) d ⌝ }
+    ensures decided { λ d. ⌜ Keeps (now (run .entry)) list (placed keeping (now (run .entry)) list (insert new (regions (now (run .entry)) list))) d ⌝ }
+    ensures folds { λ d. ⌜ Folds (new .addr) (new .len) d ⌝ }
 {
     let low = join_below(run, list, i, new);
     let with_low = low.region;

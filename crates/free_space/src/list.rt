@@ -4,12 +4,12 @@ ghost use mathlib.Core.List.{[]};
 ghost use Prim.Native.Nat.{_+_, _-_, _*_, _≤_};
 ghost use lib.Dec.{eqb};
 ghost use lib.ListN.{length};
-ghost use Rattle.error.specs.Lent.{left, leaving};
-ghost use Rattle.free_regions.specs.Regions.{sumOfLengths, spliced};
+ghost use Rattle.error.specs.Lent.{with, left, leaving};
+ghost use Rattle.free_regions.specs.Regions.{spliced};
 ghost use Rattle.free_space.specs.Runs.{recordOf, regions, stored};
 ghost use Rattle.free_space.specs.Calls.{keptOutcome, givenOutcome, freed, allocated, allocatedUnits, rangeTaken, trailingTaken};
 ghost use Rattle.free_space.specs.Splices.{patch};
-ghost use Rattle.free_space.specs.Decisions.{givenBy, keptBy, Applicable};
+ghost use Rattle.free_space.specs.Decisions.{givenBy, keptBy, Applicable, fits, carriedOut};
 use crate::decide::Decision;
 use crate::decide::decide_alloc;
 use crate::decide::decide_free;
@@ -96,12 +96,11 @@ impl FreeList {
     }
 }
 
-// Replaces the regions from `lo` up to `hi`, and makes the record of what is left, of which `total` is the sum of the lengths.
+// Replaces the regions from `lo` up to `hi`, and makes the record of what is left with this total.
 fn apply(run: &mut [u64], list: FreeList, lo: usize, hi: usize, total: u64, p: Patch) -> FreeList
     requires { ⌜ (lo ≤ hi) × (hi ≤ list .count) × (2 * list .count ≤ length (now run))
-        × (2 * (lo + length (patch p) + (list .count - hi)) ≤ length (now run))
-        × (total ≡ sumOfLengths (spliced (regions (now run) list) lo hi (patch p))) ⌝ }
-    ensures record { λ r. ⌜ r ≡ recordOf (spliced (regions (now (run .entry)) list) lo hi (patch p)) ⌝ }
+        × (2 * (lo + length (patch p) + (list .count - hi)) ≤ length (now run)) ⌝ }
+    ensures record { λ r. ⌜ r ≡ record { count = lo + length (patch p) + (list .count - hi); total = total } ⌝ }
     ensures memory { λ r. ⌜ now (run .exit) ≡ stored (now (run .entry)) (list .count) (spliced (regions (now (run .entry)) list) lo hi (patch p)) ⌝ }
 {
     let count = list.count;
@@ -149,5 +148,45 @@ fn keep(run: &mut [u64], list: FreeList, d: Decision) -> Kept
             total,
             patch,
         } => Kept::Done(apply(run, list, lo, hi, total, patch)),
+    }
+}
+
+// Whether the regions from `lo` up to `hi` are some of the list, and the run has room for those that are left when `p` takes
+// their place.
+fn can_replace(run: &[u64], list: FreeList, lo: usize, hi: usize, p: Patch) -> bool
+    ensures { λ b. ⌜ b ≡ fits (now (run .entry)) list lo hi (patch p) ⌝ }
+{
+    let given = run.len() / 2;
+    if hi < lo {
+        return false;
+    }
+    if list.count < hi {
+        return false;
+    }
+    if given < list.count {
+        return false;
+    }
+    lo + patch_len(p) + (list.count - hi) <= given
+}
+
+// Carries out a decision that was made on this list. One that does not fit the list changes nothing.
+pub fn carry_out(run: &mut [u64], list: FreeList, d: Decision) -> FreeList
+    ensures { λ r. ⌜ with r (now (run .exit)) ≡ carriedOut (now (run .entry)) list d ⌝ }
+{
+    match d {
+        Decision::Refused(_) => list,
+        Decision::Nothing => list,
+        Decision::Change {
+            addr: _,
+            lo,
+            hi,
+            total,
+            patch,
+        } => {
+            if !can_replace(run, list, lo, hi, patch) {
+                return list;
+            }
+            apply(run, list, lo, hi, total, patch)
+        }
     }
 }

@@ -17,6 +17,8 @@ use crate::memory::numbers_memory;
 use crate::message::managers_call;
 use crate::message::parse_message_call;
 use crate::message::serialize_message_call;
+use crate::pages::pages_call;
+use crate::pages::pages_name;
 use crate::plans::plan_call;
 use crate::reply::Reply;
 use crate::saves::save_call;
@@ -90,7 +92,7 @@ fn bytes_call(call: u64, line: &[u8], out: &mut [u8]) -> Reply {
 
 // Answers a save, which changes a copy of the image that its bytes are.
 fn save_line(line: &[u8], lists: &[u64], out: &mut [u8]) -> Reply
-    requires { ⌜ 24586 ≤ length (now lists) ⌝ }
+    requires { ⌜ 32779 ≤ length (now lists) ⌝ }
 {
     let mut numbers = numbers_memory();
     let mut image = io::large_buffer();
@@ -118,7 +120,7 @@ fn plain_call(line: &[u8], out: &mut [u8]) -> Reply {
 
 // The answer to a line. An empty line and one from `#` have none.
 pub(crate) fn answer_line(line: &[u8], lists: &mut [u64], out: &mut [u8]) -> Reply
-    requires { ⌜ 24586 ≤ length (now lists) ⌝ }
+    requires { ⌜ 32779 ≤ length (now lists) ⌝ }
 {
     if line.len() == 0 {
         return Reply::Silent;
@@ -132,6 +134,10 @@ pub(crate) fn answer_line(line: &[u8], lists: &mut [u64], out: &mut [u8]) -> Rep
     let call = lists_name(line);
     if 0 < call {
         return lists_call(call, line, lists, out);
+    }
+    let paged = pages_name(line);
+    if 0 < paged {
+        return pages_call(paged, line, lists, out);
     }
     plain_call(line, out)
 }

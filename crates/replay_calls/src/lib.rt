@@ -8,6 +8,7 @@ mod lines;
 mod lists;
 mod memory;
 mod message;
+mod pages;
 mod plans;
 mod reply;
 mod saves;

@@ -1,5 +1,5 @@
 // The calls on the three lists. `lists` has their runs, one after the other, then their records, a count and a total each, then how many
-// bytes of scratch a save is lent, and then how many numbers of its run each list is lent.
+// bytes of scratch a save is lent, then how many numbers of its run each list is lent, and then the marks (pages.rt).
 ghost use mathlib.Core.Path.{_≡_};
 ghost use Prim.Native.Nat.{_≤_};
 ghost use lib.ListN.{length};
@@ -39,7 +39,7 @@ struct AfterCall {
     list: FreeList,
 }
 
-fn answered_reply(answer: Answered) -> Reply {
+pub(crate) fn answered_reply(answer: Answered) -> Reply {
     match answer {
         Answered::Done => Reply::Done,
         Answered::At(addr) => Reply::Some(addr),
@@ -136,7 +136,7 @@ fn numbers_of(call: u64) -> usize {
 
 // How many numbers of its run a list is lent.
 pub(crate) fn room_of(lists: &[u64], i: usize) -> usize
-    requires { ⌜ (24586 ≤ length (now lists)) × (i ≤ 2) ⌝ }
+    requires { ⌜ (32779 ≤ length (now lists)) × (i ≤ 2) ⌝ }
     ensures { λ r. ⌜ r ≤ 8192 ⌝ }
 {
     min(RUN as u64, lists[ROOMS + i]) as usize
@@ -153,9 +153,15 @@ fn record_of(lists: &[u64], i: usize) -> FreeList
     }
 }
 
+pub(crate) fn put_record(lists: &mut [u64], i: usize, list: FreeList)
+    requires { ⌜ i ≤ 2 ⌝ }
+{
+    put_pair(lists, 2 * (RECORDS + i), list.count as u64, list.total);
+}
+
 // Answers a call on one list: the first number says on which of them.
 fn list_call(call: u64, line: &[u8], lists: &mut [u64], out: &mut [u8]) -> Reply
-    requires { ⌜ 24586 ≤ length (now lists) ⌝ }
+    requires { ⌜ 32779 ≤ length (now lists) ⌝ }
 {
     let few = few_of(line);
     if few.count != numbers_of(call) {
@@ -177,12 +183,7 @@ fn list_call(call: u64, line: &[u8], lists: &mut [u64], out: &mut [u8]) -> Reply
         few.third,
         out,
     );
-    put_pair(
-        lists,
-        2 * (RECORDS + i),
-        answered.list.count as u64,
-        answered.list.total,
-    );
+    put_record(lists, i, answered.list);
     answered.reply
 }
 
@@ -212,8 +213,8 @@ fn sum_of(run: &[u64], count: u64) -> u64 {
     sum
 }
 
-// The numbers of a call that lends a whole run.
-fn lent_buffer() -> [u64; RUN + 3]
+// The numbers of a call that lends a whole run, or all marks.
+pub(crate) fn lent_buffer() -> [u64; RUN + 3]
     ensures { λ r. ⌜ 8195 ≡ length r ⌝ }
 {
     [0; RUN + 3]
@@ -221,7 +222,7 @@ fn lent_buffer() -> [u64; RUN + 3]
 
 // Puts any numbers into a list's run, and any count beside it: they need not be a list. The total is the sum of the lengths that count.
 fn lend(args: &[u64], lists: &mut [u64]) -> Reply
-    requires { ⌜ 24586 ≤ length (now lists) ⌝ }
+    requires { ⌜ 32779 ≤ length (now lists) ⌝ }
 {
     if args.len() < 3 {
         return Reply::Bad;
@@ -243,7 +244,7 @@ fn lend(args: &[u64], lists: &mut [u64]) -> Reply
 }
 
 fn lend_call(line: &[u8], lists: &mut [u64]) -> Reply
-    requires { ⌜ 24586 ≤ length (now lists) ⌝ }
+    requires { ⌜ 32779 ≤ length (now lists) ⌝ }
 {
     let mut numbers = lent_buffer();
     let read = line_numbers(line, &mut numbers);
@@ -256,7 +257,7 @@ fn lend_call(line: &[u8], lists: &mut [u64]) -> Reply
 
 // The records of the three lists.
 pub(crate) fn file_lists(lists: &[u64]) -> FileLists
-    requires { ⌜ 24586 ≤ length (now lists) ⌝ }
+    requires { ⌜ 32779 ≤ length (now lists) ⌝ }
 {
     FileLists {
         metadata: record_of(lists, 0),
@@ -266,7 +267,7 @@ pub(crate) fn file_lists(lists: &[u64]) -> FileLists
 }
 
 fn trailing_run_start_call(line: &[u8], lists: &[u64]) -> Reply
-    requires { ⌜ 24586 ≤ length (now lists) ⌝ }
+    requires { ⌜ 32779 ≤ length (now lists) ⌝ }
 {
     let few = few_of(line);
     if few.count != 1 {
@@ -286,7 +287,7 @@ fn trailing_run_start_call(line: &[u8], lists: &[u64]) -> Reply
 }
 
 fn scratch_call(line: &[u8], lists: &mut [u64]) -> Reply
-    requires { ⌜ 24586 ≤ length (now lists) ⌝ }
+    requires { ⌜ 32779 ≤ length (now lists) ⌝ }
 {
     let few = few_of(line);
     if few.count != 1 {
@@ -328,7 +329,7 @@ fn for_list(line: &[u8]) -> ForList
 
 // Lends a list the first numbers of its run from now on. Its record stays.
 fn room_call(line: &[u8], lists: &mut [u64]) -> Reply
-    requires { ⌜ 24586 ≤ length (now lists) ⌝ }
+    requires { ⌜ 32779 ≤ length (now lists) ⌝ }
 {
     let given = for_list(line);
     if !given.fine {
@@ -343,7 +344,7 @@ fn room_call(line: &[u8], lists: &mut [u64]) -> Reply
 
 // Puts any total into a list's record.
 fn lend_total_call(line: &[u8], lists: &mut [u64]) -> Reply
-    requires { ⌜ 24586 ≤ length (now lists) ⌝ }
+    requires { ⌜ 32779 ≤ length (now lists) ⌝ }
 {
     let given = for_list(line);
     if !given.fine {
@@ -362,7 +363,7 @@ pub(crate) fn lists_name(line: &[u8]) -> u64 {
 
 // Answers a call on the lists, by its place among the names of `lists_name`.
 pub(crate) fn lists_call(call: u64, line: &[u8], lists: &mut [u64], out: &mut [u8]) -> Reply
-    requires { ⌜ 24586 ≤ length (now lists) ⌝ }
+    requires { ⌜ 32779 ≤ length (now lists) ⌝ }
 {
     match call {
         12 => lend_call(line, lists),

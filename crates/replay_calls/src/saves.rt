@@ -32,7 +32,7 @@ fn steps(s: Save, k: u64, image: &mut [u8], scratch: &[u8], out: &mut [u8]) -> R
 }
 
 fn begin(args: &[u64], lists: &[u64], image: &[u8], scratch: &mut [u8]) -> Begin
-    requires { ⌜ (4 ≤ length (now args)) × (24586 ≤ length (now lists)) ⌝ }
+    requires { ⌜ (4 ≤ length (now args)) × (32779 ≤ length (now lists)) ⌝ }
 {
     let to = Target {
         page: args[0],
@@ -61,7 +61,7 @@ fn save_lists(
     scratch: &mut [u8],
     out: &mut [u8],
 ) -> Reply
-    requires { ⌜ (4 ≤ length (now args)) × (24586 ≤ length (now lists)) ⌝ }
+    requires { ⌜ (4 ≤ length (now args)) × (32779 ≤ length (now lists)) ⌝ }
 {
     let begun = begin(args, lists, image, scratch);
     match begun {
@@ -71,7 +71,7 @@ fn save_lists(
 }
 
 pub(crate) fn save_call(args: &[u64], image: &mut [u8], lists: &[u64], out: &mut [u8]) -> Reply
-    requires { ⌜ 24586 ≤ length (now lists) ⌝ }
+    requires { ⌜ 32779 ≤ length (now lists) ⌝ }
 {
     if args.len() != 4 {
         return Reply::Bad;

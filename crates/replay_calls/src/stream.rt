@@ -20,11 +20,12 @@ fn line_buffer() -> [u8; LINE_LIMIT + 1]
     [0; LINE_LIMIT + 1]
 }
 
-// Memory for three lists of 4,096 regions, their records, the length of a save's scratch, and how much of each run is lent.
-fn lists_buffer() -> [u64; 24586]
-    ensures { λ r. ⌜ 24586 ≡ length r ⌝ }
+// Memory for three lists of 4,096 regions, their records, the length of a save's scratch, how much of each run is lent, and 8,192 marks with
+// their count.
+fn lists_buffer() -> [u64; 32779]
+    ensures { λ r. ⌜ 32779 ≡ length r ⌝ }
 {
-    [0; 24586]
+    [0; 32779]
 }
 
 // What is read: the bytes of the chunk from `at` up to `end` are not taken yet, and `have` bytes of the line are there. The line is
@@ -111,7 +112,7 @@ fn too_long(line: &[u8]) -> Reply {
 
 // The answer to a line of `n` bytes.
 fn answer(line: &[u8], n: usize, lists: &mut [u64], out: &mut [u8]) -> Reply
-    requires { ⌜ 24586 ≤ length (now lists) ⌝ }
+    requires { ⌜ 32779 ≤ length (now lists) ⌝ }
 {
     if line.len() <= n {
         return too_long(line);
@@ -121,7 +122,7 @@ fn answer(line: &[u8], n: usize, lists: &mut [u64], out: &mut [u8]) -> Reply
 
 // Reads on, and answers the line if it is whole.
 fn step(chunk: &mut [u8], line: &mut [u8], lists: &mut [u64], out: &mut [u8], input: Input) -> Input
-    requires { ⌜ 24586 ≤ length (now lists) ⌝ }
+    requires { ⌜ 32779 ≤ length (now lists) ⌝ }
 {
     let after = read_on(chunk, line, input);
     if after.whole {
@@ -141,7 +142,7 @@ fn iterations_left(iterations: u64, more: bool) -> u64
 
 // Reads and answers up to 2^40 lines or chunks.
 fn replay(chunk: &mut [u8], line: &mut [u8], lists: &mut [u64], out: &mut [u8])
-    requires { ⌜ 24586 ≤ length (now lists) ⌝ }
+    requires { ⌜ 32779 ≤ length (now lists) ⌝ }
 {
     let mut input = Input {
         at: 0,
@@ -159,7 +160,7 @@ fn replay(chunk: &mut [u8], line: &mut [u8], lists: &mut [u64], out: &mut [u8])
 
 // A save is lent all its scratch at first, and each list all its run: their places stand after each other.
 fn lend_all(lists: &mut [u64])
-    requires { ⌜ 24586 ≤ length (now lists) ⌝ }
+    requires { ⌜ 32779 ≤ length (now lists) ⌝ }
 {
     put_front(&mut lists[SCRATCH..], &[1048576, 8192, 8192, 8192]);
 }

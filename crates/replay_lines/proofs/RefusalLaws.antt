@@ -14,7 +14,7 @@ use Rattle.replay_lines.specs.Words.{numbersLine, errWord, refusalText}
 
 -- the tags of the refusals without values
 abbrev plain : List ℕ
-plain = 0 ∷ 1 ∷ 2 ∷ 3 ∷ 4 ∷ 5 ∷ 9 ∷ 11 ∷ 12 ∷ []
+plain = 0 ∷ 1 ∷ 2 ∷ 3 ∷ 4 ∷ 5 ∷ 6 ∷ 10 ∷ 12 ∷ 13 ∷ []
 
 pub no-values : (r : Refusal) → OneOf plain (tagOf the-type r) → [] ≡ valuesOf r
 no-values refusal.Width k = refl
@@ -23,14 +23,15 @@ no-values refusal.NotAList k = refl
 no-values refusal.Overflow k = refl
 no-values refusal.SharedAddress k = refl
 no-values refusal.PartUnit k = refl
-no-values (refusal.Short e a) k = absurd (miss plain 6 tt k)
-no-values (refusal.MessageVersion b) k = absurd (miss plain 7 tt k)
-no-values (refusal.Strategy b) k = absurd (miss plain 8 tt k)
+no-values refusal.OtherKind k = refl
+no-values (refusal.Short e a) k = absurd (miss plain 7 tt k)
+no-values (refusal.MessageVersion b) k = absurd (miss plain 8 tt k)
+no-values (refusal.Strategy b) k = absurd (miss plain 9 tt k)
 no-values refusal.InvalidManager k = refl
-no-values (refusal.Checksum s t) k = absurd (miss plain 10 tt k)
+no-values (refusal.Checksum s t) k = absurd (miss plain 11 tt k)
 no-values refusal.WideAddress k = refl
 no-values refusal.Place k = refl
-no-values (refusal.OverCapacity n g) k = absurd (miss plain 13 tt k)
+no-values (refusal.OverCapacity n g) k = absurd (miss plain 14 tt k)
 
 -- a line of the refusal's number and values is its line
 pub stated : (r : Refusal) (out : List ℕ) {n : ℕ} {vs : List ℕ} {w : With ℕ (List ℕ)} → n ≡ numberOf r → vs ≡ valuesOf r → w ≡ written 0 (errWord ++ numbersLine n vs) out

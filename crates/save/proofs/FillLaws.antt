@@ -11,7 +11,7 @@ use lib.ListN.{length, getD, take, drop, take-append-drop}
 use lib.Seq.{length-take-le}
 use Rattle.error.specs.declared.Number.{Number}
 use Rattle.error.specs.declared.Refusal.{Refusal}
-use Rattle.error.specs.declared.Refusal.the-variants.{Width, Page, NotAList, Overflow, SharedAddress, PartUnit, Short, MessageVersion, Strategy, InvalidManager, Checksum, WideAddress, Place, OverCapacity}
+use Rattle.error.specs.declared.Refusal.the-variants.{Width, Page, NotAList, Overflow, SharedAddress, PartUnit, OtherKind, Short, MessageVersion, Strategy, InvalidManager, Checksum, WideAddress, Place, OverCapacity}
 use Rattle.error.specs.Refusals.{numberOf, valuesOf}
 use Rattle.error.specs.Answers.{numberOutcome}
 use Rattle.error.specs.Outcome.{Outcome, answer, refused, when, firstOf}
@@ -114,6 +114,7 @@ only-capacity NotAList e = absurd (omega arith)
 only-capacity Overflow e = absurd (omega arith)
 only-capacity SharedAddress e = absurd (omega arith)
 only-capacity PartUnit e = absurd (omega arith)
+only-capacity OtherKind e = absurd (omega arith)
 only-capacity (Short a b) e = absurd (omega arith)
 only-capacity (MessageVersion b) e = absurd (omega arith)
 only-capacity (Strategy b) e = absurd (omega arith)

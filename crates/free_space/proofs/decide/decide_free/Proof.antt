@@ -33,7 +33,7 @@ begins-below-requires : tie.Need-begins-below-requires
 begins-below-requires c κs = let a = c .before .before .before .before .before .before .before .args in listed (now (a .run)) (a .list) (ok (c .before .before .before .before)) .room
 
 returns : tie.Need-returns
-returns c = let a = c .before .before .before .args in (free-bad (now (a .run)) (a .list) (a .addr) (a .len) (denied (c .before .is-list .ensures) (c .if1 .taken)), tt)
+returns c = let a = c .before .before .before .args in ((free-bad (now (a .run)) (a .list) (a .addr) (a .len) (denied (c .before .is-list .ensures) (c .if1 .taken)), tt), tt)
 
 returns-2 : tie.Need-returns-2
 returns-2 c =
@@ -42,8 +42,11 @@ returns-2 c =
     let p = tells (c .before .before .before .before .before) _ (c .before .before .before .m .given .1) in
     let i = c .before .before .before .m .given .0 .0 in
     let b = begins xs (a .list) i (a .addr + a .len) (sym (c .before .begins-below .ensures) ∙ c .if2 .taken) in (
-      free-shared xs (a .list) (a .addr) (a .len) (p .0) (ok (c .before .before .before .before .before .before))
-          (shares-some xs (a .list) (region (a .addr) (a .len)) (p .1) i (ok (c .before .before .before .before .before .before)) (p .2) (b .0) (b .1)),
+      (
+        free-shared xs (a .list) (a .addr) (a .len) (p .0) (ok (c .before .before .before .before .before .before))
+            (shares-some xs (a .list) (region (a .addr) (a .len)) (p .1) i (ok (c .before .before .before .before .before .before)) (p .2) (b .0) (b .1)),
+        tt,
+      ),
       tt,
     )
 
@@ -62,22 +65,25 @@ put-between-requires : tie.Need-put-between-requires
 put-between-requires c κs = let p = tells (c .before .before .before .before .before) _ (c .before .before .before .m .given .1) in (apart c, p .1, p .0)
 
 returns-3 : tie.Need-returns-3
-returns-3 c = let a = c .before .before .before .before .before .before .args in (free-over (now (a .run)) (a .list) (a .addr) (a .len) (ok (c .before .before .before)) (tells (c .before .before) _ (c .enum-told .given .1)), tt)
+returns-3 c = let a = c .before .before .before .before .before .before .args in ((free-over (now (a .run)) (a .list) (a .addr) (a .len) (ok (c .before .before .before)) (tells (c .before .before) _ (c .enum-told .given .1)), tt), tt)
 
 returns-4 : tie.Need-returns-4
 returns-4 c =
     let a = c .before .before .before .before .before .before .args in
     let p = tells (c .before .before) _ (c .enum-told2 .given .1) in
-    (free-zero (now (a .run)) (a .list) (a .addr) (a .len) (p .0) (ok (c .before .before .before)) (p .1), tt)
+    ((free-zero (now (a .run)) (a .list) (a .addr) (a .len) (p .0) (ok (c .before .before .before)) (p .1), tt), p .1)
 
 returns-5 : tie.Need-returns-5
 returns-5 c =
     let a = c .before .before .before .before .before .before .before .before .before .before .args in
     let xs = now (a .run) in
     let p = tells (c .before .before .before .before .before .before) _ (c .before .before .before .before .m .given .1) in (
-      c .put-between .ensures .0
-          ∙ free-else xs (a .list) (a .addr) (a .len) (p .0) (ok (c .before .before .before .before .before .before .before)) (λ z. absurd (omega (arith, p .1)))
-          (shares-none xs (a .list) (region (a .addr) (a .len)) (p .1) _ (apart (c .before))),
+      (
+        c .put-between .ensures .0 .0
+            ∙ free-else xs (a .list) (a .addr) (a .len) (p .0) (ok (c .before .before .before .before .before .before .before)) (λ z. absurd (omega (arith, p .1)))
+            (shares-none xs (a .list) (region (a .addr) (a .len)) (p .1) _ (apart (c .before))),
+        c .put-between .ensures .0 .1,
+      ),
       c .put-between .ensures .1,
     )
 

@@ -34,6 +34,8 @@ returns c =
       omega arith,
       absorb-touch (now (a .run)) (a .list) (pre .0) (a .new) (a .i) (g .result) h (g .ensures) (c .before .before .before .if2 .taken),
       omega (arith, goes-one (now (a .run)) (a .list) (pre .0) (a .i) (g .result) h (g .ensures)),
+      refl,
+      omega arith,
     )
 
 returns-2 : tie.Need-returns-2
@@ -45,13 +47,15 @@ returns-2 c =
       omega arith,
       absorb-apart (now (a .run)) (a .list) (pre .0) (a .new) (a .i) (λ h. omega (arith, pre .2 h, c .if2 .left, ap (λ (q : FreeRegion). q .addr) (g .ensures))),
       refl,
+      refl,
+      omega arith,
     )
 
 returns-3 : tie.Need-returns-3
 returns-3 c =
     let a = c .before .before .before .args in
     let pre = c .before .before .before .pre in
-    (omega arith, omega arith, absorb-apart (now (a .run)) (a .list) (pre .0) (a .new) (a .i) (λ h. absurd (omega arith)), refl)
+    (omega arith, omega arith, absorb-apart (now (a .run)) (a .list) (pre .0) (a .new) (a .i) (λ h. absurd (omega arith)), refl, refl, omega arith)
 
 pub join-above-spec : {M : Type 1} → statement M
 join-above-spec =

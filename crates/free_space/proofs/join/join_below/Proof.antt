@@ -40,6 +40,7 @@ returns c =
       omega arith,
       insert-touch (now (a .run)) (a .list) (a .new) (pre .1) (a .i) (pre .0) (c .before .before .before .before .before .before .before .if1 .taken) (g .result) (g .ensures) (c .before .before .before .if2 .taken),
       omega (arith, goes),
+      omega (arith, c .before .before .before .if2 .taken),
     )
 
 returns-2 : tie.Need-returns-2
@@ -47,13 +48,13 @@ returns-2 c =
     let a = c .before .before .before .before .before .before .args in
     let pre = c .before .before .before .before .before .before .pre in
     let g = c .before .before .before .region-at in
-    (omega arith, omega arith, insert-apart (now (a .run)) (a .list) (a .new) (pre .1) (a .i) (pre .0) (λ h e. c .if2 .left (ap end (g .ensures) ∙ e)), refl)
+    (omega arith, omega arith, insert-apart (now (a .run)) (a .list) (a .new) (pre .1) (a .i) (pre .0) (λ h e. c .if2 .left (ap end (g .ensures) ∙ e)), refl, omega arith)
 
 returns-3 : tie.Need-returns-3
 returns-3 c =
     let a = c .before .before .args in
     let pre = c .before .before .pre in
-    (omega arith, omega arith, insert-apart (now (a .run)) (a .list) (a .new) (pre .1) (a .i) (pre .0) (λ h e. absurd (omega arith)), refl)
+    (omega arith, omega arith, insert-apart (now (a .run)) (a .list) (a .new) (pre .1) (a .i) (pre .0) (λ h e. absurd (omega arith)), refl, omega arith)
 
 pub join-below-spec : {M : Type 1} → statement M
 join-below-spec =

@@ -1,10 +1,11 @@
-use mathlib.Core.Path.{_≡_, sym, ap, _∙_}
+use mathlib.Core.Path.{_≡_, sym, ap, _∙_, subst⁻¹}
 use mathlib.Core.List.{List, [], _∷_, _++_}
 use Prim.Native.Nat.{ℕ, _+_, _-_, _≤_}
 use native.Mathlib.Omega.{arith}
 use lib.ListN.{take}
 use denote.Ref.{now}
 use Rattle.fields.specs.Ranges.{top}
+use Rattle.pairs.specs.Pairs.{capacity}
 use Rattle.free_regions.specs.declared.FreeRegion.{FreeRegion}
 use Rattle.free_regions.specs.Regions.{sumOfLengths, insert, spliced}
 use Rattle.free_regions.proofs.OkLaws.{ok-prop}
@@ -14,9 +15,9 @@ use Rattle.free_space.specs.declared.run.Patch.the-variants.{One}
 use Rattle.free_space.specs.Runs.{regions}
 use Rattle.free_space.specs.Calls.{placed, keeping}
 use Rattle.free_space.specs.Splices.{Goes, Replaces}
-use Rattle.free_space.specs.Decisions.{keptBy}
+use Rattle.free_space.specs.Decisions.{keptBy, Folds}
 use Rattle.free_space.proofs.ListLaws.{listed}
-use Rattle.free_space.proofs.SpliceLaws.{kept-fitted, new-total}
+use Rattle.free_space.proofs.SpliceLaws.{folds-fitted, kept-fitted, new-total}
 use Rattle.free_space.proofs.join.put_between.Statement.{statement}
 use Rattle.free_space.proofs.join.put_between.Tie as tie
 
@@ -75,11 +76,18 @@ change-requires c κs = replaces c
 returns : tie.Need-returns
 returns c =
     let a = c .before .before .before .before .before .before .before .before .args in
-    let xs = now (a .run) in (
-      ap (keptBy xs (a .list)) (c .change .ensures .0)
-          ∙ kept-fitted xs (a .list) (a .new .addr) _ _ _ (One (joined (c .before))) (replaces (c .before))
-          ∙ ap (placed keeping xs (a .list)) (sym (is-inserted (c .before))),
-      c .change .ensures .1,
+    let xs = now (a .run) in
+    let low = c .before .before .before .before .before .before .join-below .ensures in
+    let high = c .before .before .before .before .join-above .ensures in (
+      (
+        ap (keptBy xs (a .list)) (c .change .ensures .0)
+            ∙ kept-fitted xs (a .list) (a .new .addr) _ _ _ (One (joined (c .before))) (replaces (c .before))
+            ∙ ap (placed keeping xs (a .list)) (sym (is-inserted (c .before))),
+        c .change .ensures .1,
+      ),
+      subst⁻¹ (Folds (a .new .addr) (a .new .len)) (c .change .ensures .0)
+          (folds-fitted (capacity xs) (a .list .count) (a .new .addr) (lo (c .before)) (hi (c .before)) (a .list .total + a .new .len) (joined (c .before)) (a .new .addr) (a .new .len)
+          (omega (arith, low .4, high .4)) (omega (arith, low .1, high .5))),
     )
 
 pub put-between-spec : {M : Type 1} → statement M

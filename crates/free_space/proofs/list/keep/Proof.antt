@@ -7,6 +7,7 @@ use Rattle.error.specs.Lent.{left, leaving}
 use Rattle.free_space.specs.declared.list.FreeList.{FreeList}
 use Rattle.free_space.specs.declared.decide.Decision.{Decision}
 use Rattle.free_space.specs.Decisions.{keptBy, Applicable}
+use Rattle.free_space.proofs.CarryLaws.{record-left}
 use borrow.Author.Needs.{needs}
 use Rattle.free_space.proofs.list.keep.Statement.{statement}
 use Rattle.free_space.proofs.list.keep.Tie as tie
@@ -14,7 +15,8 @@ use Rattle.free_space.proofs.list.keep.Tie as tie
 apply-requires : tie.Need-apply-requires
 apply-requires c κs =
     let a = c .before .before .before .before .before .args in
-    subst (Applicable (now (a .run)) (a .list)) (c .before .before .d2 .given .1) (c .before .before .before .before .before .pre)
+    let can = subst (Applicable (now (a .run)) (a .list)) (c .before .before .d2 .given .1) (c .before .before .before .before .before .pre) in
+    (can .0, can .1, can .2, can .3)
 
 returns : tie.Need-returns
 returns c =
@@ -34,7 +36,8 @@ returns-3 c =
     let xs = now (a .run) in
     let given = c .before .before .before .before .before .d2 .given in
     let done = c .before .before .apply .ensures in
-    ap₂ (λ (l : FreeList) (ys : List ℕ). left (answer l) ys) (done .0) (done .1)
+    let can = subst (Applicable xs (a .list)) (given .1) (c .before .before .before .before .before .before .before .before .pre) in
+    ap₂ (λ (l : FreeList) (ys : List ℕ). left (answer l) ys) (done .0 ∙ record-left xs (a .list) (given .0 .0) _ _ _ (given .0 .1 .1 .1 .1 .0) can) (done .1)
     ∙ ap (λ (d : Decision). leaving xs (keptBy xs (a .list) d)) (sym (given .1))
 
 pub keep-spec : {M : Type 1} → statement M

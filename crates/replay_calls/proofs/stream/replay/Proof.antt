@@ -7,7 +7,7 @@ use Rattle.replay_calls.proofs.stream.replay.Tie as tie
 
 abbrev Inv-loop : tie.InvT-loop
 Inv-loop chunk₀ line₀ lists₀ out₀ input₀ iterations₀ chunk line lists out input iterations =
-    (24586 ≤ length lists)
+    (32779 ≤ length lists)
     × (length lists ≡ length lists₀)
     × (length chunk ≡ length chunk₀)
     × (length line ≡ length line₀)

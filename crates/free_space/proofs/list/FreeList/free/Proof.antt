@@ -9,7 +9,7 @@ keep-requires : tie.Need-keep-requires
 keep-requires c κs = search needs
 
 returns : tie.Need-returns
-returns c = c .before .before .keep .ensures ∙ ap (leaving (now (c .before .before .before .before .before .before .before .args .run))) (c .before .before .before .before .decide-free .ensures .0)
+returns c = c .before .before .keep .ensures ∙ ap (leaving (now (c .before .before .before .before .before .before .before .args .run))) (c .before .before .before .before .decide-free .ensures .0 .0)
 
 pub free-spec : {M : Type 1} → statement M
 free-spec =

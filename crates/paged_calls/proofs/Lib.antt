@@ -1,0 +1,17 @@
+pub mod LeftLaws
+pub mod NumberLaws
+pub mod SoundLaws
+pub mod ListDecisionLaws
+pub mod RegionLaws
+pub mod DrawLaws
+pub mod AllocLaws
+pub mod AllocLeftLaws
+pub mod CarryLaws
+pub mod CodeLaws
+pub mod BackLaws
+pub mod FreeLaws
+pub mod FreeLeftLaws
+pub mod HistoryLaws
+pub mod EncodingLaws
+pub mod Instance
+pub mod ReturnLaws

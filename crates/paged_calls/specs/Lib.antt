@@ -1,0 +1,3 @@
+pub mod Decisions
+pub mod Encoding
+pub mod Shown

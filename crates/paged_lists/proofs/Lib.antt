@@ -1,0 +1,11 @@
+pub mod AcceptLaws
+pub mod PageLaws
+pub mod ByteLaws
+pub mod TestedLaws
+pub mod StepLaws
+pub mod TotalLaws
+pub mod PagedLaws
+pub mod CaseLaws
+pub mod PagesSayLaws
+pub mod RefusalLaws
+pub mod MarkLaws
