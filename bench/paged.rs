@@ -6,36 +6,29 @@ use crate::figures::Figures;
 mod c {
     type Round = unsafe extern "C" fn(*mut u64, usize, *mut u64, usize, *mut u64, usize, *mut u8, usize, *const u64, usize, u64, u64) -> u64;
 
-    unsafe extern "C" {
-        fn bench_paged(
-            metadata: *mut u64,
-            metadata_len: usize,
-            raw: *mut u64,
-            raw_len: usize,
-            unclassified: *mut u64,
-            unclassified_len: usize,
-            marks: *mut u8,
-            marks_len: usize,
-            numbers: *const u64,
-            numbers_len: usize,
-            page: u64,
-            len: u64,
-        ) -> u64;
-        fn bench_list_calls(
-            metadata: *mut u64,
-            metadata_len: usize,
-            raw: *mut u64,
-            raw_len: usize,
-            unclassified: *mut u64,
-            unclassified_len: usize,
-            marks: *mut u8,
-            marks_len: usize,
-            numbers: *const u64,
-            numbers_len: usize,
-            page: u64,
-            len: u64,
-        ) -> u64;
+    // Both rounds take the same.
+    macro_rules! rounds {
+        ($($name:ident),*) => {
+            unsafe extern "C" {
+                $(fn $name(
+                    metadata: *mut u64,
+                    metadata_len: usize,
+                    raw: *mut u64,
+                    raw_len: usize,
+                    unclassified: *mut u64,
+                    unclassified_len: usize,
+                    marks: *mut u8,
+                    marks_len: usize,
+                    numbers: *const u64,
+                    numbers_len: usize,
+                    page: u64,
+                    len: u64,
+                ) -> u64;)*
+            }
+        };
     }
+
+    rounds!(bench_paged, bench_list_calls);
 
     unsafe extern "C" {
         fn bench_alloc(run: *mut u64, len: usize, count: usize, total: u64, size: u64) -> u64;

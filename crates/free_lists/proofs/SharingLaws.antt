@@ -34,7 +34,7 @@ use Rattle.free_lists.specs.Walks.{countsOf, InOrder, AllInOrder, remain
 
 -- ---- regions in order
 
-pub in-order : (xs : List ℕ) (l : FreeList) → isList xs l ≡ true → InOrder xs (l .count)
+in-order : (xs : List ℕ) (l : FreeList) → isList xs l ≡ true → InOrder xs (l .count)
 in-order xs l e = let p = listed xs l e in record { room = p .room; ok = p .ok }
 
 ok-less : (low m n : ℕ) (xs : List ℕ) → m ≤ n → okFrom low (decode n xs) ≡ true → okFrom low (decode m xs) ≡ true
