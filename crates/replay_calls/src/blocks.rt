@@ -24,12 +24,12 @@ pub(crate) fn split_call(args: &[u64], out: &mut [u8]) -> Reply {
     if args.len() < 2 {
         return Reply::Bad;
     }
-    if !are_pairs(&args[2..], args[1]) {
+    let run = &args[2..];
+    if !are_pairs(run, args[1]) {
         return Reply::Bad;
     }
-    let count = (args.len() - 2) / 2;
     let mut sections = numbers_memory();
-    let split = split_at_pages(&args[2..], count, args[0], &mut sections);
+    let split = split_at_pages(run, run.len() / 2, args[0], &mut sections);
     match split {
         Split::Pieces(n) => pairs_reply(b"", &sections, n as u64, out),
         Split::Refused(r) => Reply::Refused(r),
@@ -73,14 +73,14 @@ pub(crate) fn serialize_call(args: &[u64], out: &mut [u8]) -> Reply {
     if 255 < class {
         return Reply::Bad;
     }
-    if !are_pairs(&args[5..], args[4]) {
+    let run = &args[5..];
+    if !are_pairs(run, args[4]) {
         return Reply::Bad;
     }
-    let count = (args.len() - 5) / 2;
     let mut fshd = bytes_memory();
-    let written = serialize_fshd(&args[5..], count, args[2], o as u8, &mut fshd);
+    let written = serialize_fshd(run, run.len() / 2, args[2], o as u8, &mut fshd);
     match written {
-        Written::Bytes(n) => fsse_answer(&args[5..], args[1], o as u8, class as u8, &fshd, n, out),
+        Written::Bytes(n) => fsse_answer(run, args[1], o as u8, class as u8, &fshd, n, out),
         Written::Refused(r) => Reply::Refused(r),
     }
 }
@@ -154,11 +154,12 @@ pub(crate) fn read_call(args: &[u64], bytes: &[u8], out: &mut [u8]) -> Reply {
     if 255 < o {
         return Reply::Bad;
     }
-    if args[2] != (args.len() - 3) as u64 {
+    let slots = &args[3..];
+    if args[2] != slots.len() as u64 {
         return Reply::Bad;
     }
     let base = BaseAddress(args[1]);
     let mut sections = numbers_memory();
-    let answer = read_persisted_sections(bytes, &args[3..], base, o as u8, &mut sections);
+    let answer = read_persisted_sections(bytes, slots, base, o as u8, &mut sections);
     sections_answer(answer, &sections, out)
 }

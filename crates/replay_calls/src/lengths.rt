@@ -13,10 +13,11 @@ pub(crate) fn fsse_len_call(args: &[u64]) -> Reply {
     if 255 < o {
         return Reply::Bad;
     }
-    if args[1] != (args.len() - 2) as u64 {
+    let lens = &args[2..];
+    if args[1] != lens.len() as u64 {
         return Reply::Bad;
     }
-    number_reply(fsse_len(&args[2..], o as u8))
+    number_reply(fsse_len(lens, o as u8))
 }
 
 pub(crate) fn blocks_len_call(args: &[u64]) -> Reply {
@@ -27,9 +28,9 @@ pub(crate) fn blocks_len_call(args: &[u64]) -> Reply {
     if 255 < o {
         return Reply::Bad;
     }
-    if !are_pairs(&args[2..], args[1]) {
+    let run = &args[2..];
+    if !are_pairs(run, args[1]) {
         return Reply::Bad;
     }
-    let count = (args.len() - 2) / 2;
-    number_reply(file_fsm_blocks_len(&args[2..], count, o as u8))
+    number_reply(file_fsm_blocks_len(run, run.len() / 2, o as u8))
 }

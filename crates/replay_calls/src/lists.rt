@@ -142,6 +142,32 @@ pub(crate) fn room_of(lists: &[u64], i: usize) -> usize
     min(RUN as u64, lists[ROOMS + i]) as usize
 }
 
+// The numbers of its run that a list is lent.
+pub(crate) fn run_lent(lists: &[u64], i: usize) -> &[u64]
+    requires { ⌜ (32779 ≤ length (now lists)) × (i ≤ 2) ⌝ }
+{
+    let from = i * RUN;
+    let end = from + room_of(lists, i);
+    &lists[from..end]
+}
+
+// The whole run of a list, to be changed.
+fn run_of(lists: &mut [u64], i: usize) -> &mut [u64]
+    requires { ⌜ (32779 ≤ length (now lists)) × (i ≤ 2) ⌝ }
+{
+    let from = i * RUN;
+    let end = from + RUN;
+    &mut lists[from..end]
+}
+
+// The first `n` numbers of a run, or all if it has fewer.
+pub(crate) fn front(run: &mut [u64], n: usize) -> &mut [u64] {
+    if run.len() < n {
+        return run;
+    }
+    &mut run[0..n]
+}
+
 // The record of a list.
 fn record_of(lists: &[u64], i: usize) -> FreeList
     requires { ⌜ i ≤ 2 ⌝ }
@@ -173,11 +199,10 @@ fn list_call(call: u64, line: &[u8], lists: &mut [u64], out: &mut [u8]) -> Reply
     }
     let i = k as usize;
     let list = record_of(lists, i);
-    let from = i * RUN;
-    let end = from + room_of(lists, i);
+    let room = room_of(lists, i);
     let answered = one_list(
         call,
-        &mut lists[from..end],
+        front(run_of(lists, i), room),
         list,
         few.second,
         few.third,
@@ -231,14 +256,14 @@ fn lend(args: &[u64], lists: &mut [u64]) -> Reply
     if 2 < k {
         return Reply::Bad;
     }
-    if args[2] != (args.len() - 3) as u64 {
+    let numbers = &args[3..];
+    if args[2] != numbers.len() as u64 {
         return Reply::Bad;
     }
     let i = k as usize;
-    let from = i * RUN;
-    let end = from + RUN;
-    put_front(&mut lists[from..end], &args[3..]);
-    let sum = sum_of(&lists[from..end], args[1]);
+    let run = run_of(lists, i);
+    put_front(run, numbers);
+    let sum = sum_of(run, args[1]);
     put_pair(lists, 2 * (RECORDS + i), args[1], sum);
     Reply::Done
 }
@@ -273,13 +298,10 @@ fn trailing_run_start_call(line: &[u8], lists: &[u64]) -> Reply
     if few.count != 1 {
         return Reply::Bad;
     }
-    let meta_end = room_of(lists, 0);
-    let raw_end = RUN + room_of(lists, 1);
-    let unclassified_end = 2 * RUN + room_of(lists, 2);
     let n = trailing_run_start(
-        &lists[0..meta_end],
-        &lists[RUN..raw_end],
-        &lists[2 * RUN..unclassified_end],
+        run_lent(lists, 0),
+        run_lent(lists, 1),
+        run_lent(lists, 2),
         file_lists(lists),
         few.first,
     );

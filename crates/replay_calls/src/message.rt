@@ -3,6 +3,7 @@ use crate::lines::end_line;
 use crate::lines::put_counted;
 use crate::lines::put_first;
 use crate::lines::put_numbers;
+use crate::lists::put_front;
 use crate::memory::bytes_memory;
 use crate::memory::numbers_memory;
 use crate::reply::Reply;
@@ -73,7 +74,8 @@ pub(crate) fn serialize_message_call(args: &[u64], out: &mut [u8]) -> Reply {
     if args.len() < 7 {
         return Reply::Bad;
     }
-    if args[6] != (args.len() - 7) as u64 {
+    let addrs = &args[7..];
+    if args[6] != addrs.len() as u64 {
         return Reply::Bad;
     }
     let code = args[0];
@@ -100,7 +102,7 @@ pub(crate) fn serialize_message_call(args: &[u64], out: &mut [u8]) -> Reply {
         page_end_meta_threshold: page_end as u16,
         eoa_pre_fsm: args[5],
     };
-    message_bytes(info, &args[7..], out)
+    message_bytes(info, addrs, out)
 }
 
 pub(crate) fn managers_call(args: &[u64], out: &mut [u8]) -> Reply {
@@ -110,20 +112,8 @@ pub(crate) fn managers_call(args: &[u64], out: &mut [u8]) -> Reply {
     if args[3] != 12 {
         return Reply::Bad;
     }
-    let slots = [
-        args[4],
-        args[5],
-        args[6],
-        args[7],
-        args[8],
-        args[9],
-        args[10],
-        args[11],
-        args[12],
-        args[13],
-        args[14],
-        args[15],
-    ];
+    let mut slots = [0; 12];
+    put_front(&mut slots, &args[4..]);
     let message = FileSpaceInfo::persistent_managers(
         FileSpaceStrategy::Page,
         args[0],

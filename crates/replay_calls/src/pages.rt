@@ -6,6 +6,7 @@ ghost use lib.ListN.{length};
 use crate::lists::RUN;
 use crate::lists::answered_reply;
 use crate::lists::file_lists;
+use crate::lists::front;
 use crate::lists::lent_buffer;
 use crate::lists::put_front;
 use crate::lists::put_record;
@@ -57,13 +58,14 @@ fn lend_marks(args: &[u64], lists: &mut [u64]) -> Reply
     if args.len() < 1 {
         return Reply::Bad;
     }
-    if args[0] != (args.len() - 1) as u64 {
+    let marks = &args[1..];
+    if args[0] != marks.len() as u64 {
         return Reply::Bad;
     }
     if (MARKS_LIMIT as u64) < args[0] {
         return Reply::Bad;
     }
-    if !are_bytes(&args[1..]) {
+    if !are_bytes(marks) {
         return Reply::Bad;
     }
     put_front(&mut lists[MARKS_COUNT..], args);
@@ -135,6 +137,33 @@ fn put_numbers_front(numbers: &mut [u64], bytes: &[u8]) {
     }
 }
 
+// A copy of the run of a list.
+fn run_copy(lists: &[u64], i: usize) -> [u64; RUN]
+    requires { ⌜ (32779 ≤ length (now lists)) × (i ≤ 2) ⌝ }
+{
+    let mut run = run_memory();
+    let from = i * RUN;
+    put_front(&mut run, &lists[from..]);
+    run
+}
+
+// A copy of the marks.
+fn marks_copy(lists: &[u64]) -> [u8; MARKS_LIMIT]
+    requires { ⌜ 32779 ≤ length (now lists) ⌝ }
+{
+    let mut marks = marks_memory();
+    put_bytes_front(&mut marks, &lists[MARKS..]);
+    marks
+}
+
+// The first `n` bytes, or all if there are fewer.
+fn bytes_front(bytes: &mut [u8], n: usize) -> &mut [u8] {
+    if bytes.len() < n {
+        return bytes;
+    }
+    &mut bytes[0..n]
+}
+
 // Makes a call on copies of the three runs and of the marks, as far as they are lent.
 fn make_on(
     lists: &[u64],
@@ -147,17 +176,12 @@ fn make_on(
 ) -> Applied
     requires { ⌜ 32779 ≤ length (now lists) ⌝ }
 {
-    let m = min(metadata.len() as u64, room_of(lists, 0) as u64) as usize;
-    let r = min(raw.len() as u64, room_of(lists, 1) as u64) as usize;
-    let u = min(unclassified.len() as u64, room_of(lists, 2) as u64) as usize;
-    let n = min(marks.len() as u64, marks_lent(lists) as u64) as usize;
-    let records = file_lists(lists);
     perform(
-        &mut metadata[0..m],
-        &mut raw[0..r],
-        &mut unclassified[0..u],
-        &mut marks[0..n],
-        records,
+        front(metadata, room_of(lists, 0)),
+        front(raw, room_of(lists, 1)),
+        front(unclassified, room_of(lists, 2)),
+        bytes_front(marks, marks_lent(lists)),
+        file_lists(lists),
         page,
         call,
     )
@@ -194,14 +218,10 @@ fn put_records(lists: &mut [u64], records: FileLists) {
 fn make(lists: &mut [u64], page: u64, call: PagedCall) -> Reply
     requires { ⌜ 32779 ≤ length (now lists) ⌝ }
 {
-    let mut metadata = run_memory();
-    let mut raw = run_memory();
-    let mut unclassified = run_memory();
-    let mut marks = marks_memory();
-    put_front(&mut metadata, lists);
-    put_front(&mut raw, &lists[RUN..]);
-    put_front(&mut unclassified, &lists[2 * RUN..]);
-    put_bytes_front(&mut marks, &lists[MARKS..]);
+    let mut metadata = run_copy(lists, 0);
+    let mut raw = run_copy(lists, 1);
+    let mut unclassified = run_copy(lists, 2);
+    let mut marks = marks_copy(lists);
     let made = make_on(
         lists,
         &mut metadata,

@@ -14,9 +14,11 @@ use fsm_plan::plan::plan_paged_managers;
 use replay_lines::answer::put_number;
 use text::words::write_bytes;
 
-// The places of a run of sections among the numbers of a call: its numbers stand from `from` up to `end`.
+// The places of a run of sections among the numbers of a call: its numbers, two for each of `count` sections, stand from `from` up to
+// `end`.
 struct Run {
     fine: bool,
+    count: usize,
     from: usize,
     end: usize,
 }
@@ -28,6 +30,7 @@ fn run_at(args: &[u64], at: usize) -> Run
     if args.len() <= at {
         return Run {
             fine: false,
+            count: 0,
             from: 0,
             end: 0,
         };
@@ -37,15 +40,26 @@ fn run_at(args: &[u64], at: usize) -> Run
     if (((args.len() - from) / 2) as u64) < count {
         return Run {
             fine: false,
+            count: 0,
             from: 0,
             end: 0,
         };
     }
     Run {
         fine: true,
+        count: count as usize,
         from: from,
         end: from + 2 * count as usize,
     }
+}
+
+// The numbers of a run.
+fn sections_of(args: &[u64], run: Run) -> &[u64]
+    requires { ⌜ (run .from ≤ run .end) × (run .end ≤ length (now args)) ⌝ }
+{
+    let from = run.from;
+    let end = run.end;
+    &args[from..end]
 }
 
 // The place after `n` pairs of a run, or its end where there are fewer.
@@ -130,22 +144,16 @@ pub(crate) fn plan_call(args: &[u64], out: &mut [u8]) -> Reply {
     if !are_runs(meta, raw, unclassified, args.len()) {
         return Reply::Bad;
     }
-    let m = meta.from;
-    let m_end = meta.end;
-    let r = raw.from;
-    let r_end = raw.end;
-    let u = unclassified.from;
-    let u_end = unclassified.end;
     let n = Counts {
-        meta: (m_end - m) / 2,
-        raw: (r_end - r) / 2,
-        unclassified: (u_end - u) / 2,
+        meta: meta.count,
+        raw: raw.count,
+        unclassified: unclassified.count,
     };
     let mut sections = numbers_memory();
     let planned = plan_paged_managers(
-        &args[m..m_end],
-        &args[r..r_end],
-        &args[u..u_end],
+        sections_of(args, meta),
+        sections_of(args, raw),
+        sections_of(args, unclassified),
         n,
         args[1],
         args[2],

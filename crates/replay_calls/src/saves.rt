@@ -3,10 +3,9 @@ ghost use Prim.Native.Nat.{_≤_};
 ghost use lib.ListN.{length};
 use crate::lines::end_line;
 use crate::lines::put_bytes;
-use crate::lists::RUN;
 use crate::lists::SCRATCH;
 use crate::lists::file_lists;
-use crate::lists::room_of;
+use crate::lists::run_lent;
 use crate::memory::bytes_memory;
 use crate::reply::Reply;
 use replay_lines::answer::put_number;
@@ -39,13 +38,10 @@ fn begin(args: &[u64], lists: &[u64], image: &[u8], scratch: &mut [u8]) -> Begin
         start: args[1],
         place: args[2],
     };
-    let meta_end = room_of(lists, 0);
-    let raw_end = RUN + room_of(lists, 1);
-    let unclassified_end = 2 * RUN + room_of(lists, 2);
     save_begin(
-        &lists[0..meta_end],
-        &lists[RUN..raw_end],
-        &lists[2 * RUN..unclassified_end],
+        run_lent(lists, 0),
+        run_lent(lists, 1),
+        run_lent(lists, 2),
         file_lists(lists),
         to,
         image,
