@@ -1,12 +1,16 @@
-//! The managers' blocks, written and read, at 16, 1,000 and 10,000 sections by address, all of one size and each of its own; written with
-//! sizes that fall, with sizes as an archive has them, and out of address order; sections cut at pages, and their pieces counted.
+//! The managers' blocks, written, read, and read strictly beside the loose reading and the checksums of both, at 16, 1,000 and 10,000
+//! sections by address, all of one size and each of its own; written with sizes that fall, with sizes as an archive has them, and out of
+//! address order; sections cut at pages, and their pieces counted.
 
 use crate::address::BaseAddress;
 use crate::figures::Figures;
 use crate::free_space_manager::{FreeSection, read_persisted_sections, serialize_file_fsm, split_at_pages};
 
 mod c {
+    pub type Read = unsafe extern "C" fn(*const u8, usize, *const u64, usize, *mut u64, usize) -> u64;
+
     unsafe extern "C" {
+        pub fn jenkins_lookup3(bytes: *const u8, len: usize) -> u32;
         pub fn bench_serialize_fshd(sections: *const u64, len: usize, count: usize, fsse_addr: u64, out: *mut u8, room: usize) -> u64;
         pub fn bench_serialize_fsse(
             sections: *const u64,
@@ -18,6 +22,7 @@ mod c {
             room: usize,
         ) -> u64;
         pub fn bench_read_sections(bytes: *const u8, len: usize, slots: *const u64, slot_count: usize, out: *mut u64, room: usize) -> u64;
+        pub fn bench_read_sections_strict(bytes: *const u8, len: usize, slots: *const u64, slot_count: usize, out: *mut u64, room: usize) -> u64;
         pub fn bench_split_at_pages(sections: *const u64, len: usize, count: usize, page: u64, out: *mut u64, room: usize) -> usize;
     }
 }
@@ -57,14 +62,34 @@ fn written(figures: &Figures, name: &str, sections: &[FreeSection]) -> Vec<u8> {
     bytes
 }
 
+/// Reads the manager at 0 into a run, and gives how many sections it has.
+fn read(by: c::Read, bytes: &[u8], out: &mut [u64]) -> usize {
+    unsafe { by(bytes.as_ptr(), bytes.len(), [0].as_ptr(), 1, out.as_mut_ptr(), out.len()) as usize }
+}
+
+/// The checksum of a block, over all but its last four bytes.
+fn sum(block: &[u8]) -> u32 {
+    unsafe { c::jenkins_lookup3(block.as_ptr(), block.len() - 4) }
+}
+
 fn blocks(figures: &Figures, name: &str, sections: &[FreeSection]) {
     let pairs = pairs(sections);
     let bytes = written(figures, name, sections);
-    let mut read = vec![0u64; pairs.len()];
+    let mut out = vec![0u64; pairs.len()];
     figures.compare(
         &format!("read {name}"),
-        || unsafe { c::bench_read_sections(bytes.as_ptr(), bytes.len(), [0].as_ptr(), 1, read.as_mut_ptr(), read.len()) as usize },
+        || read(c::bench_read_sections, &bytes, &mut out),
         || read_persisted_sections(&bytes, &[0], BaseAddress::new(0), 8).unwrap().len(),
+    );
+    let (header, list) = bytes.split_at(FSHD_LEN as usize);
+    let mut strict = vec![0u64; pairs.len()];
+    assert_eq!(read(c::bench_read_sections_strict, &bytes, &mut strict), pairs.len() / 2);
+    read(c::bench_read_sections, &bytes, &mut out);
+    assert_eq!(strict, out, "{name}");
+    figures.compare_own(
+        &format!("read strictly {name}"),
+        || read(c::bench_read_sections, &bytes, &mut out) + (sum(header) ^ sum(list)) as usize,
+        || read(c::bench_read_sections_strict, &bytes, &mut strict),
     );
 }
 

@@ -1,18 +1,15 @@
 """saves.py DRIVER CRATE: writes the calls of plans, saves and images that no answer of the Rust settles, and their answers, after those
-that CRATE/stdin and CRATE/stdout have before the line MARK. See README.md.
+that CRATE/stdin and CRATE/stdout have before the line MARK (rows.py). See README.md.
 
 The bytes come from document.py, and the Rust's writers (DRIVER) must agree; none comes from the program under test."""
 
-import os
 import sys
 
 import document
 from answers import answers
 from document import TOP, cut, manager, message, slots_of
 from images import images, lent_runs
-from rows import NO_SECTIONS, PAGE, call, changed, counted, image_call, rows, says, text_of
-
-MARK = "# Plans, saves and images. Before each group stands the sentence of document 01 or 02 that settles its answers."
+from rows import MARK, NO_SECTIONS, PAGE, call, changed, counted, image_call, put_rows, says, text_of
 
 
 # The saves whose blocks and messages the Rust must write too.
@@ -326,16 +323,7 @@ def main(driver, crate):
         group()
     for save in saves + [(PAGE, TOP, [[], [], []]), (1, 125, [[(0, 1366)], [], []])]:
         agree(driver, *save)
-    with open(os.path.join(crate, "stdin")) as f:
-        before = f.read().split(MARK)[0]
-    answered = sum(1 for line in before.split("\n") if line and not line.startswith("#"))
-    with open(os.path.join(crate, "stdout")) as f:
-        kept = f.read().split("\n")[:answered]
-    assert all(len(line) <= 65536 for line, _ in rows)
-    with open(os.path.join(crate, "stdin"), "w") as f:
-        f.write(before + MARK + "\n" + "".join(line + "\n" for line, _ in rows))
-    with open(os.path.join(crate, "stdout"), "w") as f:
-        f.write("".join(answer + "\n" for answer in kept + [a for _, a in rows if a is not None]))
+    put_rows(crate, MARK)
 
 
 main(*sys.argv[1:])

@@ -2,6 +2,7 @@
 // bytes or sections it gives, all ones where it is refused.
 ghost use mathlib.Core.Path.{_≡_};
 ghost use Rattle.error.specs.Lent.{with, leaving};
+ghost use Rattle.fsm_blocks.specs.declared.checks.Reading.the-variants.{Loose, Strict};
 ghost use Rattle.fsm_blocks.specs.Answers.{sectionsOutcome};
 ghost use Rattle.fsm_blocks.specs.Reading.{persisted};
 ghost use Rattle.fsm_writer.specs.Serializing.{writtenOutcome, writtenFshd, writtenFsse};
@@ -10,6 +11,7 @@ ghost use Rattle.fields.specs.Ranges.{orTop, leftOrTop};
 use fields::address::BaseAddress;
 use fsm_blocks::fsse::SectionsAnswer;
 use fsm_blocks::persisted::read_persisted_sections;
+use fsm_blocks::persisted::read_persisted_sections_strict;
 use fsm_pages::pages::Split;
 use fsm_pages::pages::split_at_pages;
 use fsm_writer::writer::Written;
@@ -74,9 +76,17 @@ pub extern "C" fn bench_serialize_fsse(
 #[no_mangle]
 pub extern "C" fn bench_read_sections(bytes: &[u8], slots: &[u64], out: &mut [u64]) -> u64
     ensures { λ r. ⌜ with r (now (out .exit))
-        ≡ leftOrTop (leaving (now (out .entry)) (persisted (now (slots .entry)) 0 8 (now (bytes .entry)) (now (out .entry)))) ⌝ }
+        ≡ leftOrTop (leaving (now (out .entry)) (persisted Loose (now (slots .entry)) 0 8 (now (bytes .entry)) (now (out .entry)))) ⌝ }
 {
     read_count(read_persisted_sections(bytes, slots, BaseAddress(0), 8, out))
+}
+
+#[no_mangle]
+pub extern "C" fn bench_read_sections_strict(bytes: &[u8], slots: &[u64], out: &mut [u64]) -> u64
+    ensures { λ r. ⌜ with r (now (out .exit))
+        ≡ leftOrTop (leaving (now (out .entry)) (persisted Strict (now (slots .entry)) 0 8 (now (bytes .entry)) (now (out .entry)))) ⌝ }
+{
+    read_count(read_persisted_sections_strict(bytes, slots, BaseAddress(0), 8, out))
 }
 
 #[no_mangle]

@@ -13,6 +13,7 @@ use Rattle.save.specs.declared.Begin.the-variants.{Begun, Refused}
 use Rattle.save.specs.Saving.{begun, beginOutcome}
 use Rattle.image.specs.declared.ImageRead.{ImageRead}
 use Rattle.image.specs.Answers.{imageOutcome, countsIn}
+use Rattle.fsm_blocks.specs.declared.checks.Reading.the-variants.{Loose}
 use Rattle.image.specs.Reading.{imageInto}
 use Rattle.end_to_end.specs.declared.Saved.{Saved}
 use Rattle.end_to_end.specs.Cuts.{Cut, cutWith, cutAfter, cutBy, begunWith, notBegun}
@@ -28,11 +29,11 @@ module _ (k place : ℕ) (image scratch out : List ℕ) (begin : Begin) where
 
   -- steps and then a reading, of a save that began
   pub cut-stepped : (s : Save) → begin ≡ Begun s → (image₂ out₂ : List ℕ) (t : Save) (read : ImageRead)
-      → saving t image₂ ≡ steps k scratch (saving s image) → left (imageOutcome read) out₂ ≡ leaving out (imageInto place image₂ out)
+      → saving t image₂ ≡ steps k scratch (saving s image) → left (imageOutcome read) out₂ ≡ leaving out (imageInto Loose place image₂ out)
       → cutWith (answer t) (imageOutcome read) image₂ scratch out₂ ≡ cut
   cut-stepped s b image₂ out₂ t read e f =
       ap (λ (q : Left (List ℕ) (List ℕ)). cutWith (answer t) (q .outcome) image₂ scratch (q .memory)) f
-      ∙ ap (λ (c : Saving). let q = leaving out (imageInto place (c .image) out) in cutWith (answer (c .save)) (q .outcome) (c .image) scratch (q .memory)) e
+      ∙ ap (λ (c : Saving). let q = leaving out (imageInto Loose place (c .image) out) in cutWith (answer (c .save)) (q .outcome) (c .image) scratch (q .memory)) e
       ∙ sym (ap (λ (x : Begin). cutAfter k place image scratch out (begunWith scratch (beginOutcome x))) b)
 
 module _ (k place page start : ℕ) (image scratch out : List ℕ) where

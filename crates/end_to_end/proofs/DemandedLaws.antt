@@ -23,6 +23,7 @@ use Rattle.save_step.specs.Steps.{Saving, saving, steps, goOn}
 use Rattle.save.specs.Saving.{begun}
 use Rattle.save.specs.EveryCut.{OneSave, oneSave, storeCount, afterSteps, recordAt, metadataSlot, rawSlot, largeSlot, plannedInSlots, plannedSections, plannedCounts, Room, EveryCut}
 use Rattle.save.proofs.AfterCallsLaws.{every-cut-after-calls}
+use Rattle.fsm_blocks.specs.declared.checks.Reading.the-variants.{Loose}
 use Rattle.image.specs.Reading.{Listed, inSlot, imageInto}
 use Rattle.end_to_end.specs.Cuts.{Cut, cutAfter}
 use Rattle.end_to_end.specs.Demanded.{Shown, lists, Demanded}
@@ -84,13 +85,13 @@ module _ (s : OneSave) (free : ℕ → Bool) (beginning : List ℕ → List ℕ 
     abbrev x : Cut
     x = cutAfter k (s .place) (s .image) (s .lent) out (answer (with (s .save) (s .lent)))
 
-    reading : (o : Outcome (With (List ℕ) (List ℕ))) → imageInto (s .place) (at k .image) out ≡ o → (x .read ≡ leaving out o .outcome) × (x .out ≡ leaving out o .memory)
+    reading : (o : Outcome (With (List ℕ) (List ℕ))) → imageInto Loose (s .place) (at k .image) out ≡ o → (x .read ≡ leaving out o .outcome) × (x .out ≡ leaving out o .memory)
     reading o e = read-is x (leaving out o) (ap (leaving out) e)
 
     last-read : t ≤ k → Room s out → (x .read ≡ answer (plannedCounts s)) × (x .out ≡ over 0 (flat (plannedSections s)) out)
     last-read h room =
         reading (answer (with (plannedCounts s) (over 0 (flat (plannedSections s)) out)))
-        (ap (λ (q : Saving). imageInto (s .place) (q .image) out) (same-after k h) ∙ d .into .after-last out room)
+        (ap (λ (q : Saving). imageInto Loose (s .place) (q .image) out) (same-after k h) ∙ d .into .after-last Loose out room)
 
     shown : Shown s free beginning k out x
     shown = record {
@@ -101,9 +102,9 @@ module _ (s : OneSave) (free : ℕ → Bool) (beginning : List ℕ → List ℕ 
       reading-is = refl;
       nothing-stored = λ z. (
         ap (λ (n : ℕ). at n .image) z ∙ unchanged-image,
-        ap (leaving out) (ap (λ (n : ℕ). imageInto (s .place) (at n .image) out) z ∙ d .into .nothing-stored out),
+        ap (leaving out) (ap (λ (n : ℕ). imageInto Loose (s .place) (at n .image) out) z ∙ d .into .nothing-stored Loose out),
       );
-      in-between = λ l h e. reading (answer (with (replicate 12 0) out)) (d .into .in-between k l h out e);
+      in-between = λ l h e. reading (answer (with (replicate 12 0) out)) (d .into .in-between Loose k l h out e);
       after-last = last-read;
       each-once = λ h room b.
           ap (λ (o : List ℕ). holding b (decode (length (plannedSections s)) o)) (last-read h room .1)

@@ -3,7 +3,7 @@
 --   Cut        what a save that was begun, cut and read comes to: the record after its steps or the beginning's refusal, the reading's counts or
 --              its refusal, and image, scratch and the run of sections as they are left
 --   cutWith    these together
---   cutAfter   what a beginning comes to: where it was accepted, k steps and then a reading at a place; where it was refused, its refusal for
+--   cutAfter   what a beginning comes to: where it was accepted, k steps and then a loose reading at a place; where it was refused, its refusal for
 --              both, and all lent memory is as it was
 --   cutBy      the code's answer, with the memory that it leaves
 --   begunWith  an answer of a beginning, with the scratch that it left
@@ -18,6 +18,7 @@ use Rattle.save_step.specs.Steps.{saving, steps}
 use Rattle.save.specs.declared.Begin.the-variants.{Refused}
 use Rattle.save.specs.Saving.{beginOutcome}
 use Rattle.image.specs.Answers.{imageOutcome, refusedRead}
+use Rattle.fsm_blocks.specs.declared.checks.Reading.the-variants.{Loose}
 use Rattle.image.specs.Reading.{imageInto}
 use Rattle.end_to_end.specs.declared.Saved.{Saved}
 
@@ -34,7 +35,7 @@ cutWith o r image scratch out = record { outcome = o; read = r; image = image; s
 abbrev pub cutAfter : ℕ → ℕ → List ℕ → List ℕ → List ℕ → Outcome (With Save (List ℕ)) → Cut
 cutAfter k place image scratch out (answer b) =
     let stepped = steps k (b .memory) (saving (b .value) image) in
-    let read = leaving out (imageInto place (stepped .image) out) in
+    let read = leaving out (imageInto Loose place (stepped .image) out) in
     cutWith (answer (stepped .save)) (read .outcome) (stepped .image) (b .memory) (read .memory)
 cutAfter k place image scratch out nothing = cutWith nothing nothing image scratch out
 cutAfter k place image scratch out (refuse n vs) = cutWith (refuse n vs) (refuse n vs) image scratch out

@@ -27,6 +27,7 @@ use Rattle.fsm_sections.specs.Pages.{holding}
 use Rattle.save_step.specs.declared.Save.{Save}
 use Rattle.save.specs.Saving.{begun}
 use Rattle.save.specs.EveryCut.{OneSave, oneSave, storeCount, imageAfter, recordAt, plannedSections, plannedCounts, Room, EveryCut}
+use Rattle.fsm_blocks.specs.declared.checks.Reading.the-variants.{Loose}
 use Rattle.image.specs.Reading.{imageInto}
 use Rattle.end_to_end.specs.Cuts.{Cut, cutWith}
 
@@ -35,8 +36,8 @@ pub record Shown (s : OneSave) (free : ℕ → Bool) (beginning : List ℕ → L
   pub record-is : x .outcome ≡ answer (recordAt s (min k (storeCount s)))
   pub image-is : x .image ≡ imageAfter s k
   pub scratch-is : x .scratch ≡ s .lent
-  pub reading-is : left (x .read) (x .out) ≡ leaving out (imageInto (s .place) (imageAfter s k) out)
-  pub nothing-stored : k ≡ 0 → (x .image ≡ s .image) × (left (x .read) (x .out) ≡ leaving out (imageInto (s .place) (s .image) out))
+  pub reading-is : left (x .read) (x .out) ≡ leaving out (imageInto Loose (s .place) (imageAfter s k) out)
+  pub nothing-stored : k ≡ 0 → (x .image ≡ s .image) × (left (x .read) (x .out) ≡ leaving out (imageInto Loose (s .place) (s .image) out))
   pub in-between : 0 < k → k < storeCount s → length out % 2 ≡ 0 → (x .read ≡ answer (replicate 12 0)) × (x .out ≡ out)
   pub after-last : storeCount s ≤ k → Room s out → (x .read ≡ answer (plannedCounts s)) × (x .out ≡ over 0 (flat (plannedSections s)) out)
   pub each-once : storeCount s ≤ k → Room s out → (b : ℕ) → holding b (decode (length (plannedSections s)) (x .out)) ≡ cond (free b) 1 0

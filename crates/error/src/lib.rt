@@ -1,5 +1,6 @@
-// The fifteen refusals: the variants of `FormatError` (error.rs) that this library needs, each with its values, and
-// those that stand for what the Rust asserts or leaves to the caller. They stand in the order in which they are given.
+// The seventeen refusals: the variants of `FormatError` (error.rs) that this library needs, each with its values, and
+// those that stand for what the Rust asserts or leaves to the caller. They stand in the order in which they are given; the last
+// two are a strict reading's, which has an order of its own.
 ghost use mathlib.Core.Path.{_≡_};
 ghost use Rattle.error.specs.Refusals.{numberOf};
 
@@ -33,10 +34,14 @@ pub enum Refusal {
     Place,
     // The lent memory holds fewer than the result has.
     OverCapacity { needed: u64, given: u64 },
+    // The version byte of a manager's block is not 0, or the client byte of its header is not 1.
+    VersionOrClient(u8),
+    // A section list names another header than the one that names it.
+    BackAddress,
 }
 
 impl Refusal {
-    // The refusal's number, 1 to 15.
+    // The refusal's number, 1 to 17.
     pub fn number(self) -> u8
         ensures { λ r. ⌜ r ≡ numberOf self ⌝ }
     {
@@ -65,6 +70,8 @@ impl Refusal {
                 needed: _,
                 given: _,
             } => 14,
+            Refusal::VersionOrClient(_) => 16,
+            Refusal::BackAddress => 17,
         }
     }
 }

@@ -7,13 +7,12 @@ use lib.Dec.{leb, eqb}
 use lib.ListN.{length, take, drop, getD}
 use borrow.Author.Tests.{lt-ltb, le-ltb, leb-true, not-false}
 use Rattle.error.specs.declared.Refusal.the-variants.{Width, Short, InvalidManager}
-use Rattle.error.specs.Outcome.{Outcome, answer, refused, firstOf, andThen}
+use Rattle.error.specs.Outcome.{answer, refused, firstOf, andThen}
 use Rattle.error.proofs.TestLaws.{and-true}
 use Rattle.fields.specs.Le.{leValue}
 use Rattle.fields.specs.Layout.{leAt}
 use Rattle.fields.specs.Width.{validWidth}
-use Rattle.fsm_blocks.specs.declared.header.FsmHeader.{FsmHeader}
-use Rattle.fsm_blocks.specs.Fshd.{Header, signed, headerAt, taken, parseFshd, parsedFshd}
+use Rattle.fsm_blocks.specs.Fshd.{signed, headerAt, taken, kept, parseFshd, parsedFshd}
 use Rattle.fields.proofs.LayoutLaws.{leAt-one}
 use Rattle.fsm_blocks.proofs.BytesLaws.{as-read}
 
@@ -32,10 +31,6 @@ signed-bytes a b c d bs =
 -- a width within 1 to 8, as numbers
 pub width-is : (O : ℕ) → not (validWidth O) ≡ false → (1 ≤ O) × (O ≤ 8)
 width-is O v = let p = and-true (leb 1 O) (leb O 8) (not-false (validWidth O) v) in (leb-true 1 O (p .0), leb-true O 8 (p .1))
-
--- the six fields of a header that is read, or its refusal
-abbrev pub kept : Outcome Header → Outcome FsmHeader
-kept o = andThen o (λ h. answer (taken h))
 
 module _ (O : ℕ) (bs : List ℕ) where
   pub parse-width : not (validWidth O) ≡ true → refused Width ≡ kept (parsedFshd O bs)

@@ -9,7 +9,9 @@ pub mod PutLaws
 pub mod FsseLaws
 pub mod IntoLaws
 pub mod ParseLaws
+pub mod CheckLaws
 pub mod NamedLaws
+pub mod AlikeLaws
 pub mod SlotsLaws
 pub mod ReadLaws
 pub mod WrittenLaws

@@ -10,6 +10,7 @@ use Rattle.fields.specs.Ranges.{undefinedAddr}
 use Rattle.fsm_blocks.specs.Fshd.{Header, parseFshd}
 use Rattle.fsm_blocks.specs.Groups.{Widths, entrySize, readEntries, readGroups}
 use Rattle.fsm_blocks.specs.Fsse.{parseFsse}
+use Rattle.fsm_blocks.specs.declared.checks.Reading.{Reading}
 use Rattle.fsm_blocks.specs.Reading.{readNamed, readManager, readSlots}
 
 abbrev pub NotNothing : {A : Type 0} → Outcome A → Type 0
@@ -51,7 +52,7 @@ module _ (w : Widths) where
   groups-end (suc fuel) (suc left) bs =
       first-ends _ _ (then-ends _ _ (entries-end _ _ _) (λ e. then-ends _ _ (groups-end fuel (e .left) (e .rest)) (λ l. tt)))
 
-module _ (O base : ℕ) where
+module _ (how : Reading) (O base : ℕ) where
   header-ends : (bs : List ℕ) → NotNothing (parseFshd O bs)
   header-ends bs = first-ends _ _ tt
 
@@ -59,15 +60,15 @@ module _ (O base : ℕ) where
   unfolding parseFsse
   list-ends bits greatest n bs = first-ends _ _ (groups-end _ _ _ _)
 
-  named-ends : (h : Header) (bytes : List ℕ) → NotNothing (readNamed O base h bytes)
+  named-ends : (slot : ℕ) (h : Header) (bytes : List ℕ) → NotNothing (readNamed how O base slot h bytes)
   unfolding readNamed
-  named-ends h bytes = skip-ends (eqb (h .fsse) (undefinedAddr O)) [] _ (first-ends _ _ (list-ends _ _ _ _))
+  named-ends slot h bytes = skip-ends (eqb (h .fsse) (undefinedAddr O)) [] _ (first-ends _ _ (list-ends _ _ _ _))
 
-  manager-ends : (slot : ℕ) (bytes : List ℕ) → NotNothing (readManager O base slot bytes)
+  manager-ends : (slot : ℕ) (bytes : List ℕ) → NotNothing (readManager how O base slot bytes)
   unfolding readManager
-  manager-ends slot bytes = skip-ends (eqb slot (undefinedAddr O)) [] _ (first-ends _ _ (then-ends _ _ (header-ends (drop (slot + base) bytes)) (λ h. named-ends h bytes)))
+  manager-ends slot bytes = skip-ends (eqb slot (undefinedAddr O)) [] _ (first-ends _ _ (then-ends _ _ (header-ends (drop (slot + base) bytes)) (λ h. named-ends slot h bytes)))
 
-  pub slots-end : (slots bytes : List ℕ) → NotNothing (readSlots O base slots bytes)
+  pub slots-end : (slots bytes : List ℕ) → NotNothing (readSlots how O base slots bytes)
   unfolding readSlots
   slots-end [] bytes = tt
   slots-end (a ∷ slots) bytes = then-ends _ _ (manager-ends a bytes) (λ x. then-ends _ _ (slots-end slots bytes) (λ y. tt))

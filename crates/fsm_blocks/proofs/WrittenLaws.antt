@@ -1,4 +1,4 @@
--- The blocks as they are written: their lengths, their checksum, and that they are read back, whatever follows. Assumes nothing.
+-- The blocks as they are written: their lengths, their checksum, that they are read back, whatever follows, and that they pass the checks. Assumes nothing.
 use mathlib.Core.Path.{_≡_, refl, sym, ap, _∙_, subst}
 use mathlib.Core.Bool.{true, false, _||_, not}
 use mathlib.Core.List.{List, [], _++_, append-assoc, append-nil}
@@ -9,10 +9,14 @@ use lib.Dec.{lit<, ltb, eqb}
 use lib.ListN.{length, take, getD, length-append}
 use lib.Seq.{take-at}
 use Rattle.error.specs.Outcome.{answer, firstOf}
+use Rattle.error.proofs.OutcomeLaws.{NoneHolds, first-shows}
 use Rattle.fields.specs.Le.{leBytes}
 use Rattle.fields.specs.Layout.{Field, field, layout, widths, span, FieldFits, window, leAt}
 use Rattle.fields.proofs.LeLaws.{length-le}
 use Rattle.fields.proofs.WidthLaws.{encSize-least}
+use Rattle.checksum.specs.Lookup3.{lookup3}
+use Rattle.checksum.specs.Trailing.{wrongSum, trailing}
+use Rattle.checksum.proofs.TrailingLaws.{closed}
 use Rattle.fsm_sections.specs.declared.FreeSection.{FreeSection}
 use Rattle.fsm_sections.specs.Sections.{bySizeThenAddr, groupsOf, distinct, All}
 use Rattle.fsm_sections.proofs.AllLaws.{all-getD}
@@ -21,6 +25,9 @@ use Rattle.fsm_sections.proofs.SizesLaws.{groups-of-sizes}
 use Rattle.fsm_blocks.specs.Groups.{Widths, SectionFits, groupBytes, parseGroups}
 use Rattle.fsm_blocks.specs.Fshd.{Header, fshdRow, sealed, fshdBytes, fshdSize, signed, headerAt, parseFshd}
 use Rattle.fsm_blocks.specs.Fsse.{widthsOf, fsseHead, fsseBytes, fsseSize, parseFsse}
+use Rattle.fsm_blocks.specs.declared.checks.Reading.{Reading}
+use Rattle.fsm_blocks.specs.declared.checks.Reading.the-variants.{Loose, Strict}
+use Rattle.fsm_blocks.specs.Checks.{fshdChecks, fsseChecks}
 use Rattle.fields.proofs.LayoutLaws.{window-at, leAt-le, length-layout}
 use Rattle.fsm_blocks.proofs.BytesLaws.{field-at}
 use Rattle.fsm_blocks.proofs.GroupsLaws.{length-groups, parse-written}
@@ -165,3 +172,34 @@ fsse-read sum O back class bits greatest l b1 b2 n fits =
     fsse-groups O bits greatest (length l) bs (s .long) (ap not (s .signature)) some
     ∙ ap (parseGroups w (length l)) (s .groups ∙ sym (append-nil (groupBytes w class (groupsOf (bySizeThenAddr l)))))
     ∙ parse-written w class l [] (encSize-least (length l) n .holds) fits
+
+-- ---- and pass the checks of every reading, if the checksum is lookup3's
+
+sealed-right : (body : List ℕ) → wrongSum (sealed lookup3 body) .holds ≡ false
+unfolding trailing
+sealed-right body = first-shows _ (answer tt) tt (closed body) .0 .1 .0
+
+pub fshd-checked : (how : Reading) (O : ℕ) (h : Header) (rest : List ℕ) → All FieldFits (fshdRow O h) → h .version ≡ 0 → h .client ≡ 1
+    → NoneHolds (fshdChecks how O (fshdBytes lookup3 O h ++ rest))
+unfolding fshdBytes
+fshd-checked Loose O h rest fits v c = tt
+fshd-checked Strict O h rest fits v c =
+    let bs : List ℕ = fshdBytes lookup3 O h ++ rest in
+    let s : Stands lookup3 O h bs = fshd-stands lookup3 O h rest fits in
+    let version : leAt 4 1 bs ≡ 0 = ap (λ (x : Header). x .version) (s .header) ∙ v in
+    let client : leAt 5 1 bs ≡ 1 = ap (λ (x : Header). x .client) (s .header) ∙ c in
+    (le-ltb _ _ (s .long), (ap not (s .signature), (ap not (eq-eqb _ 0 version), (ap not (eq-eqb _ 1 client), (sum-right, tt)))))
+  where
+    sum-right : wrongSum (take (fshdSize O) (fshdBytes lookup3 O h ++ rest)) .holds ≡ false
+    sum-right = rw (take-at (fshdBytes lookup3 O h) rest (fshdSize O) (length-fshd lookup3 O h)) (sealed-right (layout (fshdRow O h)))
+
+pub fsse-checked : (how : Reading) (w : Widths) (O back class : ℕ) (l : List FreeSection) → back < 256 ^ O
+    → NoneHolds (fsseChecks how O back (fsseBytes lookup3 w O back class l))
+unfolding fsseBytes
+fsse-checked Loose w O back class l b = tt
+fsse-checked Strict w O back class l b =
+    let s : Listed lookup3 w O back class l (fsseBytes lookup3 w O back class l) = fsse-stands lookup3 w O back class l in
+    (le-ltb _ _ (s .long), (ap not (s .signature), (ap not (eq-eqb _ 0 (s .version)), (sum-right, (ap not (eq-eqb _ back (s .back-is b)), tt)))))
+  where
+    sum-right : wrongSum (fsseBytes lookup3 w O back class l) .holds ≡ false
+    sum-right = sealed-right (layout (fsseHead O back) ++ groupBytes w class (groupsOf (bySizeThenAddr l)))

@@ -8,9 +8,11 @@
 --   fshdBytes    a header's bytes
 --   fshdSize     their number: "FSHD, length 74+O"
 --   signed       bytes begin with a signature of four
+--   beginning    "length, then signature": fewer bytes than a block of some size has are 7, four that are not F, S and two letters 10
 --   headerAt     the header that stands in bytes, signature and checksum aside ("FSSE address at 54 (O); used and allocated length at 54+O and
 --                62+O")
 --   taken        the six fields that the Rust keeps of a header, its `FsmHeader`
+--   kept         these of a header that is read, or its refusal
 --   parseFshd    the reading after the test of the offset size: "Parsing FSHD tests length, then signature"
 --   parsedFshd   `FsmHeader::parse`: refusals 1, 7, 10
 use Prim.Native.Nat.{ℕ, _+_}
@@ -19,7 +21,7 @@ use mathlib.Core.List.{List, [], _∷_, _++_}
 use lib.Dec.{ltb, eqb}
 use lib.ListN.{length}
 use Rattle.error.specs.declared.Refusal.the-variants.{Width, Short, InvalidManager}
-use Rattle.error.specs.Outcome.{Outcome, answer, when, firstOf}
+use Rattle.error.specs.Outcome.{Outcome, answer, Condition, when, firstOf, andThen}
 use Rattle.fields.specs.Le.{leBytes}
 use Rattle.fields.specs.Layout.{Field, field, layout, leAt}
 use Rattle.fields.specs.Width.{validWidth}
@@ -64,6 +66,9 @@ fshdSize O = 74 + O
 abbrev pub signed : ℕ → ℕ → ℕ → ℕ → List ℕ → Bool
 signed a b c d bs = eqb (leAt 0 1 bs) a && (eqb (leAt 1 1 bs) b && (eqb (leAt 2 1 bs) c && eqb (leAt 3 1 bs) d))
 
+abbrev pub beginning : ℕ → ℕ → ℕ → List ℕ → List Condition
+beginning size c d bs = when (ltb (length bs) size) (Short size (length bs)) ∷ when (not (signed 70 83 c d bs)) InvalidManager ∷ []
+
 abbrev pub headerAt : ℕ → List ℕ → Header
 headerAt O bs = record {
   version = leAt 4 1 bs;
@@ -92,14 +97,11 @@ taken h = record {
   «fsse_used» = h .used;
 }
 
--- length, then signature
+abbrev pub kept : Outcome Header → Outcome FsmHeader
+kept o = andThen o (λ h. answer (taken h))
+
 abbrev pub parseFshd : ℕ → List ℕ → Outcome Header
-parseFshd O bs =
-    firstOf
-    (when (ltb (length bs) (fshdSize O)) (Short (fshdSize O) (length bs))
-    ∷ when (not (signed 70 83 72 68 bs)) InvalidManager
-    ∷ [])
-    (answer (headerAt O bs))
+parseFshd O bs = firstOf (beginning (fshdSize O) 72 68 bs) (answer (headerAt O bs))
 
 unfoldable pub parsedFshd : ℕ → List ℕ → Outcome Header
 parsedFshd O bs = firstOf (when (not (validWidth O)) Width ∷ []) (parseFshd O bs)

@@ -11,17 +11,17 @@
 --   parseFsse    n sections by address bits and greatest size: "Parsing FSSE tests length 9+O, signature, then address bits 0 or above 64 (10),
 --                then groups"
 use Prim.Native.Nat.{ℕ, _+_, _-_, _*_, _/_}
-use mathlib.Core.Bool.{_||_, not}
+use mathlib.Core.Bool.{_||_}
 use mathlib.Core.List.{List, [], _∷_, _++_}
 use lib.Dec.{ltb, eqb}
 use lib.ListN.{length}
-use Rattle.error.specs.declared.Refusal.the-variants.{Short, InvalidManager}
+use Rattle.error.specs.declared.Refusal.the-variants.{InvalidManager}
 use Rattle.error.specs.Outcome.{Outcome, when, firstOf}
 use Rattle.fields.specs.Layout.{Field, field, layout, window}
 use Rattle.fields.specs.Width.{encSize}
 use Rattle.fsm_sections.specs.declared.FreeSection.{FreeSection}
 use Rattle.fsm_sections.specs.Sections.{bySizeThenAddr, groupsOf, distinct}
-use Rattle.fsm_blocks.specs.Fshd.{signature, sealed, signed}
+use Rattle.fsm_blocks.specs.Fshd.{signature, sealed, beginning}
 use Rattle.fsm_blocks.specs.Groups.{Widths, groupBytes, parseGroups}
 
 abbrev pub bitsWidth : ℕ → ℕ
@@ -44,9 +44,5 @@ fsseSize w O l = sizeBy w O (length l) (distinct l)
 
 unfoldable pub parseFsse : ℕ → ℕ → ℕ → ℕ → List ℕ → Outcome (List FreeSection)
 parseFsse O bits greatest n bs =
-    firstOf
-    (when (ltb (length bs) (9 + O)) (Short (9 + O) (length bs))
-    ∷ when (not (signed 70 83 83 69 bs)) InvalidManager
-    ∷ when (eqb bits 0 || ltb 64 bits) InvalidManager
-    ∷ [])
+    firstOf (beginning (9 + O) 83 69 bs ++ (when (eqb bits 0 || ltb 64 bits) InvalidManager ∷ []))
     (parseGroups (widthsOf n greatest bits) n (window (5 + O) (length bs - (9 + O)) bs))

@@ -2,6 +2,7 @@ pub mod Fshd
 pub mod Groups
 pub mod Fsse
 pub mod Settings
+pub mod Checks
 pub mod Reading
 pub mod Answers
 pub mod Parts

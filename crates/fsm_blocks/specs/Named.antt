@@ -21,6 +21,7 @@ use Rattle.fsm_blocks.specs.declared.header.HeaderAnswer.{HeaderAnswer}
 use Rattle.fsm_blocks.specs.declared.header.HeaderAnswer.the-variants as header
 use Rattle.fsm_blocks.specs.declared.manager.Named.{Named}
 use Rattle.fsm_blocks.specs.declared.manager.Named.the-variants.{Nowhere, At, Refused}
+use Rattle.fsm_blocks.specs.declared.checks.Reading.{Reading}
 use Rattle.fsm_blocks.specs.Fshd.{Header}
 use Rattle.fsm_blocks.specs.Reading.{readManager, readSlots, joined}
 use Rattle.fsm_blocks.specs.Parts.{counted, sectionsBy}
@@ -57,8 +58,8 @@ abbrev pub refusalIn : HeaderAnswer → Refusal
 refusalIn (header.Header h) = InvalidManager
 refusalIn (header.Refused r) = r
 
-unfoldable pub managerCount : ℕ → ℕ → ℕ → List ℕ → Outcome ℕ
-managerCount O base slot bytes = firstOf (when (not (validWidth O)) Width ∷ []) (counted (readManager O base slot bytes))
+unfoldable pub managerCount : Reading → ℕ → ℕ → ℕ → List ℕ → Outcome ℕ
+managerCount how O base slot bytes = firstOf (when (not (validWidth O)) Width ∷ []) (counted (readManager how O base slot bytes))
 
-unfoldable pub slotsCount : ℕ → ℕ → List ℕ → List ℕ → Outcome ℕ
-slotsCount O base slots bytes = andThen (readSlots O base slots bytes) (λ ls. answer (sat (length (joined ls))))
+unfoldable pub slotsCount : Reading → ℕ → ℕ → List ℕ → List ℕ → Outcome ℕ
+slotsCount how O base slots bytes = andThen (readSlots how O base slots bytes) (λ ls. answer (sat (length (joined ls))))

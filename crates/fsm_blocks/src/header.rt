@@ -2,9 +2,8 @@
 ghost use mathlib.Core.Path.{_≡_};
 ghost use Prim.Native.Nat.{_≤_};
 ghost use lib.ListN.{length};
-ghost use Rattle.error.specs.Outcome.{answer, andThen};
 ghost use Rattle.fsm_blocks.specs.Answers.{headerOutcome};
-ghost use Rattle.fsm_blocks.specs.Fshd.{signed, taken, parsedFshd};
+ghost use Rattle.fsm_blocks.specs.Fshd.{signed, kept, parsedFshd};
 use error::Refusal;
 use fields::bytes::read_uint_le;
 use fields::width::is_width;
@@ -38,7 +37,7 @@ impl FsmHeader {
 
     // The header at the start of `bytes`. Version, client and checksum are not tested.
     pub fn parse(bytes: &[u8], offset_size: u8) -> HeaderAnswer
-        ensures { λ r. ⌜ headerOutcome r ≡ andThen (parsedFshd «offset_size» (now (bytes .entry))) (λ h. answer (taken h)) ⌝ }
+        ensures { λ r. ⌜ headerOutcome r ≡ kept (parsedFshd «offset_size» (now (bytes .entry))) ⌝ }
     {
         if !is_width(offset_size) {
             return HeaderAnswer::Refused(Refusal::Width);

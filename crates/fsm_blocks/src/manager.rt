@@ -5,15 +5,24 @@ ghost use Prim.Native.Nat.{_+_, _*_, _≤_};
 ghost use lib.ListN.{length};
 ghost use Rattle.error.specs.Answers.{numberOutcome};
 ghost use Rattle.error.specs.Lent.{over};
+ghost use Rattle.error.specs.Outcome.{firstOf};
 ghost use Rattle.fields.specs.Width.{validWidth};
 ghost use Rattle.fsm_sections.specs.Sections.{flat};
+ghost use Rattle.fsm_blocks.specs.declared.checks.Reading.the-variants.{Loose};
+ghost use Rattle.fsm_blocks.specs.Answers.{headerOutcome};
+ghost use Rattle.fsm_blocks.specs.Fshd.{kept, parsedFshd};
+ghost use Rattle.fsm_blocks.specs.Checks.{fshdChecks};
 ghost use Rattle.fsm_blocks.specs.Reading.{readNamed, readManager};
 ghost use Rattle.fsm_blocks.specs.Parts.{got, Accepted};
 ghost use Rattle.fsm_blocks.specs.Named.{full, namedOutcome, Inside, refusalIn, managerCount};
+use crate::checks::Reading;
+use crate::checks::check_fshd;
+use crate::checks::check_fsse;
 use crate::fsse::fsse_count;
 use crate::fsse::put_fsse;
 use crate::header::FsmHeader;
 use crate::header::HeaderAnswer;
+use error::Checked;
 use error::Number;
 use error::Refusal;
 use fields::address::BaseAddress;
@@ -36,10 +45,30 @@ fn refusal_in(answer: HeaderAnswer) -> Refusal
     }
 }
 
-// The section list that a header names. The undefined address is skipped before the base is added.
-fn list_of(bytes: &[u8], header: FsmHeader, base: BaseAddress, offset_size: u8) -> Named
+// The header at the start of `bytes`, after the tests of the reading.
+fn header_at(bytes: &[u8], offset_size: u8, reading: Reading) -> HeaderAnswer
+    ensures { λ r. ⌜ headerOutcome r
+        ≡ firstOf (fshdChecks reading «offset_size» (now (bytes .entry))) (kept (parsedFshd «offset_size» (now (bytes .entry)))) ⌝ }
+{
+    let checked = check_fshd(bytes, offset_size, reading);
+    match checked {
+        Checked::Refused(r) => HeaderAnswer::Refused(r),
+        Checked::Passed => FsmHeader::parse(bytes, offset_size),
+    }
+}
+
+// The section list that a header names, which stands at `slot`. The undefined address is skipped before the base is added.
+fn list_of(
+    bytes: &[u8],
+    slot: u64,
+    header: FsmHeader,
+    base: BaseAddress,
+    offset_size: u8,
+    reading: Reading,
+) -> Named
     requires { ⌜ not (validWidth «offset_size») ≡ false ⌝ }
-    ensures named { λ r. ⌜ namedOutcome «offset_size» (now (bytes .entry)) r ≡ readNamed «offset_size» (base .0) (full header) (now (bytes .entry)) ⌝ }
+    ensures named { λ r. ⌜ namedOutcome «offset_size» (now (bytes .entry)) r
+        ≡ readNamed reading «offset_size» (base .0) slot (full header) (now (bytes .entry)) ⌝ }
     ensures inside { λ r. ⌜ Inside (length (now (bytes .entry))) r ⌝ }
 {
     let fsse = header.fsse_addr;
@@ -56,16 +85,22 @@ fn list_of(bytes: &[u8], header: FsmHeader, base: BaseAddress, offset_size: u8) 
     if len - start < header.fsse_used {
         return Named::Refused(Refusal::InvalidManager);
     }
-    Named::At {
-        start: start,
-        header: header,
+    let first = start as usize;
+    let end = first + header.fsse_used as usize;
+    let checked = check_fsse(&bytes[first..end], slot, offset_size, reading);
+    match checked {
+        Checked::Refused(r) => Named::Refused(r),
+        Checked::Passed => Named::At {
+            start: start,
+            header: header,
+        },
     }
 }
 
 // The section list of the manager whose header a slot names. The base is added to both addresses.
-fn locate(bytes: &[u8], slot: u64, base: BaseAddress, offset_size: u8) -> Named
+fn locate(bytes: &[u8], slot: u64, base: BaseAddress, offset_size: u8, reading: Reading) -> Named
     requires { ⌜ not (validWidth «offset_size») ≡ false ⌝ }
-    ensures named { λ r. ⌜ namedOutcome «offset_size» (now (bytes .entry)) r ≡ readManager «offset_size» (base .0) slot (now (bytes .entry)) ⌝ }
+    ensures named { λ r. ⌜ namedOutcome «offset_size» (now (bytes .entry)) r ≡ readManager reading «offset_size» (base .0) slot (now (bytes .entry)) ⌝ }
     ensures inside { λ r. ⌜ Inside (length (now (bytes .entry))) r ⌝ }
 {
     if slot == undefined_addr(offset_size) {
@@ -78,21 +113,27 @@ fn locate(bytes: &[u8], slot: u64, base: BaseAddress, offset_size: u8) -> Named
         return Named::Refused(Refusal::InvalidManager);
     }
     let first = start as usize;
-    let answer = FsmHeader::parse(&bytes[first..], offset_size);
+    let answer = header_at(&bytes[first..], offset_size, reading);
     let HeaderAnswer::Header(header) = answer else {
         return Named::Refused(refusal_in(answer));
     };
-    list_of(bytes, header, base, offset_size)
+    list_of(bytes, slot, header, base, offset_size, reading)
 }
 
 // How many sections the manager has whose header `slot` names.
-pub fn manager_count(bytes: &[u8], slot: u64, base: BaseAddress, offset_size: u8) -> Number
-    ensures { λ r. ⌜ numberOutcome r ≡ managerCount «offset_size» (base .0) slot (now (bytes .entry)) ⌝ }
+pub fn manager_count(
+    bytes: &[u8],
+    slot: u64,
+    base: BaseAddress,
+    offset_size: u8,
+    reading: Reading,
+) -> Number
+    ensures { λ r. ⌜ numberOutcome r ≡ managerCount reading «offset_size» (base .0) slot (now (bytes .entry)) ⌝ }
 {
     if !is_width(offset_size) {
         return Number::Refused(Refusal::Width);
     }
-    let found = locate(bytes, slot, base, offset_size);
+    let found = locate(bytes, slot, base, offset_size, reading);
     match found {
         Named::Nowhere => Number::Is(0),
         Named::Refused(r) => Number::Refused(r),
@@ -104,7 +145,8 @@ pub fn manager_count(bytes: &[u8], slot: u64, base: BaseAddress, offset_size: u8
     }
 }
 
-// Puts the sections of an accepted manager into the run, and gives the place after them.
+// Puts the sections of an accepted manager into the run, and gives the place after them. What was accepted strictly is read alike
+// loosely, so no checksum is computed again.
 pub(crate) fn put_manager(
     bytes: &[u8],
     slot: u64,
@@ -114,12 +156,12 @@ pub(crate) fn put_manager(
     from: usize,
 ) -> usize
     requires width { ⌜ not (validWidth «offset_size») ≡ false ⌝ }
-    requires accepted { ⌜ Accepted (readManager «offset_size» (base .0) slot (now bytes)) ⌝ }
-    requires room { ⌜ from + 2 * length (got (readManager «offset_size» (base .0) slot (now bytes))) ≤ length (now out) ⌝ }
-    ensures put { λ _. ⌜ now (out .exit) ≡ over from (flat (got (readManager «offset_size» (base .0) slot (now (bytes .entry))))) (now (out .entry)) ⌝ }
-    ensures next { λ r. ⌜ r ≡ from + 2 * length (got (readManager «offset_size» (base .0) slot (now (bytes .entry)))) ⌝ }
+    requires accepted { ⌜ Accepted (readManager Loose «offset_size» (base .0) slot (now bytes)) ⌝ }
+    requires room { ⌜ from + 2 * length (got (readManager Loose «offset_size» (base .0) slot (now bytes))) ≤ length (now out) ⌝ }
+    ensures put { λ _. ⌜ now (out .exit) ≡ over from (flat (got (readManager Loose «offset_size» (base .0) slot (now (bytes .entry))))) (now (out .entry)) ⌝ }
+    ensures next { λ r. ⌜ r ≡ from + 2 * length (got (readManager Loose «offset_size» (base .0) slot (now (bytes .entry)))) ⌝ }
 {
-    let found = locate(bytes, slot, base, offset_size);
+    let found = locate(bytes, slot, base, offset_size, Reading::Loose);
     match found {
         Named::Nowhere => from,
         Named::Refused(_) => from,

@@ -2,7 +2,7 @@
 --   run             the sections (300, 16), (9, 2) and (300, 16)
 --   header, list    their blocks as the serializers write them, for the addresses 10 and 100
 --   bytes           bytes in which both stand, with base 5
---   read            what they read as
+--   read            what they read as, loosely and strictly
 use mathlib.Core.Path.{_≡_, refl}
 use Prim.Native.Nat.{ℕ}
 use native.Mathlib.Omega.{arith}
@@ -20,6 +20,7 @@ use Rattle.fsm_blocks.specs.Groups.{entryBytes, groupBytes}
 use Rattle.fsm_blocks.specs.Fshd.{fshdBytes}
 use Rattle.fsm_blocks.specs.Fsse.{fsseBytes}
 use Rattle.fsm_blocks.specs.Settings.{startingSet, headerFor, fsseFor}
+use Rattle.fsm_blocks.specs.declared.checks.Reading.{Reading}
 use Rattle.fsm_blocks.specs.Reading.{readManager}
 use Rattle.fsm_writer.specs.Serializing.{ofRun, writtenFshd, writtenFsse}
 use Rattle.fsm_sections.specs.Runs.{anyOf}
@@ -35,7 +36,7 @@ header = fshdBytes lookup3 2 (headerFor 2 (startingSet 2) 100 (decode 3 run))
 abbrev list : List ℕ
 list = fsseFor 2 (startingSet 2) lookup3 10 1 (decode 3 run)
 
-abbrev bytes : List ℕ
+abbrev pub bytes : List ℕ
 bytes = replicate 15 0 ++ (header ++ (replicate 14 0 ++ list))
 
 header-written : writtenFshd 2 run 3 100 (replicate 76 0) ≡ answer (with 76 header)
@@ -56,6 +57,6 @@ standing = record {
   list-there = refl;
 }
 
-pub read : readManager 2 5 10 bytes ≡ answer (section 9 2 ∷ section 300 16 ∷ section 300 16 ∷ [])
+pub read : (how : Reading) → readManager how 2 5 10 bytes ≡ answer (section 9 2 ∷ section 300 16 ∷ section 300 16 ∷ [])
 unfolding insert bySizeThenAddr
-read = round-trip 2 run 3 10 100 1 (replicate 76 0) (replicate 38 0) 76 38 header list (lit< tt) header-written list-written .manager-read 5 bytes standing
+read how = round-trip 2 run 3 10 100 1 (replicate 76 0) (replicate 38 0) 76 38 header list (lit< tt) header-written list-written .manager-read how 5 bytes standing

@@ -22,10 +22,11 @@ use Rattle.fsm_sections.specs.Sections.{decode, flat, space, bySizeThenAddr, Al
 use Rattle.fsm_sections.proofs.SectionsLaws.{length-sorted}
 use Rattle.fsm_sections.proofs.SortLaws.{sorted-sorted, times-sorted}
 use Rattle.fsm_blocks.specs.declared.header.FsmHeader.{FsmHeader}
-use Rattle.fsm_blocks.specs.Fshd.{fshdRow, fshdBytes, fshdSize, taken, parsedFshd}
+use Rattle.fsm_blocks.specs.Fshd.{fshdRow, fshdBytes, fshdSize, kept, parsedFshd}
 use Rattle.fsm_blocks.specs.Groups.{SectionFits}
 use Rattle.fsm_blocks.specs.Parts.{sectionsBy}
 use Rattle.fsm_blocks.specs.Settings.{startingSet, widthsFor, headerFor, fsseFor, fsseUsed}
+use Rattle.fsm_blocks.specs.declared.checks.Reading.{Reading}
 use Rattle.fsm_blocks.specs.Reading.{readManager, joined, intoRun, parsedFsse, persisted}
 use Rattle.fsm_blocks.specs.Named.{managerCount}
 use Rattle.fsm_blocks.proofs.WrittenLaws.{length-fshd, length-fsse, fshd-read, fsse-read}
@@ -89,9 +90,10 @@ module _ (O : ℕ) (run : List ℕ) (n : ℕ) where
             ∙ ap (λ (k : List FreeSection). fshdBytes lookup3 O (headerFor O (startingSet O) fsse k)) (sym (r .is));
       })
 
-  -- the same of the list: its sections' addresses fit
+  -- the same of the list: its header's address and its sections' fit
   record ListFits (fshd class b : ℕ) (y v : List ℕ) : Type 0 where
     narrow : anyWide O l ≡ false
+    back : fshd < 256 ^ O
     room : fsseUsed O (startingSet O) l ≤ length y
     bytes : take b v ≡ fsseFor O (startingSet O) lookup3 fshd class l
 
@@ -109,6 +111,7 @@ module _ (O : ℕ) (run : List ℕ) (n : ℕ) where
       let t : over 0 bs y ≡ v = ap (λ (w : With ℕ (List ℕ)). w .memory) (q .1) in
       record {
         narrow = ap (anyWide O) (r .is) ∙ or-false (wide O fshd) (anyWide O m) (q .0 .0) .1;
+        back = fits O fshd (or-false (wide O fshd) (anyWide O m) (q .0 .0) .0);
         room = subst (λ (k : List FreeSection). fsseUsed O (startingSet O) k ≤ length y) (sym (r .is)) room;
         bytes =
             rw (← t, ← s, ← long) (take-over bs y (omega (arith, long)))
@@ -143,13 +146,13 @@ module _ (l : List FreeSection) (out : List ℕ) (even : length out % 2 ≡ 0) (
   unfolding parsedFsse firstOf andThen
   parsed-into h O list w e = rw (w, eq-eqb (length out % 2) 0 even, e) into-run
 
-  persisted-into : (O base slot : ℕ) (bytes : List ℕ) → not (validWidth O) ≡ false → readManager O base slot bytes ≡ answer (bySizeThenAddr l)
-      → persisted (slot ∷ []) base O bytes out ≡ lent
+  persisted-into : (how : Reading) (O base slot : ℕ) (bytes : List ℕ) → not (validWidth O) ≡ false → readManager how O base slot bytes ≡ answer (bySizeThenAddr l)
+      → persisted how (slot ∷ []) base O bytes out ≡ lent
   unfolding persisted firstOf andThen joined
-  persisted-into O base slot bytes w e =
-      rw (w, eq-eqb (length out % 2) 0 even, slots-more O base bytes slot [] (bySizeThenAddr l) [] e (slots-none O base bytes), append-nil (bySizeThenAddr l)) into-run
+  persisted-into how O base slot bytes w e =
+      rw (w, eq-eqb (length out % 2) 0 even, slots-more how O base bytes slot [] (bySizeThenAddr l) [] e (slots-none how O base bytes), append-nil (bySizeThenAddr l)) into-run
 
-module _ (O : ℕ) (l : List FreeSection) (fshd fsse class : ℕ) (low : 1 ≤ O) (high : O ≤ 8) (small : space l ≤ top) (address : fsse < 256 ^ O)
+module _ (O : ℕ) (l : List FreeSection) (fshd fsse class : ℕ) (low : 1 ≤ O) (high : O ≤ 8) (small : space l ≤ top) (address : fsse < 256 ^ O) (back : fshd < 256 ^ O)
     (narrow : anyWide O l ≡ false) (short : fsseUsed O (startingSet O) l < 2 ^ 64) where
   abbrev header : List ℕ
   header = fshdBytes lookup3 O (headerFor O (startingSet O) fsse l)
@@ -172,7 +175,7 @@ module _ (O : ℕ) (l : List FreeSection) (fshd fsse class : ℕ) (low : 1 ≤ O
   length-header : length header ≡ fshdSize O
   length-header = length-fshd lookup3 O (headerFor O (startingSet O) fsse l)
 
-  parsed-header : (rest : List ℕ) → andThen (parsedFshd O (header ++ rest)) (λ h. answer (taken h)) ≡ answer (fieldsOf O l fshd fsse header list)
+  parsed-header : (rest : List ℕ) → kept (parsedFshd O (header ++ rest)) ≡ answer (fieldsOf O l fshd fsse header list)
   unfolding parsedFshd firstOf andThen
   parsed-header rest = rw (width, fshd-read lookup3 O (headerFor O (startingSet O) fsse l) rest fields-fit, length-list)
 
@@ -180,14 +183,15 @@ module _ (O : ℕ) (l : List FreeSection) (fshd fsse class : ℕ) (low : 1 ≤ O
   parsed-list = fsse-read lookup3 O fshd class (8 * O - 1) (2 ^ 63 - 1) l (omega arith) (omega arith) (omega arith) fit
 
   module _ (base : ℕ) (bytes : List ℕ) (s : Standing O l fshd fsse header list base bytes) where
-    read : readManager O base fshd bytes ≡ answer (bySizeThenAddr l)
-    read =
+    read : (how : Reading) → readManager how O base fshd bytes ≡ answer (bySizeThenAddr l)
+    read how =
         let p = held (fshd + base) (length header) bytes header (s .header-there) refl (omega (arith, length-header)) in
         let q = held (fsse + base) (length list) bytes list (s .list-there) refl (omega (arith, length-list)) in
-        manager-read lookup3 O base (startingSet O) fshd fsse class l bytes
+        manager-read O base (startingSet O) fshd fsse class l bytes
         (record {
           slot-defined = s .fshd-defined;
           fsse-defined = s .fsse-defined;
+          slot-fits = back;
           slot-near = omega (arith, s .short);
           fsse-near = omega (arith, s .short);
           header-fits = fields-fit;
@@ -197,10 +201,11 @@ module _ (O : ℕ) (l : List FreeSection) (fshd fsse class : ℕ) (low : 1 ≤ O
           header-there = rw (← length-header) (s .header-there);
           list-there = rw (← length-list) (s .list-there);
         })
+        how
 
-    counted : managerCount O base fshd bytes ≡ answer (length l)
+    counted : (how : Reading) → managerCount how O base fshd bytes ≡ answer (length l)
     unfolding managerCount firstOf andThen
-    counted = rw (width, read, length-sorted l)
+    counted how = rw (width, read how, length-sorted l)
 
   pub read-back : ReadBack O l fshd fsse header list
   read-back = record {
@@ -208,9 +213,9 @@ module _ (O : ℕ) (l : List FreeSection) (fshd fsse class : ℕ) (low : 1 ≤ O
     ordered = sorted-sorted l;
     header-parsed = parsed-header;
     list-parsed = λ out even room. parsed-into l out even room (fieldsOf O l fshd fsse header list) O list width parsed-list;
-    manager-read = read;
-    manager-counted = counted;
-    persisted-read = λ base bytes s out even room. persisted-into l out even room O base fshd bytes width (read base bytes s);
+    manager-read = λ how base bytes s. read base bytes s how;
+    manager-counted = λ how base bytes s. counted base bytes s how;
+    persisted-read = λ how base bytes s out even room. persisted-into l out even room how O base fshd bytes width (read base bytes s how);
   }
 
 pub round-trip : RoundTrip
@@ -219,4 +224,4 @@ round-trip O run n fshd fsse class x y a b u v few e f =
     let k = list-fits O run n fshd class y b v f in
     let w = and-true (leb 1 O) (leb O 8) (h .width) in
     rw (h .bytes, k .bytes)
-    (read-back O (decode n run) fshd fsse class (leb-true 1 O (w .0)) (leb-true O 8 (w .1)) (h .small) (h .address) (k .narrow) (omega (arith, k .room)))
+    (read-back O (decode n run) fshd fsse class (leb-true 1 O (w .0)) (leb-true O 8 (w .1)) (h .small) (h .address) (k .back) (k .narrow) (omega (arith, k .room)))

@@ -24,6 +24,7 @@ use Rattle.image.specs.declared.ImageAnswer.{ImageAnswer}
 use Rattle.image.specs.declared.ImageAnswer.the-variants.{Read, Refused}
 use Rattle.image.specs.declared.ImageRead.{ImageRead}
 use Rattle.image.specs.Answers.{outcomeWith, imageOutcome}
+use Rattle.fsm_blocks.specs.declared.checks.Reading.the-variants.{Loose}
 use Rattle.image.specs.Reading.{readImage, countsOf, readInto, imageInto}
 use Rattle.text.specs.Text.{written}
 use Rattle.holes_text.specs.Listing.{slotsOf, listingText, refusedText}
@@ -104,13 +105,13 @@ module _ (run : List ℕ) (size : 2 * sectionLimit ≡ length run) where
   listed-text nothing counts run′ h e m = let z : _≡_ {A = ℕ} 0 1 = cc in absurd (omega arith)
   listed-text (refuse n vs) counts run′ h e m = let z : _≡_ {A = ℕ} 0 1 = cc in absurd (omega arith)
 
-  module _ (image : List ℕ) (short : length image ≤ imageLimit) (r : ImageRead) (run′ : List ℕ) (e : left (imageOutcome r) run′ ≡ leaving run (imageInto 0 image run)) where
+  module _ (image : List ℕ) (short : length image ≤ imageLimit) (r : ImageRead) (run′ : List ℕ) (e : left (imageOutcome r) run′ ≡ leaving run (imageInto Loose 0 image run)) where
     abbrev listed : Outcome (List (List FreeSection))
-    listed = andThen (readImage 0 image) (atMost sectionLimit)
+    listed = andThen (readImage Loose 0 image) (atMost sectionLimit)
 
     read : left (imageOutcome r) run′ ≡ leaving run (andThen listed filled)
     unfolding imageInto
-    read = e ∙ ap (leaving run) (into (readImage 0 image))
+    read = e ∙ ap (leaving run) (into (readImage Loose 0 image))
 
     answered : (a : ImageAnswer) → r .answer ≡ a → outcomeWith (r .counts) a ≡ leaving run (andThen listed filled) .outcome
     answered a q = sym (ap (outcomeWith (r .counts)) q) ∙ ap (λ (l : Left (List ℕ) (List ℕ)). l .outcome) read
@@ -124,4 +125,4 @@ module _ (run : List ℕ) (size : 2 * sectionLimit ≡ length run) where
 
     pub text-listed : r .answer ≡ Read → listingText (slotsOf (r .counts) run′) ≡ holesText image
     text-listed q =
-        listed-text listed (r .counts) run′ (few (readImage 0 image)) (answered Read q) (ap (λ (l : Left (List ℕ) (List ℕ)). l .memory) read) ∙ text-is
+        listed-text listed (r .counts) run′ (few (readImage Loose 0 image)) (answered Read q) (ap (λ (l : Left (List ℕ) (List ℕ)). l .memory) read) ∙ text-is

@@ -18,6 +18,7 @@ use Rattle.fsm_blocks.specs.Reading.{readManager, readSlots, joined}
 use Rattle.fsm_blocks.proofs.ThenLaws.{Holds, holds-when, holds-then}
 use Rattle.file_space_info.specs.Message.{fixedLen, fixedRead, present}
 use Rattle.file_space_info.proofs.ReadLaws.{length-numbers}
+use Rattle.fsm_blocks.specs.declared.checks.Reading.the-variants.{Loose}
 use Rattle.image.specs.Reading.{messageAt, addressesIn, readImage}
 use Rattle.image.proofs.PlaceLaws.{message-few}
 use Rattle.text.specs.Text.{written}
@@ -38,19 +39,19 @@ each P (refuse n vs) h = tt
 abbrev Slots : ℕ → List (List FreeSection) → Type 0
 Slots n ls = length ls ≤ n
 
-as-many : (slots image : List ℕ) → Holds (Slots (length slots)) (readSlots 8 0 slots image)
+as-many : (slots image : List ℕ) → Holds (Slots (length slots)) (readSlots Loose 8 0 slots image)
 unfolding readSlots
 as-many [] image = omega arith
 as-many (a ∷ slots) image =
-    holds-then (Slots (suc (length slots))) (readManager 8 0 a image) _ (each (λ _. Unit {0}) (readManager 8 0 a image) (λ _. tt))
-    (λ l _. holds-then (Slots (suc (length slots))) (readSlots 8 0 slots image) _ (as-many slots image) (λ ls h. omega arith))
+    holds-then (Slots (suc (length slots))) (readManager Loose 8 0 a image) _ (each (λ _. Unit {0}) (readManager Loose 8 0 a image) (λ _. tt))
+    (λ l _. holds-then (Slots (suc (length slots))) (readSlots Loose 8 0 slots image) _ (as-many slots image) (λ ls h. omega arith))
 
 few-present : (n : ℕ) (persist : Bool) → n ≤ 125 → present 8 8 n persist ≤ 12
 unfolding present
 few-present n true h = omega arith
 few-present n false h = omega arith
 
-twelve : (image : List ℕ) → Holds (Slots 12) (readImage 0 image)
+twelve : (image : List ℕ) → Holds (Slots 12) (readImage Loose 0 image)
 unfolding readImage
 twelve image =
     let bs = messageAt 0 image in
@@ -59,7 +60,7 @@ twelve image =
     let n = present 8 8 (length bs) (m .persist) in
     let e : length (addressesIn bs m) ≡ n = length-numbers 8 n (drop (fixedLen 8 8) bs) in
     let l : n ≤ 12 = few-present (length bs) (m .persist) (message-few 0 image) in
-    weaker (length (addressesIn bs m)) (omega arith) (readSlots 8 0 (addressesIn bs m) image) (as-many (addressesIn bs m) image))
+    weaker (length (addressesIn bs m)) (omega arith) (readSlots Loose 8 0 (addressesIn bs m) image) (as-many (addressesIn bs m) image))
   where
     weaker : (n : ℕ) → n ≤ 12 → (o : Outcome (List (List FreeSection))) → Holds (Slots n) o → Holds (Slots 12) o
     weaker n l (answer ls) h = omega arith
@@ -91,8 +92,8 @@ unfolding holesRead
 text-fits image =
     short-text (holesRead image)
     (holds-when (Slots 12) _ (OverCapacity (length image) imageLimit) _
-    (holds-then (Slots 12) (readImage 0 image) (atMost sectionLimit) (twelve image) (λ ls h. holds-when (Slots 12) _ _ (answer ls) h)))
-    (holds-when Few _ (OverCapacity (length image) imageLimit) _ (few (readImage 0 image)))
+    (holds-then (Slots 12) (readImage Loose 0 image) (atMost sectionLimit) (twelve image) (λ ls h. holds-when (Slots 12) _ _ (answer ls) h)))
+    (holds-when Few _ (OverCapacity (length image) imageLimit) _ (few (readImage Loose 0 image)))
 
 -- ---- the text made in memory of that size, then written to the lent bytes or refused
 

@@ -17,6 +17,7 @@ use Rattle.error.specs.Outcome.{Outcome, answer, nothing, refuse, when, firstOf
 use Rattle.error.specs.Lent.{With, with, over}
 use Rattle.fsm_sections.specs.declared.FreeSection.{FreeSection}
 use Rattle.fsm_blocks.specs.Reading.{joined}
+use Rattle.fsm_blocks.specs.declared.checks.Reading.the-variants.{Loose}
 use Rattle.image.specs.Reading.{readImage}
 use Rattle.holes_text.specs.Listing.{listingText, refusedText}
 
@@ -36,7 +37,7 @@ atMost limit ls =
 unfoldable pub holesRead : List ℕ → Outcome (List (List FreeSection))
 holesRead image =
     firstOf (when (ltb imageLimit (length image)) (OverCapacity (length image) imageLimit) ∷ [])
-    (andThen (readImage 0 image) (atMost sectionLimit))
+    (andThen (readImage Loose 0 image) (atMost sectionLimit))
 
 abbrev pub textOf : Outcome (List (List FreeSection)) → List ℕ
 textOf (answer ls) = listingText ls

@@ -1,5 +1,5 @@
 -- How many sections each slot has: the cases of `sections_in`, the loop of `slot_counts`, and the counts of an accepted reading. Assumes nothing.
-use mathlib.Core.Path.{_≡_, refl, sym, ap, ap₂, _∙_}
+use mathlib.Core.Path.{_≡_, refl, sym, ap, ap₂, _∙_, subst}
 use mathlib.Core.List.{List, [], _∷_, _++_, map}
 use Prim.Native.Nat.{ℕ, zero, suc, _+_, _-_, _≤_, _<_}
 use native.Mathlib.Nat.{le-of-suc-le-suc, not-suc-le-zero}
@@ -14,9 +14,12 @@ use Rattle.error.specs.Outcome.{Outcome, answer, nothing, refuse, firstOf, andT
 use Rattle.error.specs.Lent.{over}
 use Rattle.error.proofs.OverLaws.{over-zeros, front-next}
 use Rattle.fsm_sections.specs.declared.FreeSection.{FreeSection}
+use Rattle.fsm_blocks.specs.declared.checks.Reading.{Reading}
+use Rattle.fsm_blocks.specs.declared.checks.Reading.the-variants.{Loose}
 use Rattle.fsm_blocks.specs.Reading.{readManager, readSlots}
 use Rattle.fsm_blocks.specs.Parts.{got, Accepted, counted}
 use Rattle.fsm_blocks.specs.Named.{managerCount}
+use Rattle.fsm_blocks.proofs.AlikeLaws.{accepted-alike}
 use Rattle.fsm_blocks.proofs.ThenLaws.{sized-is, both-accepted}
 use Rattle.image.specs.Reading.{sectionsIn, countsOf}
 
@@ -28,14 +31,14 @@ none-counted (answer l) n vs e = let z : _≡_ {A = ℕ} 0 1 = cc in absurd (ome
 none-counted nothing n vs e = refl
 none-counted (refuse m ws) n vs e = refl
 
-module _ (image : List ℕ) (slot : ℕ) {r : Number} (e : numberOutcome r ≡ managerCount 8 0 slot image) where
+module _ (image : List ℕ) (slot : ℕ) {r : Number} (e : numberOutcome r ≡ managerCount Loose 8 0 slot image) where
   pub counted-is : (n : ℕ) → r ≡ number.Is n → n ≡ sectionsIn image slot
   unfolding managerCount firstOf
-  counted-is n q = sym (sized-is (readManager 8 0 slot image) length n (sym e ∙ ap numberOutcome q) .1)
+  counted-is n q = sym (sized-is (readManager Loose 8 0 slot image) length n (sym e ∙ ap numberOutcome q) .1)
 
   pub counted-none : (x : Refusal) → r ≡ number.Refused x → 0 ≡ sectionsIn image slot
   unfolding managerCount firstOf
-  counted-none x q = none-counted (readManager 8 0 slot image) _ _ (sym e ∙ ap numberOutcome q)
+  counted-none x q = none-counted (readManager Loose 8 0 slot image) _ _ (sym e ∙ ap numberOutcome q)
 
 -- ---- the slots in order
 
@@ -68,18 +71,21 @@ module _ (image slots : List ℕ) where
 -- ---- the counts of an accepted reading
 
 module _ (image : List ℕ) where
-  slot-lengths : (slots : List ℕ) → Accepted (readSlots 8 0 slots image) → map (sectionsIn image) slots ≡ map length (got (readSlots 8 0 slots image))
+  slot-lengths : (slots : List ℕ) → Accepted (readSlots Loose 8 0 slots image) → map (sectionsIn image) slots ≡ map length (got (readSlots Loose 8 0 slots image))
   unfolding readSlots
   slot-lengths [] a = refl
   slot-lengths (s ∷ slots) a =
-      let p = both-accepted (readManager 8 0 s image) (readSlots 8 0 slots image) a in
+      let p = both-accepted (readManager Loose 8 0 s image) (readSlots Loose 8 0 slots image) a in
       ap (λ (l : List ℕ). sectionsIn image s ∷ l) (slot-lengths slots (p .0 .1)) ∙ sym (ap (map length) (p .1))
 
-  pub counts-are : (slots counts : List ℕ) → length slots ≤ 12 → Accepted (readSlots 8 0 slots image) → counts ≡ over 0 (map (sectionsIn image) slots) (replicate 12 0)
-      → counts ≡ countsOf (got (readSlots 8 0 slots image))
-  counts-are slots counts few a e =
-      let ls : List (List FreeSection) = got (readSlots 8 0 slots image) in
-      let q : map (sectionsIn image) slots ≡ map length ls = slot-lengths slots a in
+  -- what a reading accepts is read loosely alike, so that its slots are counted without its checks
+  pub counts-are : (how : Reading) (slots counts : List ℕ) → length slots ≤ 12 → Accepted (readSlots how 8 0 slots image)
+      → counts ≡ over 0 (map (sectionsIn image) slots) (replicate 12 0) → counts ≡ countsOf (got (readSlots how 8 0 slots image))
+  counts-are how slots counts few a e =
+      let loosely = accepted-alike how 8 0 image slots a in
+      let ls : List (List FreeSection) = got (readSlots how 8 0 slots image) in
+      let q : map (sectionsIn image) slots ≡ map length ls =
+      slot-lengths slots (subst Accepted (sym loosely) a) ∙ ap (λ (o : Outcome (List (List FreeSection))). map length (got o)) loosely in
       let n : length (map length ls) ≡ length ls = length-map ls length in
       let m : length (map (sectionsIn image) slots) ≡ length slots = length-map slots (sectionsIn image) in
       let k : length (map length ls) ≤ 12 = omega (arith, ap length q) in

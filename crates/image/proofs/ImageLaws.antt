@@ -1,4 +1,4 @@
--- The returns of `read_slots` and `read_image`, and what an answer of the latter says. Assumes nothing.
+-- The returns of `read_slots` and `read_by`, and what an answer of the latter says. Assumes nothing.
 use mathlib.Core.Path.{_≡_, refl, sym, ap, ap₂, _∙_}
 use mathlib.Core.Bool.{Bool, true, false, not}
 use mathlib.Core.List.{List, [], _∷_}
@@ -17,6 +17,7 @@ use Rattle.fsm_sections.specs.declared.FreeSection.{FreeSection}
 use Rattle.fsm_blocks.specs.declared.fsse.SectionsAnswer.{SectionsAnswer}
 use Rattle.fsm_blocks.specs.declared.fsse.SectionsAnswer.the-variants as sections
 use Rattle.fsm_blocks.specs.Answers.{sectionsOutcome}
+use Rattle.fsm_blocks.specs.declared.checks.Reading.{Reading}
 use Rattle.fsm_blocks.specs.Reading.{readSlots, joined, intoRun, persisted}
 use Rattle.fsm_blocks.specs.Parts.{got, Accepted}
 use Rattle.file_space_info.specs.declared.FileSpaceInfo.{FileSpaceInfo}
@@ -73,9 +74,9 @@ module _ (out : List ℕ) where
   run-accepts nothing n e = let z : _≡_ {A = ℕ} 0 1 = cc in absurd (omega arith)
   run-accepts (refuse k vs) n e = let z : _≡_ {A = ℕ} 0 1 = cc in absurd (omega arith)
 
-  module _ (slots image : List ℕ) (a : SectionsAnswer) (out′ : List ℕ) (e : left (sectionsOutcome a) out′ ≡ leaving out (persisted slots 0 8 image out)) where
+  module _ (how : Reading) (slots image : List ℕ) (a : SectionsAnswer) (out′ : List ℕ) (e : left (sectionsOutcome a) out′ ≡ leaving out (persisted how slots 0 8 image out)) where
     abbrev each : Outcome (List (List FreeSection))
-    each = readSlots 8 0 slots image
+    each = readSlots how 8 0 slots image
 
     as-run : left (sectionsOutcome a) out′ ≡ leaving out (run each)
     unfolding persisted
@@ -94,7 +95,7 @@ module _ (out : List ℕ) where
       answered : answer n ≡ leaving out (run each) .outcome
       answered = sym (ap sectionsOutcome q) ∙ outcome-is
 
-      pub slots-accepted : Accepted (readSlots 8 0 slots image)
+      pub slots-accepted : Accepted (readSlots how 8 0 slots image)
       slots-accepted = run-accepts each n (passed _ NotAList _ n answered)
 
       pub slots-read : (counts : List ℕ) → counts ≡ countsOf (got each) → left (answer counts) out′ ≡ leaving out (readInto out each)
@@ -103,7 +104,7 @@ module _ (out : List ℕ) where
           ∙ leaves-answer out out′ (run each) n (countsOf (got each)) answered memory-is
           ∙ sym (ap (leaving out) (counts-for-sum each))
 
--- ---- `read_image`
+-- ---- `read_by`
 
 -- a refused reading, as the code makes it
 pub refused-as : {M : Type 0} (m : M) (left′ : Left (List ℕ) M) (x : Refusal) {r : ImageRead} → r ≡ refusedRead x → left (refused x) m ≡ left′
@@ -111,21 +112,21 @@ pub refused-as : {M : Type 0} (m : M) (left′ : Left (List ℕ) M) (x : Refusal
 refused-as m left′ x {r} e h =
     (ap (λ (y : ImageRead). left (imageOutcome y) m) e ∙ h, ap (λ (y : ImageRead). y .counts) e ∙ sym (ap (λ (y : ImageRead). countsIn (imageOutcome y)) e))
 
-module _ (place : ℕ) (image out : List ℕ) where
-  pub image-odd : (length out % 2 ≡ 0 → ⊥) → left (refused NotAList) out ≡ leaving out (imageInto place image out)
+module _ (how : Reading) (place : ℕ) (image out : List ℕ) where
+  pub image-odd : (length out % 2 ≡ 0 → ⊥) → left (refused NotAList) out ≡ leaving out (imageInto how place image out)
   unfolding imageInto
   image-odd h = ap (leaving out) (refuses _ _ _ (ap not (ne-eqb (length out % 2) 0 h)))
 
-  pub image-refused : length out % 2 ≡ 0 → (r : Refusal) → refused r ≡ fixedRead 8 8 (messageAt place image) → left (refused r) out ≡ leaving out (imageInto place image out)
+  pub image-refused : length out % 2 ≡ 0 → (r : Refusal) → refused r ≡ fixedRead 8 8 (messageAt place image) → left (refused r) out ≡ leaving out (imageInto how place image out)
   unfolding imageInto readImage andThen
   image-refused even r e =
       ap (leaving out)
       (passes _ _ (refused r) (ap not (eq-eqb (length out % 2) 0 even))
-      ∙ ap (λ (o : Outcome FileSpaceInfo). readInto out (andThen o (λ m. readSlots 8 0 (addressesIn (messageAt place image) m) image))) e)
+      ∙ ap (λ (o : Outcome FileSpaceInfo). readInto out (andThen o (λ m. readSlots how 8 0 (addressesIn (messageAt place image) m) image))) e)
 
   pub image-is : (m : FileSpaceInfo) → answer m ≡ fixedRead 8 8 (messageAt place image) → (slots : List ℕ) → slots ≡ addressesIn (messageAt place image) m
-      → leaving out (readInto out (readSlots 8 0 slots image)) ≡ leaving out (imageInto place image out)
+      → leaving out (readInto out (readSlots how 8 0 slots image)) ≡ leaving out (imageInto how place image out)
   unfolding imageInto readImage andThen
   image-is m e slots s =
-      ap (λ (l : List ℕ). leaving out (readInto out (readSlots 8 0 l image))) s
-      ∙ ap (λ (o : Outcome FileSpaceInfo). leaving out (readInto out (andThen o (λ m. readSlots 8 0 (addressesIn (messageAt place image) m) image)))) e
+      ap (λ (l : List ℕ). leaving out (readInto out (readSlots how 8 0 l image))) s
+      ∙ ap (λ (o : Outcome FileSpaceInfo). leaving out (readInto out (andThen o (λ m. readSlots how 8 0 (addressesIn (messageAt place image) m) image)))) e

@@ -1,4 +1,4 @@
--- The outcome that the answer of `read_image` stands for (document 01, "Language forms": "for every case of the enum"). Assumes nothing.
+-- The outcome that the answer of `read_image` or `read_image_strict` stands for (document 01, "Language forms": "for every case of the enum"). Assumes nothing.
 --   outcomeWith    of an answer and the counts beside it
 --   imageOutcome   of both together: the twelve counts of slots, or the refusal
 --   countsIn       the counts that stand beside it: all 0 where it is a refusal ("Fourteen ways to say no": "Each promise covers answer and lent

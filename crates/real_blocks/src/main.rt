@@ -1,18 +1,21 @@
 // Managers of real HDF5 files. Each stands in the input as the address of its FSHD (8 bytes), the FSHD (82) and the FSSE
-// (its used length). Of each the program prints the address and the sections, and `same` where writing these sections
-// gives the same bytes.
+// (its used length). Of each the program prints the address and the sections, `same` where writing these sections gives the same
+// bytes, and below `strictly` what the strict reading gives.
 ghost use mathlib.Core.Path.{_≡_};
 ghost use lib.ListN.{length};
+use fields::address::BaseAddress;
 use fields::bytes::read_uint_le;
 use fields::width::enc_size;
 use fsm_blocks::fsse::SectionsAnswer;
 use fsm_blocks::fsse::parse_fsse;
 use fsm_blocks::header::FsmHeader;
 use fsm_blocks::header::HeaderAnswer;
+use fsm_blocks::persisted::read_persisted_sections_strict;
 use fsm_writer::writer::serialize_fshd;
 use fsm_writer::writer::serialize_fsse;
 use libc::STDIN_FILENO;
 use libc::STDOUT_FILENO;
+use text::words::write_bytes;
 
 fn numbers() -> [u64; 1024]
     ensures { λ r. ⌜ 1024 ≡ length r ⌝ }
@@ -67,6 +70,20 @@ fn writes_back(bytes: &[u8], used: usize, run: &[u64], count: usize, fsse_addr: 
     check::same(&out[0..used], &bytes[90..90 + used])
 }
 
+// Prints what the strict reading gives of a manager whose blocks stand at their addresses in a file of zeros.
+fn print_strictly(fshd_addr: u64, fshd: &[u8], fsse_addr: u64, fsse: &[u8]) {
+    let mut file = [0; 524288];
+    write_bytes(&mut file, fshd_addr as usize, fshd);
+    write_bytes(&mut file, fsse_addr as usize, fsse);
+    let mut run = numbers();
+    let read = read_persisted_sections_strict(&file, &[fshd_addr], BaseAddress(0), 8, &mut run);
+    let SectionsAnswer::Read(count) = read else {
+        return;
+    };
+    io::write_all(STDOUT_FILENO, b"strictly\n");
+    print_sections(&run, count as usize);
+}
+
 // Prints the manager at the front of `bytes` and answers how many bytes it takes, 0 where none stands there.
 fn manager(bytes: &[u8]) -> usize {
     if bytes.len() < 90 {
@@ -86,12 +103,14 @@ fn manager(bytes: &[u8]) -> usize {
     let SectionsAnswer::Read(count) = read else {
         return 0;
     };
+    let address = read_uint_le(bytes, 0, 8);
     io::write_all(STDOUT_FILENO, b"manager ");
-    print_line(read_uint_le(bytes, 0, 8));
+    print_line(address);
     print_sections(&run, count as usize);
     if writes_back(bytes, used as usize, &run, count as usize, h.fsse_addr) {
         io::write_all(STDOUT_FILENO, b"same\n");
     }
+    print_strictly(address, &bytes[8..90], h.fsse_addr, &bytes[90..end]);
     end
 }
 

@@ -1,6 +1,7 @@
 // The free space of a real HDF5 file. The input has the file's offset size and length size (a byte each), the place of the
 // File Space Info message in the file (8 bytes) and its length (2), then the file. The program prints the number of each slot
-// of the message, and under it the sections of the manager that the slot names.
+// of the message, and under it the sections of the manager that the slot names, first as the loose reading gives them and then,
+// below `strictly`, as the strict one does.
 use error::Refusal;
 use fields::address::BaseAddress;
 use fields::bytes::read_uint_le;
@@ -9,6 +10,7 @@ use file_space_info::NUM_FILE_FSM_MANAGERS;
 use file_space_info::Parsed;
 use fsm_blocks::fsse::SectionsAnswer;
 use fsm_blocks::persisted::read_persisted_sections;
+use fsm_blocks::persisted::read_persisted_sections_strict;
 use libc::STDIN_FILENO;
 use libc::STDOUT_FILENO;
 
@@ -40,14 +42,23 @@ fn print_sections(run: &[u64], count: u64) {
     }
 }
 
-// The sections of the manager that a slot names. The file has no user block, so its base address is 0.
-fn print_manager(file: &[u8], slot: u64, offset_size: u8) {
-    let mut run = [0; 64];
-    let read = read_persisted_sections(file, &[slot], BaseAddress(0), offset_size, &mut run);
+fn print_answer(read: SectionsAnswer, run: &[u64]) {
     match read {
-        SectionsAnswer::Read(count) => print_sections(&run, count),
+        SectionsAnswer::Read(count) => print_sections(run, count),
         SectionsAnswer::Refused(refusal) => print_refusal(refusal),
     }
+}
+
+// The sections of the manager that a slot names. The file has no user block, so its base address is 0.
+fn print_manager(file: &[u8], slot: u64, offset_size: u8) {
+    let base = BaseAddress(0);
+    let mut run = [0; 64];
+    let read = read_persisted_sections(file, &[slot], base, offset_size, &mut run);
+    print_answer(read, &run);
+    let mut strict = [0; 64];
+    let checked = read_persisted_sections_strict(file, &[slot], base, offset_size, &mut strict);
+    io::write_all(STDOUT_FILENO, b"strictly\n");
+    print_answer(checked, &strict);
 }
 
 // The first `count` slots, as far as they go.

@@ -8,11 +8,13 @@ use crate::reply::Reply;
 use crate::reply::pairs_reply;
 use crate::words::are_pairs;
 use fields::address::BaseAddress;
+use fsm_blocks::checks::Reading;
 use fsm_blocks::fsse::SectionsAnswer;
 use fsm_blocks::fsse::parse_fsse;
 use fsm_blocks::header::FsmHeader;
 use fsm_blocks::header::HeaderAnswer;
 use fsm_blocks::persisted::read_persisted_sections;
+use fsm_blocks::persisted::read_persisted_sections_strict;
 use fsm_pages::pages::Split;
 use fsm_pages::pages::split_at_pages;
 use fsm_writer::writer::Written;
@@ -146,7 +148,22 @@ pub(crate) fn fsse_parse_call(args: &[u64], bytes: &[u8], out: &mut [u8]) -> Rep
     sections_answer(answer, &sections, out)
 }
 
-pub(crate) fn read_call(args: &[u64], bytes: &[u8], out: &mut [u8]) -> Reply {
+// The sections of the slots, by one of the two readings.
+fn sections_by(
+    reading: Reading,
+    bytes: &[u8],
+    slots: &[u64],
+    base: BaseAddress,
+    offset_size: u8,
+    out: &mut [u64],
+) -> SectionsAnswer {
+    match reading {
+        Reading::Loose => read_persisted_sections(bytes, slots, base, offset_size, out),
+        Reading::Strict => read_persisted_sections_strict(bytes, slots, base, offset_size, out),
+    }
+}
+
+pub(crate) fn read_call(reading: Reading, args: &[u64], bytes: &[u8], out: &mut [u8]) -> Reply {
     if args.len() < 3 {
         return Reply::Bad;
     }
@@ -160,6 +177,6 @@ pub(crate) fn read_call(args: &[u64], bytes: &[u8], out: &mut [u8]) -> Reply {
     }
     let base = BaseAddress(args[1]);
     let mut sections = numbers_memory();
-    let answer = read_persisted_sections(bytes, slots, base, o as u8, &mut sections);
+    let answer = sections_by(reading, bytes, slots, base, o as u8, &mut sections);
     sections_answer(answer, &sections, out)
 }

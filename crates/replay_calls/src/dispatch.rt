@@ -26,6 +26,7 @@ use crate::sums::sum_call;
 use crate::words::line_numbers;
 use crate::words::name_in;
 use crate::words::read_words;
+use fsm_blocks::checks::Reading;
 use replay_lines::call::is_call;
 
 fn run_name(line: &[u8]) -> u64 {
@@ -60,7 +61,7 @@ fn run_call(call: u64, line: &[u8], out: &mut [u8]) -> Reply {
 
 fn bytes_name(line: &[u8]) -> u64 {
     name_in(
-        b"lookup3 hashlittle verify fshd_parse fsse_parse read msg_parse image image_into",
+        b"lookup3 hashlittle verify fshd_parse fsse_parse read msg_parse image image_into strict strict_image",
         line,
     )
 }
@@ -70,10 +71,12 @@ fn bytes_answer(call: u64, args: &[u64], bytes: &[u8], out: &mut [u8]) -> Reply 
     match call {
         4 => fshd_parse_call(args, bytes, out),
         5 => fsse_parse_call(args, bytes, out),
-        6 => read_call(args, bytes, out),
+        6 => read_call(Reading::Loose, args, bytes, out),
         7 => parse_message_call(args, bytes, out),
         8 => image_call(args, bytes, out),
-        9 => image_into_call(args, bytes, out),
+        9 => image_into_call(Reading::Loose, args, bytes, out),
+        10 => read_call(Reading::Strict, args, bytes, out),
+        11 => image_into_call(Reading::Strict, args, bytes, out),
         _ => sum_call(call, args, bytes, out),
     }
 }

@@ -4,8 +4,11 @@ use crate::lines::pairs_line;
 use crate::lines::put_numbers;
 use crate::memory::numbers_memory;
 use crate::reply::Reply;
+use fsm_blocks::checks::Reading;
 use image::ImageAnswer;
+use image::ImageRead;
 use image::read_image;
+use image::read_image_strict;
 use text::words::write_bytes;
 
 // The sum of the slots' counts, modulo 2^64: no run has as many sections.
@@ -48,8 +51,16 @@ fn run_line(counts: &[u64], run: &[u64], out: &mut [u8]) -> usize {
     end_line(out, end)
 }
 
-fn read_into(image: &[u8], place: u64, run: &mut [u64], out: &mut [u8]) -> Reply {
-    let read = read_image(image, place, run);
+// The sections of the image, by one of the two readings.
+fn image_by(reading: Reading, image: &[u8], place: u64, run: &mut [u64]) -> ImageRead {
+    match reading {
+        Reading::Loose => read_image(image, place, run),
+        Reading::Strict => read_image_strict(image, place, run),
+    }
+}
+
+fn read_into(reading: Reading, image: &[u8], place: u64, run: &mut [u64], out: &mut [u8]) -> Reply {
+    let read = image_by(reading, image, place, run);
     let answer = read.answer;
     let counts = read.counts;
     match answer {
@@ -59,7 +70,12 @@ fn read_into(image: &[u8], place: u64, run: &mut [u64], out: &mut [u8]) -> Reply
 }
 
 // Reads into a lent run of as many numbers as asked for, each 7 before.
-pub(crate) fn image_into_call(args: &[u64], image: &[u8], out: &mut [u8]) -> Reply {
+pub(crate) fn image_into_call(
+    reading: Reading,
+    args: &[u64],
+    image: &[u8],
+    out: &mut [u8],
+) -> Reply {
     if args.len() != 2 {
         return Reply::Bad;
     }
@@ -69,5 +85,5 @@ pub(crate) fn image_into_call(args: &[u64], image: &[u8], out: &mut [u8]) -> Rep
         return Reply::Bad;
     }
     let n = room as usize;
-    read_into(image, args[0], &mut run[0..n], out)
+    read_into(reading, image, args[0], &mut run[0..n], out)
 }

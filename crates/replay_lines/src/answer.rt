@@ -66,6 +66,7 @@ pub fn refused(out: &mut [u8], refusal: Refusal) -> usize
             refusal_of_two(out, number, stored as u64, computed as u64)
         }
         Refusal::OverCapacity { needed, given } => refusal_of_two(out, number, needed, given),
+        Refusal::VersionOrClient(byte) => refusal_of_one(out, number, byte as u64),
         _ => plain_refusal(out, number),
     }
 }

@@ -40,6 +40,7 @@ use Rattle.save_step.proofs.StoreLaws.{after-suc}
 use Rattle.save_step.proofs.RowLaws.{step-is, steps-are, step-after, steps-end}
 use Rattle.fsm_plan.proofs.PlannedLaws.{holding-sorted, length-slots, length-blocks}
 use Rattle.save.specs.Saving.{asSections, small, smallRaw, large, plan, blockLen, blockBytes, slotAddrs, messageOf, filled, begunOf}
+use Rattle.fsm_blocks.specs.declared.checks.Reading.{Reading}
 use Rattle.image.specs.Reading.{Listed, inSlot, listed as listedFrom, readImage, countsOf}
 use Rattle.save.specs.EveryCut.{OneSave, oneSave, afterSteps, imageAfter, metadataSlot, rawSlot, largeSlot, plannedInSlots, plannedSections, plannedCounts, OneStoreAStep, ReadInto, EveryCut, inList, freeIn, EveryCutOfLists}
 use Rattle.stored_managers.proofs.SlotsLaws.{slots-read, sorted}
@@ -174,20 +175,20 @@ module _ (rs : Regions) (page start place : ℕ) (image scratch : List ℕ) (sav
 
   -- ---- the reading
 
-  none-between : (k : ℕ) → 0 < k → k < T → readImage place (img k) ≡ answer []
-  none-between k h l =
-      reads-nothing place (img k) (rw (c.cut-length place start B M image s k) (a .placed .inside)) (version-kept k) (strategy-kept k)
+  none-between : (how : Reading) (k : ℕ) → 0 < k → k < T → readImage how place (img k) ≡ answer []
+  none-between how k h l =
+      reads-nothing how place (img k) (rw (c.cut-length place start B M image s k) (a .placed .inside)) (version-kept k) (strategy-kept k)
       (c.persist-off place start B M image s k h (omega arith))
 
   ends : (i : Which) → All (Ends top) (asSections (rs i))
   ends i = list-ends 0 top (rs i) (ok-prop 0 (rs i) .0 (a .planned .valid i))
 
-  all-saved : readImage place (img T) ≡ answer (found one)
-  all-saved =
-      reads-slots place (img T) (made true strategy.Page 1 page start) (slotAddrs page start rs) refl
+  all-saved : (how : Reading) → readImage how place (img T) ≡ answer (found one)
+  all-saved how =
+      reads-slots how place (img T) (made true strategy.Page 1 page start) (slotAddrs page start rs) refl
       (lit< tt, (lit< tt, (lit< tt, (lit< tt, (p64, (lit< tt, (s64, slots-fit (plan page rs) start (a .planned .last))))))))
       (c.message-stands place start B M image s)
-      ∙ slots-read 8 (startingSet 8) 0 lookup3 (img T) (plan page rs) start stand
+      ∙ slots-read 8 (startingSet 8) 0 how (img T) (plan page rs) start stand
       (plan-fits (plan page rs) start (a .planned .last) (small-plan page rs ends (a .planned .sum0) (a .planned .sum2) (a .planned .sum6)))
     where
       stand : window (start + 0) (blockLen page rs) (img T) ≡ B
@@ -225,11 +226,11 @@ module _ (rs : Regions) (page start place : ℕ) (image scratch : List ℕ) (sav
   readings : ReadInto one
   unfolding steps
   readings = record {
-    nothing-stored = λ out. refl;
-    in-between = λ k h l out e. rw (image-made k (omega arith)) (nothing-into place (img k) out (none-between k h l) e);
-    after-last = λ out room.
+    nothing-stored = λ how out. refl;
+    in-between = λ how k h l out e. rw (image-made k (omega arith)) (nothing-into how place (img k) out (none-between how k h l) e);
+    after-last = λ how out room.
         rw (image-made T (le-refl T))
-        (into-is place (img T) out (found one) all-saved (room .0) (rw (slots-joined one) (room .1))
+        (into-is how place (img T) out (found one) (all-saved how) (room .0) (rw (slots-joined one) (room .1))
         ∙ ap₂ (λ (n : List ℕ) (l : List FreeSection). answer (with n (over 0 (flat l) out))) (slots-counted one) (slots-joined one));
   }
 
@@ -250,9 +251,9 @@ module _ (rs : Regions) (page start place : ℕ) (image scratch : List ℕ) (sav
   holds : EveryCut one (freeIn rs) (begunOf rs page start place)
   unfolding steps
   holds = record {
-    nothing-stored = refl;
-    in-between = λ k h l. rw (image-made k (omega arith)) (listed-is place (img k) [] (none-between k h l));
-    after-last = rw (image-made T (le-refl T)) (listed-is place (img T) (found one) all-saved ∙ ap answer (slots-listed one));
+    nothing-stored = λ how. refl;
+    in-between = λ how k h l. rw (image-made k (omega arith)) (listed-is how place (img k) [] (none-between how k h l));
+    after-last = λ how. rw (image-made T (le-refl T)) (listed-is how place (img T) (found one) (all-saved how) ∙ ap answer (slots-listed one));
     each-once = held-once one (a .planned);
     outside = λ k h j p b. rw (image-made k h) (c.frame place start B M image s k j b p);
     fresh-begins = λ k h rs₂ page₂ start₂ scratch₂. rw (image-made k h) (begins-same k rs₂ page₂ start₂ scratch₂);

@@ -11,7 +11,7 @@ use lib.ListN.{length, getD, take, drop, take-append-drop}
 use lib.Seq.{length-take-le}
 use Rattle.error.specs.declared.Number.{Number}
 use Rattle.error.specs.declared.Refusal.{Refusal}
-use Rattle.error.specs.declared.Refusal.the-variants.{Width, Page, NotAList, Overflow, SharedAddress, PartUnit, OtherKind, Short, MessageVersion, Strategy, InvalidManager, Checksum, WideAddress, Place, OverCapacity}
+use Rattle.error.specs.declared.Refusal.the-variants.{Width, Page, NotAList, Overflow, SharedAddress, PartUnit, OtherKind, Short, MessageVersion, Strategy, InvalidManager, Checksum, WideAddress, Place, OverCapacity, VersionOrClient, BackAddress}
 use Rattle.error.specs.Refusals.{numberOf, valuesOf}
 use Rattle.error.specs.Answers.{numberOutcome}
 use Rattle.error.specs.Outcome.{Outcome, answer, refused, when, firstOf}
@@ -123,6 +123,8 @@ only-capacity (Checksum a b) e = absurd (omega arith)
 only-capacity WideAddress e = absurd (omega arith)
 only-capacity Place e = absurd (omega arith)
 only-capacity (OverCapacity n g) e = (n, g, refl)
+only-capacity (VersionOrClient b) e = absurd (omega arith)
+only-capacity BackAddress e = absurd (omega arith)
 
 -- ---- a beginning, by the branches of the code
 

@@ -19,9 +19,9 @@
 --                  the last, and no earlier, each step says finished and changes nothing; the image keeps its length (a save "that stores
 --                  everything in its first step, stores nothing, or counts stores it didn't make" breaks this, "as does one that says finished
 --                  early")
---   ReadInto       the three readings again, as the entry answers them that reads an image into a lent run
+--   ReadInto       the three readings again, as the entries answer them that read an image into a lent run
 --   EveryCut       what holds of every cut of a save: `free` says which bytes are free, and `beginning` how a save of the same lists begins, by image
---                  and scratch
+--                  and scratch. Its readings are loose and strict ones (document 02, P5)
 --   inList, freeIn   a byte lies in a region of a list; of one of three lists
 --   EveryCutOfLists   of any three lists that pass refusals 3 and 5, whoever made them: free is what lies in one of them
 --   EveryCutAfterCalls   DEMAND 3, of the lists that calls in a row leave: free is what is free by history ("one claim about all its calls in
@@ -49,6 +49,7 @@ use Rattle.save_step.specs.declared.Store.{Store}
 use Rattle.save_step.specs.Stores.{noStore, make, after, saveStores}
 use Rattle.save_step.specs.Steps.{stored, finished, stepped, Saving, saving, steps, stores}
 use Rattle.save.specs.Saving.{small, smallRaw, large, blockBytes, messageOf, begunOf, begun}
+use Rattle.fsm_blocks.specs.declared.checks.Reading.{Reading}
 use Rattle.image.specs.Reading.{Listed, inSlot, readListed, imageInto}
 
 -- ---- a save, its stores and its plan
@@ -118,18 +119,18 @@ module _ (s : OneSave) where
     pub long : (k : ℕ) → k ≤ storeCount → length (imageAfter k) ≡ length (s .image)
 
   pub record ReadInto : Type 0 where
-    pub nothing-stored : (out : List ℕ) → imageInto (s .place) (imageAfter 0) out ≡ imageInto (s .place) (s .image) out
-    pub in-between : (k : ℕ) → 0 < k → k < storeCount → (out : List ℕ) → length out % 2 ≡ 0
-        → imageInto (s .place) (imageAfter k) out ≡ answer (with (replicate 12 0) out)
-    pub after-last : (out : List ℕ) → Room out → imageInto (s .place) (imageAfter storeCount) out ≡ answer (with plannedCounts (over 0 (flat plannedSections) out))
+    pub nothing-stored : (how : Reading) (out : List ℕ) → imageInto how (s .place) (imageAfter 0) out ≡ imageInto how (s .place) (s .image) out
+    pub in-between : (how : Reading) (k : ℕ) → 0 < k → k < storeCount → (out : List ℕ) → length out % 2 ≡ 0
+        → imageInto how (s .place) (imageAfter k) out ≡ answer (with (replicate 12 0) out)
+    pub after-last : (how : Reading) (out : List ℕ) → Room out → imageInto how (s .place) (imageAfter storeCount) out ≡ answer (with plannedCounts (over 0 (flat plannedSections) out))
 
   pub record EveryCut (free : ℕ → Bool) (beginning : List ℕ → List ℕ → Outcome (With Save (List ℕ))) : Type 0 where
     -- "nothing stored, the image reads as before", refusals too
-    pub nothing-stored : readListed (s .place) (imageAfter 0) ≡ readListed (s .place) (s .image)
+    pub nothing-stored : (how : Reading) → readListed how (s .place) (imageAfter 0) ≡ readListed how (s .place) (s .image)
     -- "in between, no sections"
-    pub in-between : (k : ℕ) → 0 < k → k < storeCount → readListed (s .place) (imageAfter k) ≡ answer []
+    pub in-between : (how : Reading) (k : ℕ) → 0 < k → k < storeCount → readListed how (s .place) (imageAfter k) ≡ answer []
     -- "after the last store, exactly the plan's sections",
-    pub after-last : readListed (s .place) (imageAfter storeCount) ≡ answer plannedInSlots
+    pub after-last : (how : Reading) → readListed how (s .place) (imageAfter storeCount) ≡ answer plannedInSlots
     -- "in which each byte that is free by history lies exactly once and no other byte at all."
     pub each-once : (b : ℕ) → holding b (map (λ x. x .found) plannedInSlots) ≡ cond (free b) 1 0
     -- "Nothing outside blocks and message changes."

@@ -17,11 +17,13 @@ use Rattle.error.specs.Outcome.{answer}
 use Rattle.fields.specs.Ranges.{top, undefinedAddr}
 use Rattle.fields.specs.Layout.{FieldFits, window}
 use Rattle.fields.proofs.LayoutLaws.{window-window}
+use Rattle.checksum.specs.Lookup3.{lookup3}
 use Rattle.fsm_sections.specs.declared.FreeSection.{FreeSection}
 use Rattle.fsm_sections.specs.Sections.{bySizeThenAddr, All}
 use Rattle.fsm_blocks.specs.Fshd.{fshdRow, fshdBytes, fshdSize}
 use Rattle.fsm_blocks.specs.Groups.{SectionFits}
 use Rattle.fsm_blocks.specs.Settings.{Settings, widthsFor, headerFor, fsseFor, fsseUsed}
+use Rattle.fsm_blocks.specs.declared.checks.Reading.{Reading}
 use Rattle.fsm_blocks.specs.Reading.{readManager, readSlots}
 use Rattle.fsm_blocks.proofs.WrittenLaws.{length-fshd}
 use Rattle.fsm_blocks.proofs.ImageLaws.{manager-read, slots-none, slots-more}
@@ -55,23 +57,24 @@ module _ (O : ℕ) (set : Settings) (base : ℕ) where
   PlanFits a [] = Unit {0}
   PlanFits a (m ∷ ms) = (0 < length (m .sections) → ManagerFits a (m .sections)) × PlanFits (a + managerSize O set m) ms
 
-  module _ (sum : List ℕ → ℕ) (image : List ℕ) where
+  module _ (how : Reading) (image : List ℕ) where
     -- FSHD at a with its FSSE after it
-    pair-read : (a class : ℕ) (l : List FreeSection) → window (a + base) (pairSize O set l) image ≡ pairBytes O set sum a class l → ManagerFits a l
-        → readManager O base a image ≡ answer (bySizeThenAddr l)
+    pair-read : (a class : ℕ) (l : List FreeSection) → window (a + base) (pairSize O set l) image ≡ pairBytes O set lookup3 a class l → ManagerFits a l
+        → readManager how O base a image ≡ answer (bySizeThenAddr l)
     pair-read a class l e f =
         let u : ℕ = fsseUsed O set l + set .surplus in
-        let A : List ℕ = fshdBytes sum O (headerFor O set (a + fshdSize O) l) in
-        let B : List ℕ = fsseFor O set sum a class l in
+        let A : List ℕ = fshdBytes lookup3 O (headerFor O set (a + fshdSize O) l) in
+        let B : List ℕ = fsseFor O set lookup3 a class l in
         let Z : List ℕ = replicate (set .surplus) 0 in
-        let lenA : length A ≡ fshdSize O = length-fshd sum O (headerFor O set (a + fshdSize O) l) in
-        let lenB : length B ≡ fsseUsed O set l = length-list O set sum a class l in
-        let lenBZ : length (B ++ Z) ≡ u = length-both O set sum a class l in
+        let lenA : length A ≡ fshdSize O = length-fshd lookup3 O (headerFor O set (a + fshdSize O) l) in
+        let lenB : length B ≡ fsseUsed O set l = length-list O set lookup3 a class l in
+        let lenBZ : length (B ++ Z) ≡ u = length-both O set lookup3 a class l in
         let list-there : window (a + base + fshdSize O) u image ≡ B ++ Z = second-stands (a + base) (fshdSize O) u image A (B ++ Z) e lenA lenBZ in
         let order : a + fshdSize O + base ≡ a + base + fshdSize O = omega arith in
-        manager-read sum O base set a (a + fshdSize O) class l image (record {
+        manager-read O base set a (a + fshdSize O) class l image (record {
           slot-defined = λ z. omega (arith, f .defined);
           fsse-defined = λ z. omega (arith, f .defined);
+          slot-fits = omega (arith, f .defined);
           slot-near = omega (arith, f .room);
           fsse-near = omega (arith, f .room);
           header-fits = f .header;
@@ -81,28 +84,28 @@ module _ (O : ℕ) (set : Settings) (base : ℕ) where
           header-there = first-stands (a + base) (fshdSize O) u image A (B ++ Z) e lenA lenBZ;
           list-there = ap (λ (q : ℕ). window q (fsseUsed O set l) image) order
               ∙ first-stands (a + base + fshdSize O) (fsseUsed O set l) (set .surplus) image B Z list-there lenB (length-replicate (set .surplus) 0);
-        })
+        }) how
 
-    slot-read : (a class : ℕ) (l : List FreeSection) → window (a + base) (managerSize O set (manager class l)) image ≡ managerBytes O set sum a (manager class l)
-        → (0 < length l → ManagerFits a l) → readManager O base (cond (eqb (length l) 0) (undefinedAddr O) a) image ≡ answer (bySizeThenAddr l)
+    slot-read : (a class : ℕ) (l : List FreeSection) → window (a + base) (managerSize O set (manager class l)) image ≡ managerBytes O set lookup3 a (manager class l)
+        → (0 < length l → ManagerFits a l) → readManager how O base (cond (eqb (length l) 0) (undefinedAddr O) a) image ≡ answer (bySizeThenAddr l)
     unfolding bySizeThenAddr readManager
     slot-read a class [] e f = rw (eq-eqb (undefinedAddr O) (undefinedAddr O) refl)
     slot-read a class (s ∷ l) e f = rw (filled s l) (pair-read a class (s ∷ l) (rw (filled s l) at e) (f (zero-lt-suc (length l))))
 
     -- each slot of managers whose blocks stand in the image, one after another
-    pub slots-read : (ms : List Manager) (a : ℕ) → window (a + base) (sizeOf O set ms) image ≡ blocksFrom O set sum a ms → PlanFits a ms
-        → readSlots O base (slotsFrom O set a ms) image ≡ answer (map sorted ms)
+    pub slots-read : (ms : List Manager) (a : ℕ) → window (a + base) (sizeOf O set ms) image ≡ blocksFrom O set lookup3 a ms → PlanFits a ms
+        → readSlots how O base (slotsFrom O set a ms) image ≡ answer (map sorted ms)
     unfolding sizeOf slotsFrom blocksFrom
-    slots-read [] a e f = slots-none O base image
+    slots-read [] a e f = slots-none how O base image
     slots-read (m ∷ ms) a e f =
         let z : ℕ = managerSize O set m in
-        let M : List ℕ = managerBytes O set sum a m in
-        let B : List ℕ = blocksFrom O set sum (a + z) ms in
-        let lenM : length M ≡ z = length-manager O set sum a (m .class) (m .sections) in
-        let lenB : length B ≡ sizeOf O set ms = length-blocks O set sum ms (a + z) in
+        let M : List ℕ = managerBytes O set lookup3 a m in
+        let B : List ℕ = blocksFrom O set lookup3 (a + z) ms in
+        let lenM : length M ≡ z = length-manager O set lookup3 a (m .class) (m .sections) in
+        let lenB : length B ≡ sizeOf O set ms = length-blocks O set lookup3 ms (a + z) in
         let order : a + z + base ≡ a + base + z = omega arith in
         let rest : window (a + z + base) (sizeOf O set ms) image ≡ B =
         ap (λ (q : ℕ). window q (sizeOf O set ms) image) order ∙ second-stands (a + base) z (sizeOf O set ms) image M B e lenM lenB in
-        slots-more O base image _ (slotsFrom O set (a + z) ms) (sorted m) (map sorted ms)
+        slots-more how O base image _ (slotsFrom O set (a + z) ms) (sorted m) (map sorted ms)
         (slot-read a (m .class) (m .sections) (first-stands (a + base) z (sizeOf O set ms) image M B e lenM lenB) (f .0))
         (slots-read ms (a + z) rest (f .1))

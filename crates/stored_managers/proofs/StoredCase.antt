@@ -2,7 +2,7 @@
 --   planned-last    the plan from 179 on is accepted: FSHD at 179, FSSE at 254
 --   planned-past    from 180 on it is refused: FSSE would begin at 255, which every reader skips
 --   bytes           bytes in which the blocks stand, with base 7
---   read            what they read as
+--   read            what they read as, loosely and strictly
 use mathlib.Core.Path.{_≡_, refl}
 use Prim.Native.Nat.{ℕ, _^_, _<_}
 use mathlib.Core.List.{List, [], _∷_, _++_}
@@ -20,6 +20,7 @@ use Rattle.fsm_sections.specs.Runs.{anyOf}
 use Rattle.fsm_blocks.specs.Groups.{entryBytes, groupBytes}
 use Rattle.fsm_blocks.specs.Fshd.{fshdBytes}
 use Rattle.fsm_blocks.specs.Fsse.{fsseBytes}
+use Rattle.fsm_blocks.specs.declared.checks.Reading.{Reading}
 use Rattle.fsm_blocks.specs.Reading.{readSlots}
 use Rattle.fsm_plan.specs.declared.Counts.{Counts}
 use Rattle.fsm_plan.specs.declared.blocks.BlocksPlan.{BlocksPlan}
@@ -60,7 +61,7 @@ short : length bytes < 2 ^ 64
 unfolding blocksFrom split pieces piecesFrom belowPage fromPage space fshdBytes fsseBytes layout leBytes leastFrom encSize ofSize distinct insert bySizeThenAddr push groupsOf entryBytes groupBytes add32 sub32 xor32 rotl32 mixed finished blockAdded gained byteAdded tailAdded ending hashFrom hashOf lookup3
 short = lit< tt
 
-pub read : readSlots 1 7 (255 ∷ 255 ∷ 255 ∷ 255 ∷ 255 ∷ 255 ∷ 179 ∷ 255 ∷ 255 ∷ 255 ∷ 255 ∷ 255 ∷ []) bytes
+pub read : (how : Reading) → readSlots how 1 7 (255 ∷ 255 ∷ 255 ∷ 255 ∷ 255 ∷ 255 ∷ 179 ∷ 255 ∷ 255 ∷ 255 ∷ 255 ∷ 255 ∷ []) bytes
     ≡ answer ([] ∷ [] ∷ [] ∷ [] ∷ [] ∷ [] ∷ (section 5 3 ∷ []) ∷ [] ∷ [] ∷ [] ∷ [] ∷ [] ∷ [])
 unfolding leBytes leValue split pieces piecesFrom belowPage fromPage insert bySizeThenAddr
-read = stored-plan [] [] run n 4096 179 1 plan planned-last .read 7 bytes short there
+read how = stored-plan [] [] run n 4096 179 1 plan planned-last .read how 7 bytes short there

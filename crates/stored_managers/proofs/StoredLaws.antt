@@ -22,6 +22,7 @@ use Rattle.fsm_sections.specs.Sections.{decode, flat, space}
 use Rattle.fsm_sections.specs.Runs.{anyWide}
 use Rattle.fsm_blocks.specs.Fshd.{fshdSize}
 use Rattle.fsm_blocks.specs.Settings.{startingSet, fsseUsed, blocksSize}
+use Rattle.fsm_blocks.specs.declared.checks.Reading.{Reading}
 use Rattle.fsm_blocks.specs.Reading.{readSlots, joined, persisted}
 use Rattle.fsm_blocks.proofs.ImageLaws.{held}
 use Rattle.fsm_blocks.proofs.LengthLaws.{widths-are, size-some}
@@ -162,20 +163,20 @@ module _ (a b c : List ℕ) (n : Counts) (page start O : ℕ) (p : BlocksPlan) (
         none : {y : ℕ} → 0 < 0 → ManagerFits O (startingSet O) base y []
         none k = absurd (omega arith)
 
-    reads : readSlots O base (storedSlots O (p .managers)) bytes ≡ answer (sectionsBySlot a b c n page)
-    reads =
+    reads : (how : Reading) → readSlots how O base (storedSlots O (p .managers)) bytes ≡ answer (sectionsBySlot a b c n page)
+    reads how =
         rw slots-are
-        (slots-read O (startingSet O) base lookup3 bytes (managersIn a b c n page) start
+        (slots-read O (startingSet O) base how bytes (managersIn a b c n page) start
         (rw (← length-blocks O (startingSet O) lookup3 (managersIn a b c n page) start) there) fits)
 
     abbrev all : List FreeSection
     all = joined (sectionsBySlot a b c n page)
 
-    reads-into : (out : List ℕ) → length out % 2 ≡ 0 → length all ≤ length out / 2
-        → persisted (storedSlots O (p .managers)) base O bytes out ≡ answer (with (length all) (over 0 (flat all) out))
+    reads-into : (how : Reading) (out : List ℕ) → length out % 2 ≡ 0 → length all ≤ length out / 2
+        → persisted how (storedSlots O (p .managers)) base O bytes out ≡ answer (with (length all) (over 0 (flat all) out))
     unfolding persisted firstOf andThen
-    reads-into out even room =
-        rw (width-in O (h .tested .low) (h .tested .high), eq-eqb (length out % 2) 0 even, reads, le-ltb (length out / 2) (length all) room)
+    reads-into how out even room =
+        rw (width-in O (h .tested .low) (h .tested .high), eq-eqb (length out % 2) 0 even, reads how, le-ltb (length out / 2) (length all) room)
 
   pub stored-plan : StoredPlan a b c n page start O p
   stored-plan = record {
@@ -183,6 +184,6 @@ module _ (a b c : List ℕ) (n : Counts) (page start O : ℕ) (p : BlocksPlan) (
     begins2 = begins (λ x. x .slot2) (h .low2);
     begins6 = begins (λ x. x .slot6) (h .low6);
     slots = slots-are;
-    read = reads;
-    persisted-read = reads-into;
+    read = λ how base bytes short there. reads base bytes short there how;
+    persisted-read = λ how base bytes short there. reads-into base bytes short there how;
   }

@@ -15,6 +15,7 @@ use Rattle.error.proofs.OverLaws.{length-over, over-nil, over-end, drop-over, t
 use Rattle.fields.specs.Layout.{window}
 use Rattle.checksum.specs.Lookup3.{lookup3}
 use Rattle.fsm_blocks.specs.Settings.{startingSet}
+use Rattle.fsm_blocks.specs.declared.checks.Reading.{Reading}
 use Rattle.fsm_blocks.specs.Reading.{readSlots}
 use Rattle.fsm_blocks.proofs.LengthLaws.{part-back}
 use Rattle.fsm_plan.specs.declared.Counts.{Counts}
@@ -113,12 +114,12 @@ module _ (a b c : List ℕ) (n : Counts) (page start base O : ℕ) (bytes : List
         go nothing e s = λ i. left (outcome-is s i) (unchanged (memory-is s) i)
         go (refuse m vs) e s = λ i. left (outcome-is s i) (unchanged (memory-is s) i)
 
-    pub stored-reads : length bytes < 2 ^ 64 → (p : BlocksPlan) → o ≡ answer p
-        → readSlots O base (storedSlots O (p .managers)) after ≡ answer (sectionsBySlot a b c n page)
-    stored-reads short p oe = go (written rest) refl shown
+    pub stored-reads : length bytes < 2 ^ 64 → (how : Reading) (p : BlocksPlan) → o ≡ answer p
+        → readSlots how O base (storedSlots O (p .managers)) after ≡ answer (sectionsBySlot a b c n page)
+    stored-reads short how p oe = go (written rest) refl shown
       where
         go : (x : Outcome (With BlocksPlan (List ℕ))) → written rest ≡ x → left o ys ≡ leaving rest x
-            → readSlots O base (storedSlots O (p .managers)) after ≡ answer (sectionsBySlot a b c n page)
+            → readSlots how O base (storedSlots O (p .managers)) after ≡ answer (sectionsBySlot a b c n page)
         go (answer w) e s =
             let q = wrote w e in
             let v : answer (w .value) ≡ answer p = sym (outcome-is s) ∙ oe in
@@ -126,6 +127,6 @@ module _ (a b c : List ℕ) (n : Counts) (page start base O : ℕ) (bytes : List
             let g : after ≡ over (start + base) blocks bytes = after-over blocks (memory-is s ∙ q .memory) in
             let z : length after ≡ length bytes = ap length g ∙ length-over (start + base) blocks bytes in
             let f = stored-plan a b c n page start O p (q .plan ∙ ap answer u) in
-            f .read base after (omega arith) (ap (window (start + base) (length blocks)) g ∙ there (start + base) blocks bytes (q .room))
+            f .read how base after (omega arith) (ap (window (start + base) (length blocks)) g ∙ there (start + base) blocks bytes (q .room))
         go nothing e s = let v : nothing ≡ answer p = sym (outcome-is s) ∙ oe in let z : _≡_ {A = ℕ} 0 1 = cc in absurd (omega arith)
         go (refuse m vs) e s = let v : refuse m vs ≡ answer p = sym (outcome-is s) ∙ oe in let z : _≡_ {A = ℕ} 0 1 = cc in absurd (omega arith)

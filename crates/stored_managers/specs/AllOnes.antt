@@ -5,7 +5,8 @@
 --   blocks, sections   the bytes of a plan's blocks; the sections of all its slots, in reading order
 --   StoredPlan    what holds of an accepted plan: its blocks begin below 2^(8O)−1. Stored in O bytes its slots are where its headers stand, and all
 --                 ones where it has none. In any bytes in which its blocks stand at their addresses plus any base, these slots read as each slot's
---                 sections, by size and then address; and so answers `read_persisted_sections`, into any lent run with room
+--                 sections, by size and then address; and so answer `read_persisted_sections` and `read_persisted_sections_strict`, into any lent
+--                 run with room. This and what follows of readings holds of the loose and of the strict one (P5)
 --   AllOnes       "The reader skips 2^(8O)−1 at offset size O" (slot-skipped) "and no other address" (slot-other, and slot-there: a header that is
 --                 read stands in the data) "in a slot and in the FSSE field" (list-skipped, list-other, list-there). Below 8 bytes 2^64 - 1 is an
 --                 address past every file (greatest-refused). "a plan that begins a block there is 12", "In this alone": the plan is the one that
@@ -26,6 +27,7 @@ use Rattle.fsm_sections.specs.declared.FreeSection.{FreeSection}
 use Rattle.fsm_sections.specs.Sections.{flat}
 use Rattle.fsm_blocks.specs.Fshd.{Header, fshdSize}
 use Rattle.fsm_blocks.specs.Settings.{startingSet}
+use Rattle.fsm_blocks.specs.declared.checks.Reading.{Reading}
 use Rattle.fsm_blocks.specs.Reading.{listAt, readNamed, managerAt, readManager, readSlots, joined, persisted}
 use Rattle.fsm_plan.specs.declared.Counts.{Counts}
 use Rattle.fsm_plan.specs.declared.blocks.PagedManagerBlock.{PagedManagerBlock}
@@ -52,11 +54,11 @@ module _ (a b c : List ℕ) (n : Counts) (page start O : ℕ) where
     pub begins2 : Begins O (p .managers .slot2)
     pub begins6 : Begins O (p .managers .slot6)
     pub slots : storedSlots O (p .managers) ≡ slotsFrom O (startingSet O) start (managersIn a b c n page)
-    pub read : (base : ℕ) (bytes : List ℕ) → length bytes < 2 ^ 64 → window (start + base) (length blocks) bytes ≡ blocks
-        → readSlots O base (storedSlots O (p .managers)) bytes ≡ answer (sectionsBySlot a b c n page)
-    pub persisted-read : (base : ℕ) (bytes : List ℕ) → length bytes < 2 ^ 64 → window (start + base) (length blocks) bytes ≡ blocks
+    pub read : (how : Reading) (base : ℕ) (bytes : List ℕ) → length bytes < 2 ^ 64 → window (start + base) (length blocks) bytes ≡ blocks
+        → readSlots how O base (storedSlots O (p .managers)) bytes ≡ answer (sectionsBySlot a b c n page)
+    pub persisted-read : (how : Reading) (base : ℕ) (bytes : List ℕ) → length bytes < 2 ^ 64 → window (start + base) (length blocks) bytes ≡ blocks
         → (out : List ℕ) → length out % 2 ≡ 0 → length sections ≤ length out / 2
-        → persisted (storedSlots O (p .managers)) base O bytes out ≡ answer (with (length sections) (over 0 (flat sections) out))
+        → persisted how (storedSlots O (p .managers)) base O bytes out ≡ answer (with (length sections) (over 0 (flat sections) out))
 
 abbrev pub beginsAt : ℕ → PagedManagerBlock → Bool
 beginsAt x b = not (eqb (b .count) 0) && (eqb (b .«fshd_addr») x || eqb (b .«fsse_addr») x)
@@ -65,20 +67,20 @@ abbrev pub anyBeginsAt : ℕ → PagedManagerPlan → Bool
 anyBeginsAt x p = beginsAt x (p .slot0) || (beginsAt x (p .slot2) || beginsAt x (p .slot6))
 
 pub record AllOnes : Type 0 where
-  pub slot-skipped : (O base : ℕ) (bytes : List ℕ) → readManager O base (undefinedAddr O) bytes ≡ answer []
-  pub slot-other : (O base slot : ℕ) (bytes : List ℕ) → (slot ≡ undefinedAddr O → ⊥) → readManager O base slot bytes ≡ managerAt O base slot bytes
-  pub slot-there : (O base slot : ℕ) (bytes : List ℕ) (l : List FreeSection) → (slot ≡ undefinedAddr O → ⊥) → readManager O base slot bytes ≡ answer l
+  pub slot-skipped : (how : Reading) (O base : ℕ) (bytes : List ℕ) → readManager how O base (undefinedAddr O) bytes ≡ answer []
+  pub slot-other : (how : Reading) (O base slot : ℕ) (bytes : List ℕ) → (slot ≡ undefinedAddr O → ⊥) → readManager how O base slot bytes ≡ managerAt how O base slot bytes
+  pub slot-there : (how : Reading) (O base slot : ℕ) (bytes : List ℕ) (l : List FreeSection) → (slot ≡ undefinedAddr O → ⊥) → readManager how O base slot bytes ≡ answer l
       → slot + base + fshdSize O ≤ length bytes
-  pub list-skipped : (O base : ℕ) (h : Header) (bytes : List ℕ) → h .fsse ≡ undefinedAddr O → readNamed O base h bytes ≡ answer []
-  pub list-other : (O base : ℕ) (h : Header) (bytes : List ℕ) → (h .fsse ≡ undefinedAddr O → ⊥) → readNamed O base h bytes ≡ listAt O base h bytes
-  pub list-there : (O base : ℕ) (h : Header) (bytes : List ℕ) (l : List FreeSection) → (h .fsse ≡ undefinedAddr O → ⊥) → readNamed O base h bytes ≡ answer l
+  pub list-skipped : (how : Reading) (O base slot : ℕ) (h : Header) (bytes : List ℕ) → h .fsse ≡ undefinedAddr O → readNamed how O base slot h bytes ≡ answer []
+  pub list-other : (how : Reading) (O base slot : ℕ) (h : Header) (bytes : List ℕ) → (h .fsse ≡ undefinedAddr O → ⊥) → readNamed how O base slot h bytes ≡ listAt how O base slot h bytes
+  pub list-there : (how : Reading) (O base slot : ℕ) (h : Header) (bytes : List ℕ) (l : List FreeSection) → (h .fsse ≡ undefinedAddr O → ⊥) → readNamed how O base slot h bytes ≡ answer l
       → h .fsse + base + h .used ≤ length bytes
-  pub greatest-refused : (O base : ℕ) (bytes : List ℕ) → O < 8 → length bytes < top → readManager O base top bytes ≡ refused InvalidManager
+  pub greatest-refused : (how : Reading) (O base : ℕ) (bytes : List ℕ) → O < 8 → length bytes < top → readManager how O base top bytes ≡ refused InvalidManager
   pub stored : (a b c : List ℕ) (n : Counts) (page start O : ℕ) (p : BlocksPlan) → plannedBlocks a b c n page start O ≡ answer p
       → StoredPlan a b c n page start O p
   pub plan-is : (a b c : List ℕ) (n : Counts) (page start O : ℕ) → plannedBlocks a b c n page start O
       ≡ andThen (plannedBelow a b c (256 ^ O) n page start O)
       (λ p. firstOf (when (anyBeginsAt (undefinedAddr O) (p .managers)) WideAddress ∷ []) (answer p))
-  pub slot-at-8 : (base slot : ℕ) (bytes : List ℕ) → readManager 8 base slot bytes ≡ cond (eqb slot top) (answer []) (managerAt 8 base slot bytes)
-  pub list-at-8 : (base : ℕ) (h : Header) (bytes : List ℕ) → readNamed 8 base h bytes ≡ cond (eqb (h .fsse) top) (answer []) (listAt 8 base h bytes)
+  pub slot-at-8 : (how : Reading) (base slot : ℕ) (bytes : List ℕ) → readManager how 8 base slot bytes ≡ cond (eqb slot top) (answer []) (managerAt how 8 base slot bytes)
+  pub list-at-8 : (how : Reading) (base slot : ℕ) (h : Header) (bytes : List ℕ) → readNamed how 8 base slot h bytes ≡ cond (eqb (h .fsse) top) (answer []) (listAt how 8 base slot h bytes)
   pub plan-at-8 : (a b c : List ℕ) (n : Counts) (page start : ℕ) → plannedBlocks a b c n page start 8 ≡ plannedBelow a b c (256 ^ 8) n page start 8

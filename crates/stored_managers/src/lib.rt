@@ -2,6 +2,7 @@
 ghost use mathlib.Core.Path.{_≡_};
 ghost use Rattle.error.specs.Outcome.{answer};
 ghost use Rattle.error.specs.Lent.{left, leaving};
+ghost use Rattle.fsm_blocks.specs.declared.checks.Reading.{Reading};
 ghost use Rattle.fsm_blocks.specs.Reading.{readSlots};
 ghost use Rattle.fsm_plan.specs.declared.blocks.BlocksPlan.{BlocksPlan};
 ghost use Rattle.fsm_plan.specs.Blocks.{blocksOutcome};
@@ -15,7 +16,7 @@ use numbers::saturating_add;
 
 // Plans the blocks of metadata, raw and unclassified regions side by side from `start` on, and writes them into the bytes of a
 // file, each at its address plus the base. The plan's slots, stored in `offset_size` bytes each, then read as the sections of
-// each slot.
+// each slot, loosely and strictly.
 pub fn store_managers(
     meta: &[u64],
     raw: &[u64],
@@ -30,8 +31,8 @@ pub fn store_managers(
     ensures stored { λ r. ⌜ left (blocksOutcome r) (now (bytes .exit))
         ≡ leaving (now (bytes .entry)) (storedManagers (now (meta .entry)) (now (raw .entry)) (now (unclassified .entry)) n page start (base .0)
         «offset_size» (now (bytes .entry))) ⌝ }
-    ensures read { λ r. ⌜ ((p : BlocksPlan) → blocksOutcome r ≡ answer p
-        → readSlots «offset_size» (base .0) (storedSlots «offset_size» (p .managers)) (now (bytes .exit))
+    ensures read { λ r. ⌜ ((how : Reading) (p : BlocksPlan) → blocksOutcome r ≡ answer p
+        → readSlots how «offset_size» (base .0) (storedSlots «offset_size» (p .managers)) (now (bytes .exit))
         ≡ answer (sectionsBySlot (now (meta .entry)) (now (raw .entry)) (now (unclassified .entry)) n page)) ⌝ }
 {
     // Past the end of the bytes there is room for no block.

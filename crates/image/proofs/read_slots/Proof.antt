@@ -11,17 +11,17 @@ returns c =
     let p = c .before .before .before .before .before .before in
     let a = p .before .before .before .before .before .args in
     refused-as _ _ _ (c .refused .ensures)
-    (slots-refused (now (a .out)) (now (a .slots)) (now (a .image)) _ _ (p .read-persisted-sections .ensures) _ (c .before .before .answer .given .1))
+    (slots-refused (now (a .out)) (a .reading) (now (a .slots)) (now (a .image)) _ _ (p .sections-by .ensures) _ (c .before .before .answer .given .1))
 
 returns-2 : tie.Need-returns-2
 returns-2 c =
     let p = c .before .before .before .before .before in
     let s = p .before .before .before .before .before in
     let told = c .before .enum-told .given .1 in
-    let read = p .read-persisted-sections .ensures in
-    let accepted = slots-accepted (now (s .args .out)) (now (s .args .slots)) (now (s .args .image)) _ _ read _ told in (
-      slots-read (now (s .args .out)) (now (s .args .slots)) (now (s .args .image)) _ _ read _ told _
-          (counts-are (now (s .args .image)) (now (s .args .slots)) _ (s .pre) accepted (c .slot-counts .ensures)),
+    let read = p .sections-by .ensures in
+    let accepted = slots-accepted (now (s .args .out)) (s .args .reading) (now (s .args .slots)) (now (s .args .image)) _ _ read _ told in (
+      slots-read (now (s .args .out)) (s .args .reading) (now (s .args .slots)) (now (s .args .image)) _ _ read _ told _
+          (counts-are (now (s .args .image)) (s .args .reading) (now (s .args .slots)) _ (s .pre) accepted (c .slot-counts .ensures)),
       refl,
     )
 

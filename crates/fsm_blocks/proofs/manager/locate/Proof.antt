@@ -15,18 +15,18 @@ returns : tie.Need-returns
 returns c =
     let s = c .before .before .before in
     let a = s .args in
-    (manager-none (a .offset-size) (a .base .0) (a .slot) (now (a .bytes)) (c .if1 .taken ∙ ones-are _ _ (s .pre) (c .before .undefined-addr .ensures)), tt)
+    (manager-none (a .reading) (a .offset-size) (a .base .0) (a .slot) (now (a .bytes)) (c .if1 .taken ∙ ones-are _ _ (s .pre) (c .before .undefined-addr .ensures)), tt)
 
 returns-2 : tie.Need-returns-2
 returns-2 c =
     let a = c .before .before .before .before .before .before .args in
-    (manager-wraps (a .offset-size) (a .base .0) (a .slot) (now (a .bytes)) (defined (c .before .before .before)) (sum-over (a .slot) (a .base .0) (c .before .before .absolute .ensures) _ (c .enum-told .given .1)), tt)
+    (manager-wraps (a .reading) (a .offset-size) (a .base .0) (a .slot) (now (a .bytes)) (defined (c .before .before .before)) (sum-over (a .slot) (a .base .0) (c .before .before .absolute .ensures) _ (c .enum-told .given .1)), tt)
 
 returns-3 : tie.Need-returns-3
 returns-3 c =
     let p = c .before .before in
     let a = p .before .before .before .before .before .before .args in
-    (manager-past (a .offset-size) (a .base .0) (a .slot) (now (a .bytes)) (defined (p .before .before .before)) _ (sum-is (a .slot) (a .base .0) (p .before .before .absolute .ensures) _ (p .start .given .1)) (c .if2 .taken), tt)
+    (manager-past (a .reading) (a .offset-size) (a .base .0) (a .slot) (now (a .bytes)) (defined (p .before .before .before)) _ (sum-is (a .slot) (a .base .0) (p .before .before .absolute .ensures) _ (p .start .given .1)) (c .if2 .taken), tt)
 
 returns-4 : tie.Need-returns-4
 returns-4 c =
@@ -34,8 +34,8 @@ returns-4 c =
     let p = f .before .before .before .before in
     let s = p .before .before .before .before .before .before in
     let a = s .args in (
-      manager-refused (a .offset-size) (a .base .0) (a .slot) (now (a .bytes)) (defined (p .before .before .before)) _ (sum-is (a .slot) (a .base .0) (p .before .before .absolute .ensures) _ (p .start .given .1)) (f .before .before .if2 .left)
-          (s .pre) (f .parse .ensures) _ _ (c .before .enum-told2 .given .1) (c .refusal-in .ensures),
+      manager-refused (a .reading) (a .offset-size) (a .base .0) (a .slot) (now (a .bytes)) (defined (p .before .before .before)) _ (sum-is (a .slot) (a .base .0) (p .before .before .absolute .ensures) _ (p .start .given .1)) (f .before .before .if2 .left)
+          (s .pre) (f .header-at .ensures) _ _ (c .before .enum-told2 .given .1) (c .refusal-in .ensures),
       tt,
     )
 
@@ -49,8 +49,8 @@ returns-5 c =
     let s = p .before .before .before .before .before .before in
     let a = s .args in (
       c .list-of .ensures .0
-          ∙ manager-is (a .offset-size) (a .base .0) (a .slot) (now (a .bytes)) (defined (p .before .before .before)) _ (sum-is (a .slot) (a .base .0) (p .before .before .absolute .ensures) _ (p .start .given .1)) (f .before .before .if2 .left)
-          (s .pre) (f .parse .ensures) _ (c .before .before .answer .given .1),
+          ∙ manager-is (a .reading) (a .offset-size) (a .base .0) (a .slot) (now (a .bytes)) (defined (p .before .before .before)) _ (sum-is (a .slot) (a .base .0) (p .before .before .absolute .ensures) _ (p .start .given .1)) (f .before .before .if2 .left)
+          (s .pre) (f .header-at .ensures) _ (c .before .before .answer .given .1),
       c .list-of .ensures .1,
     )
 

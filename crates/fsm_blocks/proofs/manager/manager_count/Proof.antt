@@ -10,7 +10,7 @@ use Rattle.fsm_blocks.proofs.manager.manager_count.Statement.{statement
 use Rattle.fsm_blocks.proofs.manager.manager_count.Tie as tie
 
 returns : tie.Need-returns
-returns c = count-width (c .before .before .before .args .offset-size) (c .before .before .before .args .base .0) (c .before .before .before .args .slot) (now (c .before .before .before .args .bytes)) (ap not (sym (c .before .is-width .ensures)) ∙ c .if1 .taken)
+returns c = count-width (c .before .before .before .args .reading) (c .before .before .before .args .offset-size) (c .before .before .before .args .base .0) (c .before .before .before .args .slot) (now (c .before .before .before .args .bytes)) (ap not (sym (c .before .is-width .ensures)) ∙ c .if1 .taken)
 
 locate-requires : tie.Need-locate-requires
 locate-requires c κs = ap not (sym (c .before .is-width .ensures)) ∙ c .if1 .left
@@ -32,17 +32,17 @@ fsse-count-requires c κs = let p = c .before .before .before .before .before in
 returns-2 : tie.Need-returns-2
 returns-2 c =
     let p = c .before .before in
-    count-none (p .before .before .before .before .args .offset-size) (p .before .before .before .before .args .base .0) (p .before .before .before .before .args .slot) (now (p .before .before .before .before .args .bytes)) (ap not (sym (p .before .before .is-width .ensures)) ∙ p .before .if1 .left) _ (p .locate .ensures .0) (c .enum-told .given .1)
+    count-none (p .before .before .before .before .args .reading) (p .before .before .before .before .args .offset-size) (p .before .before .before .before .args .base .0) (p .before .before .before .before .args .slot) (now (p .before .before .before .before .args .bytes)) (ap not (sym (p .before .before .is-width .ensures)) ∙ p .before .if1 .left) _ (p .locate .ensures .0) (c .enum-told .given .1)
 
 returns-3 : tie.Need-returns-3
 returns-3 c =
     let p = c .before .before .before in
-    count-refused (p .before .before .before .before .args .offset-size) (p .before .before .before .before .args .base .0) (p .before .before .before .before .args .slot) (now (p .before .before .before .before .args .bytes)) (ap not (sym (p .before .before .is-width .ensures)) ∙ p .before .if1 .left) _ (p .locate .ensures .0) _ (c .before .found .given .1)
+    count-refused (p .before .before .before .before .args .reading) (p .before .before .before .before .args .offset-size) (p .before .before .before .before .args .base .0) (p .before .before .before .before .args .slot) (now (p .before .before .before .before .args .bytes)) (ap not (sym (p .before .before .is-width .ensures)) ∙ p .before .if1 .left) _ (p .locate .ensures .0) _ (c .before .found .given .1)
 
 returns-4 : tie.Need-returns-4
 returns-4 c =
     let p = c .before .before .before .before .before in
-    count-at (p .before .before .before .before .args .offset-size) (p .before .before .before .before .args .base .0) (p .before .before .before .before .args .slot) (now (p .before .before .before .before .args .bytes)) (ap not (sym (p .before .before .is-width .ensures)) ∙ p .before .if1 .left) _ (p .locate .ensures .0)
+    count-at (p .before .before .before .before .args .reading) (p .before .before .before .before .args .offset-size) (p .before .before .before .before .args .base .0) (p .before .before .before .before .args .slot) (now (p .before .before .before .before .args .bytes)) (ap not (sym (p .before .before .is-width .ensures)) ∙ p .before .if1 .left) _ (p .locate .ensures .0)
     _ _ (c .before .before .before .found2 .given .1) _ (c .fsse-count .ensures)
 
 pub manager-count-spec : {M : Type 1} → statement M

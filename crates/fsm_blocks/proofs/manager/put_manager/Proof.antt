@@ -9,6 +9,7 @@ use Rattle.error.specs.Lent.{over}
 use Rattle.fields.specs.Layout.{window}
 use Rattle.fsm_sections.specs.declared.FreeSection.{FreeSection}
 use Rattle.fsm_sections.specs.Sections.{flat}
+use Rattle.fsm_blocks.specs.declared.checks.Reading.the-variants.{Loose}
 use Rattle.fsm_blocks.specs.Parts.{got, Accepted, sectionsBy}
 use Rattle.fsm_blocks.specs.Reading.{readManager}
 use Rattle.fsm_blocks.proofs.SlotsLaws.{inside-at, put-none, put-refused, list-is, list-total}
@@ -27,17 +28,17 @@ inside c = inside-at _ _ _ _ (c .before .before .before .locate .ensures .1) (c 
 sections : (c : tie.After-known-told)
     → let a = c .before .before .before .before .before .before .args in
     let g = c .before .found .given .0 in
-    sectionsBy (g .1 .0) (a .offset-size) (window (g .0) (g .0 + g .1 .0 .«fsse_used» - g .0) (now (a .bytes))) ≡ readManager (a .offset-size) (a .base .0) (a .slot) (now (a .bytes))
+    sectionsBy (g .1 .0) (a .offset-size) (window (g .0) (g .0 + g .1 .0 .«fsse_used» - g .0) (now (a .bytes))) ≡ readManager Loose (a .offset-size) (a .base .0) (a .slot) (now (a .bytes))
 sections c =
     let a = c .before .before .before .before .before .before .args in
-    list-is (a .offset-size) (a .base .0) (a .slot) (now (a .bytes)) _ (c .before .before .before .locate .ensures .0) (c .before .found .given .0 .0) (c .before .found .given .0 .1 .0) (c .before .found .given .1)
+    list-is Loose (a .offset-size) (a .base .0) (a .slot) (now (a .bytes)) _ (c .before .before .before .locate .ensures .0) (c .before .found .given .0 .0) (c .before .found .given .0 .1 .0) (c .before .found .given .1)
 
 total : (c : tie.After-known-told)
     → let a = c .before .before .before .before .before .before .args in
-    length (got (readManager (a .offset-size) (a .base .0) (a .slot) (now (a .bytes)))) ≡ c .before .found .given .0 .1 .0 .«total_sections»
+    length (got (readManager Loose (a .offset-size) (a .base .0) (a .slot) (now (a .bytes)))) ≡ c .before .found .given .0 .1 .0 .«total_sections»
 total c =
     let p = c .before .before .before .before .before .before in
-    list-total (p .args .offset-size) (p .args .base .0) (p .args .slot) (now (p .args .bytes)) _ (c .before .before .before .locate .ensures .0) (c .before .found .given .0 .0) (c .before .found .given .0 .1 .0) (c .before .found .given .1) (p .pre .1 .0)
+    list-total Loose (p .args .offset-size) (p .args .base .0) (p .args .slot) (now (p .args .bytes)) _ (c .before .before .before .locate .ensures .0) (c .before .found .given .0 .0) (c .before .found .given .0 .1 .0) (c .before .found .given .1) (p .pre .1 .0)
 
 add-end : tie.Need-add-end
 add-end c = omega (arith, inside c)
@@ -62,13 +63,13 @@ returns : tie.Need-returns
 returns c =
     let p = c .before .before in
     let a = p .before .before .before .args in
-    put-none (a .offset-size) (a .base .0) (a .slot) (now (a .bytes)) _ (p .locate .ensures .0) (c .enum-told .given .1) (a .from) (now (a .out))
+    put-none Loose (a .offset-size) (a .base .0) (a .slot) (now (a .bytes)) _ (p .locate .ensures .0) (c .enum-told .given .1) (a .from) (now (a .out))
 
 returns-2 : tie.Need-returns-2
 returns-2 c =
     let p = c .before .before in
     let a = p .before .before .before in
-    put-refused (a .args .offset-size) (a .args .base .0) (a .args .slot) (now (a .args .bytes)) _ (p .locate .ensures .0) _ (c .enum-told2 .given .1) (a .pre .1 .0) (a .args .from) (now (a .args .out))
+    put-refused Loose (a .args .offset-size) (a .args .base .0) (a .args .slot) (now (a .args .bytes)) _ (p .locate .ensures .0) _ (c .enum-told2 .given .1) (a .pre .1 .0) (a .args .from) (now (a .args .out))
 
 returns-3 : tie.Need-returns-3
 returns-3 c =

@@ -38,14 +38,23 @@ returns-5 c =
 
 returns-6 : tie.Need-returns-6
 returns-6 c =
+    let n = c .before .before .before .before .before .before .before in
+    let a = n .before .before .args in
+    stated (a .refusal) (now (a .out)) (n .number .ensures) (sym (ap valuesOf (c .before .before .before .before .before .refusal6 .given .1))) (c .before .before .refusal-of-one3 .ensures)
+
+returns-7 : tie.Need-returns-7
+returns-7 c =
     let n = c .before .before .before .before .before in
     let a = n .before .before .args in
-    stated (a .refusal) (now (a .out)) (n .number .ensures) (no-values (a .refusal) (c .before .before .before .before .match .keys6)) (c .before .before .plain-refusal .ensures)
+    stated (a .refusal) (now (a .out)) (n .number .ensures) (no-values (a .refusal) (c .before .before .before .before .match .keys7)) (c .before .before .plain-refusal .ensures)
 
 pub refused-spec : {M : Type 1} → statement M
 refused-spec =
     tie.close
     (tie.spec
+    (search needs)
+    (search needs)
+    (search needs)
     (search needs)
     (search needs)
     (search needs)
@@ -74,4 +83,6 @@ refused-spec =
     (search needs)
     returns-5
     (search needs)
-    returns-6)
+    returns-6
+    (search needs)
+    returns-7)

@@ -14,7 +14,7 @@ returns c = λ m g h. let e = sym h ∙ c .before .r .given .1 in cc
 
 -- the keys of the other refusals
 abbrev keys : List ℕ
-keys = 0 ∷ 1 ∷ 2 ∷ 3 ∷ 4 ∷ 5 ∷ 6 ∷ 7 ∷ 8 ∷ 9 ∷ 10 ∷ 11 ∷ 12 ∷ 13 ∷ []
+keys = 0 ∷ 1 ∷ 2 ∷ 3 ∷ 4 ∷ 5 ∷ 6 ∷ 7 ∷ 8 ∷ 9 ∷ 10 ∷ 11 ∷ 12 ∷ 13 ∷ 15 ∷ 16 ∷ []
 
 returns-2 : tie.Need-returns-2
 returns-2 c = λ m g h. absurd (miss keys 14 tt (subst (λ (x : Refusal). OneOf keys (tagOf the-type x)) h (c .match .keys2)))

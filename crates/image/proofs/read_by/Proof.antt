@@ -5,13 +5,13 @@ use Rattle.image.specs.Reading.{messageAt}
 use Rattle.image.proofs.PlaceLaws.{message-few, MessageIs, message-is, message-refused}
 use Rattle.image.proofs.ImageLaws.{refused-as, image-odd, image-refused, image-is}
 use borrow.Author.Needs.{needs}
-use Rattle.image.proofs.read_image.Statement.{statement}
-use Rattle.image.proofs.read_image.Tie as tie
+use Rattle.image.proofs.read_by.Statement.{statement}
+use Rattle.image.proofs.read_by.Tie as tie
 
 returns : tie.Need-returns
 returns c =
     let a = c .before .before .before .before .args in
-    refused-as _ _ _ (c .refused .ensures) (image-odd (a .place) (now (a .image)) (now (a .out)) (c .before .if1 .taken))
+    refused-as _ _ _ (c .refused .ensures) (image-odd (a .reading) (a .place) (now (a .image)) (now (a .out)) (c .before .if1 .taken))
 
 -- the message was read into the slots
 message : (c : tie.After-known-told2)
@@ -37,7 +37,7 @@ returns-2 c =
     let p = c .before .before .before .before .before in
     let a = p .before .before .before .before .before .args in
     refused-as _ _ _ (c .refused2 .ensures)
-    (image-refused (a .place) (now (a .image)) (now (a .out)) (p .before .before .if1 .left) (c .before .before .message .given .0 .0)
+    (image-refused (a .reading) (a .place) (now (a .image)) (now (a .out)) (p .before .before .if1 .left) (c .before .before .message .given .0 .0)
     (message-refused (messageAt (a .place) (now (a .image))) (message-few (a .place) (now (a .image))) _ _ (p .read-message .ensures) _ (c .before .before .message .given .1)))
 
 returns-3 : tie.Need-returns-3
@@ -46,10 +46,10 @@ returns-3 c =
     let a = t .before .before .before .before .before .before .before .before .before .args in
     let e = c .before .before .read-slots .ensures in
     let m = message t in
-    (e .0 ∙ image-is (a .place) (now (a .image)) (now (a .out)) _ (m .accepted) _ (m .slots), e .1)
+    (e .0 ∙ image-is (a .reading) (a .place) (now (a .image)) (now (a .out)) _ (m .accepted) _ (m .slots), e .1)
 
-pub read-image-spec : {M : Type 1} → statement M
-read-image-spec =
+pub read-by-spec : {M : Type 1} → statement M
+read-by-spec =
     tie.close
     (tie.spec
     (search needs)

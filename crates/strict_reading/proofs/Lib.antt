@@ -1,0 +1,4 @@
+pub mod ExactLaws
+pub mod AlikeLaws
+pub mod StrictReadingLaws
+pub mod Cases
