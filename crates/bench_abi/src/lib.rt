@@ -1,5 +1,7 @@
 // The list calls through the C interface, for the benchmarks alone: each answers the total of the list's lengths after it, all
 // ones where it is refused or gets Nothing.
+#![tactic(auto)]
+
 ghost use Rattle.std.specs.Prelude.{◌≡◌};
 ghost use Rattle.error.specs.Lent.{with, leaving};
 ghost use Rattle.free_space.specs.Calls.{freed, allocated, allocated_units, range_taken, trailing_taken};

@@ -1,5 +1,7 @@
 // The blocks and the cutting at pages through the C interface, for the benchmarks alone: offset size 8, base 0; each answers how many
 // bytes or sections it gives, all ones where it is refused.
+#![tactic(auto)]
+
 ghost use Rattle.std.specs.Prelude.{◌≡◌};
 ghost use Rattle.error.specs.Lent.{with, leaving};
 ghost use Rattle.fsm_blocks.specs.declared.checks.Reading.TheVariants.{Loose, Strict};

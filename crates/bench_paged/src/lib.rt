@@ -1,5 +1,7 @@
 // Bytes given out by the paged calls and freed again, and the same by the calls on the file's three lists that those are made of, through the
 // C interface, for the benchmarks alone. Both answer the address, all ones where none is given out.
+#![tactic(auto)]
+
 ghost use Rattle.std.specs.Prelude.{◌≡◌, get_or};
 ghost use Rattle.error.specs.Lent.{with};
 ghost use Rattle.free_lists.specs.Lists.{lists_in};

@@ -1,5 +1,7 @@
 // The plan and the beginning of a save through the C interface, for the benchmarks alone: whole runs, offset size 8, message at 0; the end
 // of the managers and the length of the blocks, all ones where it is refused.
+#![tactic(auto)]
+
 ghost use Rattle.std.specs.Prelude.{◌≡◌, get_or};
 ghost use Rattle.error.specs.Lent.{with, leaving};
 ghost use Rattle.fsm_plan.specs.Plan.{planned_outcome, planned};

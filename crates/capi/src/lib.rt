@@ -1,5 +1,7 @@
 // The three functions that the Rust host calls through the C interface. Nothing else is exported. A byte slice is passed
 // as a pointer and a length.
+#![tactic(auto)]
+
 ghost use Rattle.std.specs.Prelude.{◌≡◌};
 ghost use Rattle.checksum.specs.Lookup3.{lookup3};
 ghost use Rattle.fields.specs.Width.{enc_size, fshd_len};

@@ -1,4 +1,6 @@
 // The metadata checksum of HDF5, Jenkins' lookup3 `hashlittle` (checksum.rs).
+#![tactic(auto)]
+
 ghost use Rattle.std.specs.Prelude.{◌≡◌, ◌+◌, ◌%◌, ◌^◌, ◌<◌, ◌≤◌, length, take, drop};
 ghost use Rattle.error.specs.Answers.{checked_outcome};
 ghost use Rattle.fields.specs.Le.{le_value};
@@ -9,7 +11,7 @@ ghost use Rattle.checksum.specs.Trailing.{trailing};
 use error::{Checked, Refusal};
 
 // The three words that lookup3 mixes.
-#[derive(Drop)]
+#[derive(Clone, Copy)]
 struct Words {
     a: u32,
     b: u32,

@@ -1,6 +1,8 @@
 // Document 01's save M9, cut after every number of its stores: what the image then reads as, and what a fresh save over it leaves.
 // The image before it is a finished save of another region. Standard input has M9's message and then its blocks, as the Rust's
 // serializers write them.
+#![tactic(auto)]
+
 use end_to_end::anew::call_save_anew;
 use end_to_end::call_save_read;
 use image::{ImageAnswer, ImageRead};

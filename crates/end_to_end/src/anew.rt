@@ -39,7 +39,7 @@ fn begin_and_step(
 // The records of the lists after the calls, and what two saves of them came to: the record of the first, which was cut, after its
 // steps, and that of the second, the fresh one, after all steps; or why it did not begin. Where the first did not begin, the second
 // has its refusal.
-#[derive(Drop)]
+#[derive(Clone, Copy)]
 pub struct SavedAnew {
     pub lists: FileLists,
     pub first: Begin,

@@ -1,4 +1,6 @@
 // List calls, the save of what they leave cut after some steps, and the reading of what the cut leaves.
+#![tactic(auto)]
+
 pub mod anew;
 pub mod calls;
 
@@ -20,7 +22,7 @@ use save_step::save_steps;
 
 // The record after the steps, or why the save did not begin, and what the image then reads as. A save that did not begin
 // is not read: the reading has its refusal.
-#[derive(Drop)]
+#[derive(Clone, Copy)]
 pub struct Saved {
     pub begin: Begin,
     pub read: ImageRead,
@@ -65,7 +67,7 @@ fn step_and_read(
 }
 
 // The records of the lists after the calls, and what the save of them came to.
-#[derive(Drop)]
+#[derive(Clone, Copy)]
 pub struct AfterCalls {
     pub lists: FileLists,
     pub saved: Saved,

@@ -1,10 +1,12 @@
 // The seventeen refusals: the variants of `FormatError` (error.rs) that this library needs, each with its values, and
 // those that stand for what the Rust asserts or leaves to the caller. They stand in the order in which they are given; the last
 // two are a strict reading's, which has an order of its own.
+#![tactic(auto)]
+
 ghost use Rattle.std.specs.Prelude.{◌≡◌};
 ghost use Rattle.error.specs.Refusals.{number_of};
 
-#[derive(Drop)]
+#[derive(Clone, Copy)]
 pub enum Refusal {
     // An offset size or a length size is outside 1 to 8.
     Width,
@@ -78,14 +80,14 @@ impl Refusal {
 }
 
 // A test's answer.
-#[derive(Drop)]
+#[derive(Clone, Copy)]
 pub enum Checked {
     Passed,
     Refused(Refusal),
 }
 
 // A number, where it can be had.
-#[derive(Drop)]
+#[derive(Clone, Copy)]
 pub enum Number {
     Is(u64),
     Refused(Refusal),

@@ -6,7 +6,7 @@ ghost use Rattle.fields.specs.Ranges.{sum};
 use error::{Number, Refusal};
 use numbers::MAX;
 
-#[derive(Drop)]
+#[derive(Clone, Copy)]
 pub struct BaseAddress(pub u64);
 
 impl BaseAddress {

@@ -11,14 +11,14 @@ use numbers::MAX;
 pub const UNDEF: u64 = MAX;
 
 // The places from `start` up to `end`.
-#[derive(Drop)]
+#[derive(Clone, Copy)]
 pub enum SliceRange {
     Range { start: u64, end: u64 },
     Refused(Refusal),
 }
 
 // Whether an address is the undefined one.
-#[derive(Drop)]
+#[derive(Clone, Copy)]
 pub enum Undefined {
     Is(bool),
     Refused(Refusal),

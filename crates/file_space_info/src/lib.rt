@@ -1,5 +1,7 @@
 // The File Space Info message (file_space_info.rs): what it records of a file's space, its bytes, and their reading. The
 // manager addresses, a `Vec` of the Rust, stand beside the record: in lent memory, or as the twelve slots of `WithSlots`.
+#![tactic(auto)]
+
 ghost use Rattle.std.specs.Prelude.{◌≡◌, ◌+◌, ◌*◌, ◌≤◌, ◌<◌, cond, ◌&&◌, length, drop};
 ghost use Rattle.error.specs.Lent.{left, leaving, over};
 ghost use Rattle.error.specs.Answers.{number_outcome};
@@ -25,7 +27,7 @@ pub const NUM_FILE_FSM_MANAGERS: usize = 12;
 pub const MESSAGE_LEN: u64 = 125;
 
 // H5F_fspace_strategy_t.
-#[derive(Drop)]
+#[derive(Clone, Copy)]
 pub enum FileSpaceStrategy {
     // Free-space managers, aggregators and the virtual file driver: the default.
     FsmAggr,
@@ -37,7 +39,7 @@ pub enum FileSpaceStrategy {
     None,
 }
 
-#[derive(Drop)]
+#[derive(Clone, Copy)]
 pub enum StrategyAnswer {
     Is(FileSpaceStrategy),
     Refused(Refusal),
@@ -69,7 +71,7 @@ impl FileSpaceStrategy {
     }
 }
 
-#[derive(Drop)]
+#[derive(Clone, Copy)]
 pub struct FileSpaceInfo {
     pub strategy: FileSpaceStrategy,
     // Whether free space is kept on file; only then are addresses written.
@@ -83,14 +85,14 @@ pub struct FileSpaceInfo {
 }
 
 // A persisting message with its twelve manager addresses; unused ones are `UNDEF`.
-#[derive(Drop)]
+#[derive(Clone, Copy)]
 pub struct WithSlots {
     pub info: FileSpaceInfo,
     pub slots: [u64; NUM_FILE_FSM_MANAGERS],
 }
 
 // A message that was read, with the number of addresses.
-#[derive(Drop)]
+#[derive(Clone, Copy)]
 pub enum Parsed {
     Message { info: FileSpaceInfo, count: usize },
     Refused(Refusal),
@@ -261,7 +263,7 @@ fn write_addrs(addrs: &[u64], out: &mut [u8])
 }
 
 // What reading the fixed part gives.
-#[derive(Drop)]
+#[derive(Clone, Copy)]
 enum FixedPart {
     Is(FileSpaceInfo),
     Refused(Refusal),

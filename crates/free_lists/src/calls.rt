@@ -9,7 +9,7 @@ use error::Refusal;
 use free_space::list::{FreeList, Given, Kept};
 
 // The lists of metadata, of raw data and of unclassified space.
-#[derive(Drop)]
+#[derive(Clone, Copy)]
 pub enum Which {
     Metadata,
     Raw,
@@ -17,7 +17,7 @@ pub enum Which {
 }
 
 // A list call with its arguments.
-#[derive(Drop)]
+#[derive(Clone, Copy)]
 pub enum ListCall {
     Free { addr: u64, len: u64 },
     Alloc { len: u64 },
@@ -27,7 +27,7 @@ pub enum ListCall {
 }
 
 // What a call answers: `At` the address that it gives out, `Done` where it gives none.
-#[derive(Drop)]
+#[derive(Clone, Copy)]
 pub enum Answered {
     Done,
     At(u64),
@@ -36,14 +36,14 @@ pub enum Answered {
 }
 
 // The answer, and the records of the three lists after the call.
-#[derive(Drop)]
+#[derive(Clone, Copy)]
 pub struct Applied {
     pub answer: Answered,
     pub lists: FileLists,
 }
 
 // The answer, and the record of the one list after the call.
-#[derive(Drop)]
+#[derive(Clone, Copy)]
 pub struct Performed {
     pub answer: Answered,
     pub list: FreeList,

@@ -1,4 +1,6 @@
 // The three lists of a file: what is asked of them together, and the calls on them.
+#![tactic(auto)]
+
 pub mod calls;
 pub mod decide;
 mod share;
@@ -17,7 +19,7 @@ use free_space::list::FreeList;
 use numbers::max;
 
 // The records of the three lists of a file. Their runs are lent beside them, in the same order.
-#[derive(Drop)]
+#[derive(Clone, Copy)]
 pub struct FileLists {
     pub metadata: FreeList,
     pub raw: FreeList,
@@ -51,7 +53,7 @@ pub fn check_lists(meta: &[u64], raw: &[u64], unclassified: &[u64], lists: FileL
 }
 
 // How many regions of each of three lists there are to look at.
-#[derive(Drop)]
+#[derive(Clone, Copy)]
 struct Cursors {
     meta: usize,
     raw: usize,
@@ -59,7 +61,7 @@ struct Cursors {
 }
 
 // The region that the walk comes to next, and the cursors after it.
-#[derive(Drop)]
+#[derive(Clone, Copy)]
 enum Reached {
     At { region: FreeRegion, rest: Cursors },
     Nothing,

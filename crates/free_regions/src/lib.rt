@@ -1,4 +1,6 @@
 // A region of free bytes, and the whole units inside it.
+#![tactic(auto)]
+
 ghost use Rattle.std.specs.Prelude.{◌≡◌};
 ghost use Rattle.error.specs.Answers.{number_outcome};
 ghost use Rattle.fields.specs.Ranges.{sum};
@@ -8,14 +10,14 @@ use error::{Number, Refusal};
 use numbers::MAX;
 
 // The bytes from `addr` up to `addr + len`.
-#[derive(Drop)]
+#[derive(Clone, Copy)]
 pub struct FreeRegion {
     pub addr: u64,
     pub len: u64,
 }
 
 // The whole units inside a region, if there are any.
-#[derive(Drop)]
+#[derive(Clone, Copy)]
 pub enum Interior {
     Whole { start: u64, span: u64 },
     Nothing,

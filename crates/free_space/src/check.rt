@@ -27,7 +27,7 @@ pub(crate) fn follows(prev: u64, r: FreeRegion) -> bool
 }
 
 // How a list begins.
-#[derive(Drop)]
+#[derive(Clone, Copy)]
 pub(crate) enum Head {
     Bad,
     Empty,

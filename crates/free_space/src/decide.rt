@@ -20,7 +20,7 @@ use free_regions::FreeRegion;
 use numbers::saturating_sub;
 
 // What is known before anything changes. The calls carry it out, or several of them together.
-#[derive(Drop)]
+#[derive(Clone, Copy)]
 pub enum Decision {
     Refused(Refusal),
     // The list stays as it is, and no address is given out.

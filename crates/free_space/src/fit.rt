@@ -13,7 +13,7 @@ use free_regions::FreeRegion;
 use numbers::MAX;
 
 // How a pass ends: no list, no region that suffices, or the place of the one that serves.
-#[derive(Drop)]
+#[derive(Clone, Copy)]
 pub(crate) enum Search {
     Bad,
     Nothing,
@@ -22,7 +22,7 @@ pub(crate) enum Search {
 
 // The best of the regions passed, and the bytes that it has beyond the length asked for. The bytes that lack wrap, and
 // so stand above all that are left over: one comparison tests both, that a region suffices and that it is better.
-#[derive(Drop)]
+#[derive(Clone, Copy)]
 pub(crate) struct Best {
     pub(crate) index: usize,
     pub(crate) slack: u64,

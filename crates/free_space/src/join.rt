@@ -13,7 +13,7 @@ use crate::run::{Patch, region_at};
 use free_regions::FreeRegion;
 
 // A region with those that it touches on one side, and the place to which it then reaches.
-#[derive(Drop)]
+#[derive(Clone, Copy)]
 pub(crate) struct Joined {
     pub(crate) index: usize,
     pub(crate) region: FreeRegion,

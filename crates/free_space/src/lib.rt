@@ -1,4 +1,6 @@
 // The free list of free_space.rs over lent memory: a run of pairs, address then length, and a record with their count.
+#![tactic(auto)]
+
 pub mod check;
 pub mod decide;
 mod fit;

@@ -14,21 +14,21 @@ use crate::run::{Patch, patch_len, replace};
 use error::Refusal;
 
 // A list's record: how many pairs of its run count, and what their lengths add up to.
-#[derive(Drop)]
+#[derive(Clone, Copy)]
 pub struct FreeList {
     pub count: usize,
     pub total: u64,
 }
 
 // The record after a call that gives nothing out.
-#[derive(Drop)]
+#[derive(Clone, Copy)]
 pub enum Kept {
     Done(FreeList),
     Refused(Refusal),
 }
 
 // The address that a call gives out, and the record after it.
-#[derive(Drop)]
+#[derive(Clone, Copy)]
 pub enum Given {
     At { addr: u64, list: FreeList },
     Nothing,

@@ -8,7 +8,7 @@ use crate::run::region_at;
 use numbers::MAX;
 
 // A range ends above 2^64 - 1, or is empty; else the region at the place is the first that ends past its start.
-#[derive(Drop)]
+#[derive(Clone, Copy)]
 pub(crate) enum Meet {
     Over,
     Empty,
@@ -49,7 +49,7 @@ pub(crate) fn meeting(run: &[u64], list: FreeList, addr: u64, len: u64) -> Meet
 }
 
 // The place up to which a pass went, and the sum of the lengths that it passed.
-#[derive(Drop)]
+#[derive(Clone, Copy)]
 pub(crate) struct Met {
     pub(crate) upto: usize,
     pub(crate) gone: u64,

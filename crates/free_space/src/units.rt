@@ -8,7 +8,7 @@ ghost use Rattle.free_space.specs.Passes.{measure_of};
 use free_regions::{FreeRegion, Interior};
 
 // Where the whole units begin, and how many bytes they have. Where there are none, the start says nothing.
-#[derive(Drop)]
+#[derive(Clone, Copy)]
 pub(crate) struct WholeUnits {
     pub(crate) start: u64,
     pub(crate) span: u64,
@@ -30,7 +30,7 @@ pub(crate) fn whole_units(r: FreeRegion, unit: u64) -> WholeUnits
 }
 
 // What counts of a region: its length, or the length of its aligned interior.
-#[derive(Drop)]
+#[derive(Clone, Copy)]
 pub(crate) enum Measure {
     Length,
     Units(u64),

@@ -12,7 +12,7 @@ use error::{Checked, Refusal};
 use fields::bytes::read_uint_le;
 
 // How managers are read.
-#[derive(Drop)]
+#[derive(Clone, Copy)]
 pub enum Reading {
     // As the Rust reads them: versions, client, checksums and back address are not tested.
     Loose,

@@ -14,7 +14,7 @@ use error::{Number, Refusal};
 use fields::width::is_width;
 
 // How many sections were read into the lent run.
-#[derive(Drop)]
+#[derive(Clone, Copy)]
 pub enum SectionsAnswer {
     Read(u64),
     Refused(Refusal),

@@ -71,7 +71,7 @@ fn field_at(bytes: &[u8], at: usize, width: usize) -> u64
 }
 
 // The bytes that a group's count, its size and an address take.
-#[derive(Drop)]
+#[derive(Clone, Copy)]
 pub(crate) struct GroupWidths {
     counts: usize,
     sizes: usize,

@@ -8,7 +8,7 @@ use fields::bytes::read_uint_le;
 use fields::width::is_width;
 
 // What the reader takes from a header: the Rust's six fields.
-#[derive(Drop)]
+#[derive(Clone, Copy)]
 pub struct FsmHeader {
     pub total_space: u64,
     pub total_sections: u64,
@@ -18,7 +18,7 @@ pub struct FsmHeader {
     pub fsse_used: u64,
 }
 
-#[derive(Drop)]
+#[derive(Clone, Copy)]
 pub enum HeaderAnswer {
     Header(FsmHeader),
     Refused(Refusal),

@@ -1,4 +1,6 @@
 // The blocks of a free-space manager: the header FSHD and the section list FSSE.
+#![tactic(auto)]
+
 pub mod checks;
 pub mod fsse;
 pub mod groups;

@@ -22,7 +22,7 @@ use fields::convert::undefined_addr;
 use fields::width::is_width;
 
 // Where a manager's section list stands, with the header that names it.
-#[derive(Drop)]
+#[derive(Clone, Copy)]
 pub(crate) enum Named {
     Nowhere,
     At { start: u64, header: FsmHeader },

@@ -1,4 +1,6 @@
 // The length of a section list by the sizes of its sections alone.
+#![tactic(auto)]
+
 ghost use Rattle.std.specs.Prelude.{◌≡◌, cond, ◌≤◌, ltb, length, drop};
 ghost use Rattle.error.specs.Answers.{number_outcome};
 ghost use Rattle.fields.specs.Ranges.{top};

@@ -1,2 +1,4 @@
 // Free space cut at page boundaries.
+#![tactic(auto)]
+
 pub mod pages;

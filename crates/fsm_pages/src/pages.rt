@@ -15,7 +15,7 @@ use numbers::{MAX, quotient, remainder, saturating_add};
 use pairs::is_run;
 
 // How many pieces a run of sections was cut into.
-#[derive(Drop)]
+#[derive(Clone, Copy)]
 pub enum Split {
     Pieces(usize),
     Refused(Refusal),

@@ -22,7 +22,7 @@ pub const SECT_CLASS_LARGE: u8 = 2;
 
 // The blocks of a slot, the class that its sections carry, and how many it has. A slot without sections has no blocks, and for both the
 // undefined address of 8 bytes, at every offset size.
-#[derive(Drop)]
+#[derive(Clone, Copy)]
 pub struct PagedManagerBlock {
     pub fshd_addr: u64,
     pub fsse_addr: u64,
@@ -31,7 +31,7 @@ pub struct PagedManagerBlock {
 }
 
 // The blocks of slots 0, 2 and 6, and where they end.
-#[derive(Drop)]
+#[derive(Clone, Copy)]
 pub struct PagedManagerPlan {
     pub slot0: PagedManagerBlock,
     pub slot2: PagedManagerBlock,
@@ -76,27 +76,27 @@ impl PagedManagerPlan {
 }
 
 // The measure of each slot's sections.
-#[derive(Drop)]
+#[derive(Clone, Copy)]
 pub struct Measures {
     pub slot0: Measure,
     pub slot2: Measure,
     pub slot6: Measure,
 }
 
-#[derive(Drop)]
+#[derive(Clone, Copy)]
 enum SlotsMeasured {
     Are(Measures),
     Refused(Refusal),
 }
 
 // A plan of blocks, and the measures that it is made by.
-#[derive(Drop)]
+#[derive(Clone, Copy)]
 pub struct BlocksPlan {
     pub managers: PagedManagerPlan,
     pub measures: Measures,
 }
 
-#[derive(Drop)]
+#[derive(Clone, Copy)]
 pub enum BlocksPlanned {
     Plan(BlocksPlan),
     Refused(Refusal),

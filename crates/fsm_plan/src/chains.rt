@@ -5,7 +5,7 @@ ghost use Rattle.fsm_plan.specs.Order.{source_of};
 use fsm_sections::{Part, Source};
 
 // How many metadata, raw and unclassified regions there are, and the page size.
-#[derive(Drop)]
+#[derive(Clone, Copy)]
 pub struct Paged {
     pub na: usize,
     pub nb: usize,

@@ -1,4 +1,6 @@
 // The managers of a paged file: which sections each slot has, how long its blocks are, and where they stand.
+#![tactic(auto)]
+
 pub mod blocks;
 mod chains;
 pub mod measure;
@@ -9,7 +11,7 @@ mod runs;
 mod sharing;
 
 // How many metadata, raw and unclassified regions there are.
-#[derive(Drop)]
+#[derive(Clone, Copy)]
 pub struct Counts {
     pub meta: usize,
     pub raw: usize,

@@ -16,14 +16,14 @@ use fsm_sizes::totals::{Totalled, totals_of};
 use numbers::MAX;
 
 // The sum of the sizes, the number of the sections, and the length of their blocks, 0 for none.
-#[derive(Drop)]
+#[derive(Clone, Copy)]
 pub struct Measure {
     pub space: u64,
     pub count: u64,
     pub len: u64,
 }
 
-#[derive(Drop)]
+#[derive(Clone, Copy)]
 pub enum Measured {
     Is(Measure),
     Refused(Refusal),

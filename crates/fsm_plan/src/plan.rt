@@ -15,7 +15,7 @@ use error::Refusal;
 use fields::width::is_width;
 
 // What the planning answers: the plan, or a refusal.
-#[derive(Drop)]
+#[derive(Clone, Copy)]
 pub enum Planned {
     Plan(PagedManagerPlan),
     Refused(Refusal),

@@ -10,7 +10,7 @@ use fsm_sections::{Chain, Source};
 use numbers::MAX;
 
 // One above the addresses that were seen, if that is known.
-#[derive(Drop)]
+#[derive(Clone, Copy)]
 pub enum Floor {
     To(u64),
     Unknown,

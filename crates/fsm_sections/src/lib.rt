@@ -1,4 +1,6 @@
 // Free sections as a manager tracks them, and the chains of equal sections that region lists give.
+#![tactic(auto)]
+
 ghost use Rattle.std.specs.Prelude.{◌≡◌, ◌+◌, nat_le};
 ghost use Rattle.error.specs.Answers.{number_outcome};
 ghost use Rattle.fields.specs.Ranges.{sum};
@@ -14,7 +16,7 @@ pub mod wide;
 
 // The address first, then the size: a host lends records of it.
 #[repr(C)]
-#[derive(Drop)]
+#[derive(Clone, Copy)]
 pub struct FreeSection {
     pub addr: u64,
     pub size: u64,
@@ -48,7 +50,7 @@ impl FreeSection {
 }
 
 // `count` sections of one size, each where the one before ends.
-#[derive(Drop)]
+#[derive(Clone, Copy)]
 pub struct Chain {
     pub addr: u64,
     pub size: u64,
@@ -57,7 +59,7 @@ pub struct Chain {
 
 // What of a region is meant: the piece before its first page multiple, its whole pages, the piece after its last page
 // multiple, or all of it uncut.
-#[derive(Drop)]
+#[derive(Clone, Copy)]
 pub enum Part {
     Head,
     Pages,
@@ -66,7 +68,7 @@ pub enum Part {
 }
 
 // How many regions of each of three lent runs are meant, and which part of each region.
-#[derive(Drop)]
+#[derive(Clone, Copy)]
 pub struct Source {
     pub na: usize,
     pub pa: Part,

@@ -7,7 +7,7 @@ use crate::{FreeSection, Part};
 use numbers::index::min;
 
 // Where a pass over a run stands.
-#[derive(Drop)]
+#[derive(Clone, Copy)]
 pub struct RunCursor {
     i: usize,
 }
@@ -22,7 +22,7 @@ impl RunCursor {
 }
 
 // What a step of a pass over a run gives: that it is at its end; or a region, and where the pass stands then.
-#[derive(Drop)]
+#[derive(Clone, Copy)]
 pub struct RunStep {
     pub end: bool,
     pub region: FreeSection,
@@ -52,7 +52,7 @@ pub fn next_in(run: &[u64], count: usize, at: RunCursor) -> RunStep
 }
 
 // What a step by rows gives: that the pass is at its end; or a number of sections of one size, and where the pass stands then.
-#[derive(Drop)]
+#[derive(Clone, Copy)]
 pub struct Row {
     pub end: bool,
     pub size: u64,

@@ -13,27 +13,27 @@ use fsm_sections::{Part, Source};
 use numbers::MAX;
 
 // A number of sections, and the sum of their sizes.
-#[derive(Drop)]
+#[derive(Clone, Copy)]
 pub struct Sums {
     pub count: u64,
     pub space: u64,
 }
 
-#[derive(Drop)]
+#[derive(Clone, Copy)]
 pub enum Summed {
     Are(Sums),
     Refused(Refusal),
 }
 
 // A number of sections, how many sizes they have, and the sum of their sizes.
-#[derive(Drop)]
+#[derive(Clone, Copy)]
 pub struct Totals {
     pub count: u64,
     pub sizes: u64,
     pub space: u64,
 }
 
-#[derive(Drop)]
+#[derive(Clone, Copy)]
 pub enum Totalled {
     Are(Totals),
     Refused(Refusal),

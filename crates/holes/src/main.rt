@@ -1,4 +1,6 @@
 // Lists the sections that an image on standard input tracks as free: slot, address and size, a line for each.
+#![tactic(auto)]
+
 ghost use Rattle.std.specs.Prelude.{◌≡◌, ◌+◌, ◌≤◌, length, take};
 ghost use Rattle.holes_text.specs.Holes.{image_limit, text_limit, holes_text};
 

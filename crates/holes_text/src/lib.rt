@@ -1,4 +1,6 @@
 // The text that the program `holes` prints for an image.
+#![tactic(auto)]
+
 ghost use Rattle.std.specs.Prelude.{◌≡◌, ◌*◌, length};
 ghost use Rattle.error.specs.Lent.{with, left, leaving};
 ghost use Rattle.text.specs.Text.{written};
@@ -22,7 +24,7 @@ pub const SECTION_LIMIT: usize = 2048;
 pub const TEXT_LIMIT: usize = 92178;
 
 // How many bytes a text has that was written.
-#[derive(Drop)]
+#[derive(Clone, Copy)]
 pub enum Written {
     Bytes(usize),
     Refused(Refusal),

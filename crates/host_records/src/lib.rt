@@ -1,5 +1,7 @@
 // `split_at_pages` over records through the C interface, for the host test that lends records (host/main.rs). The library exports
 // it nowhere.
+#![tactic(auto)]
+
 ghost use Rattle.std.specs.Prelude.{◌≡◌};
 ghost use Rattle.error.specs.Lent.{leaving, with};
 ghost use Rattle.fsm_pages.specs.Split.{split_outcome};

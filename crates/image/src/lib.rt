@@ -1,4 +1,6 @@
 // The reading of an image at a place: its message, then its slots. Offset and length size are 8, the base is 0.
+#![tactic(auto)]
+
 ghost use Rattle.std.specs.Prelude.{◌≡◌, map, ◌≤◌, min, length, replicate};
 ghost use Rattle.error.specs.Lent.{left, leaving, over};
 ghost use Rattle.fsm_blocks.specs.declared.checks.Reading.TheVariants.{Loose, Strict};
@@ -17,14 +19,14 @@ use fsm_blocks::manager::manager_count;
 use fsm_blocks::persisted::{read_persisted_sections, read_persisted_sections_strict};
 use numbers::min;
 
-#[derive(Drop)]
+#[derive(Clone, Copy)]
 pub enum ImageAnswer {
     Read,
     Refused(Refusal),
 }
 
 // What reading an image gives, with the number of sections in each slot: all 0 where it is refused.
-#[derive(Drop)]
+#[derive(Clone, Copy)]
 pub struct ImageRead {
     pub answer: ImageAnswer,
     pub counts: [u64; NUM_FILE_FSM_MANAGERS],

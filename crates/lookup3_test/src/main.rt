@@ -1,5 +1,7 @@
 // The values that lookup3.c publishes for `hashlittle`, one to a line, in hexadecimal; then those of initval 0 again, by
 // `jenkins_lookup3`.
+#![tactic(auto)]
+
 use libc::STDOUT_FILENO;
 
 fn print_line(value: u32) {

@@ -1,4 +1,6 @@
 // Small arithmetic on 64-bit numbers: the lesser and the greater of two, sums and differences that stop at the ends, and division with a shift.
+#![tactic(auto)]
+
 ghost use Rattle.std.specs.Prelude.{◌≡◌, ◌+◌, ◌-◌, ◌/◌, ◌%◌, ◌^◌, ◌<◌, min, max};
 ghost use Rattle.error.specs.Outcome.{sat};
 

@@ -24,7 +24,7 @@ use paged_lists::PageType;
 use paged_lists::marks::{marks_fit, set_marks};
 
 // The bytes to be freed, and the first and the last page that they lie in.
-#[derive(Drop)]
+#[derive(Clone, Copy)]
 pub(crate) struct Freed {
     pub(crate) addr: u64,
     pub(crate) len: u64,

@@ -1,5 +1,7 @@
 // The two calls that hand out bytes in pages by kind and take them back: document 02's front door (P4). Each decides first, and then changes
 // lists and marks: a list call cannot be undone, since it clears places past the count.
+#![tactic(auto)]
+
 mod alloc_pages;
 mod free_pages;
 pub mod history;

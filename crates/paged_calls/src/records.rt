@@ -6,7 +6,7 @@ use free_lists::calls::{Answered, Applied};
 use free_space::list::FreeList;
 
 // The records of the kind's list and of the unclassified one, which all kinds share.
-#[derive(Drop)]
+#[derive(Clone, Copy)]
 pub(crate) struct Records {
     pub(crate) own: FreeList,
     pub(crate) shared: FreeList,
@@ -22,7 +22,7 @@ pub(crate) fn both(own: FreeList, shared: FreeList) -> Records
 }
 
 // The answer, and these records after the call.
-#[derive(Drop)]
+#[derive(Clone, Copy)]
 pub(crate) struct Step {
     pub(crate) answer: Answered,
     pub(crate) own: FreeList,

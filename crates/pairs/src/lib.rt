@@ -1,11 +1,13 @@
 // Lent runs of pairs: an address and a length, an address and a length, and so on.
+#![tactic(auto)]
+
 ghost use Rattle.std.specs.Prelude.{◌≡◌, [], ◌∷◌, get_or};
 ghost use Rattle.error.specs.Lent.{over};
 ghost use Rattle.pairs.specs.Pairs.{is_run, pair_at, pair};
 
 pub mod copy;
 
-#[derive(Drop)]
+#[derive(Clone, Copy)]
 pub struct Pair {
     pub addr: u64,
     pub len: u64,

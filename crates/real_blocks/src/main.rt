@@ -1,6 +1,8 @@
 // Managers of real HDF5 files. Each stands in the input as the address of its FSHD (8 bytes), the FSHD (82) and the FSSE
 // (its used length). Of each the program prints the address and the sections, `same` where writing these sections gives the same
 // bytes, and below `strictly` what the strict reading gives.
+#![tactic(auto)]
+
 ghost use Rattle.std.specs.Prelude.{◌≡◌, length};
 
 use fields::address::BaseAddress;

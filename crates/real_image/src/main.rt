@@ -2,6 +2,8 @@
 // File Space Info message in the file (8 bytes) and its length (2), then the file. The program prints the number of each slot
 // of the message, and under it the sections of the manager that the slot names, first as the loose reading gives them and then,
 // below `strictly`, as the strict one does.
+#![tactic(auto)]
+
 use error::Refusal;
 use fields::address::BaseAddress;
 use fields::bytes::read_uint_le;

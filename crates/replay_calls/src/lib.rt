@@ -1,4 +1,6 @@
 // The protocol: lines in, answers out.
+#![tactic(auto)]
+
 mod addresses;
 mod blocks;
 mod dispatch;

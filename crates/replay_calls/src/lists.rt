@@ -24,7 +24,7 @@ pub(crate) const SCRATCH: usize = 24582;
 const ROOMS: usize = 24583;
 
 // An answer, and the list's record after the call.
-#[derive(Drop)]
+#[derive(Clone, Copy)]
 struct AfterCall {
     reply: Reply,
     list: FreeList,
@@ -315,7 +315,7 @@ fn scratch_call(line: &[u8], lists: &mut [u64]) -> Reply
 }
 
 // A line of two numbers, of which the first is that of a list.
-#[derive(Drop)]
+#[derive(Clone, Copy)]
 struct ForList {
     fine: bool,
     list: usize,

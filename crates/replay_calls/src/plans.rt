@@ -12,7 +12,7 @@ use text::words::write_bytes;
 
 // The places of a run of sections among the numbers of a call: its numbers, two for each of `count` sections, stand from `from` up to
 // `end`.
-#[derive(Drop)]
+#[derive(Clone, Copy)]
 struct Run {
     fine: bool,
     count: usize,

@@ -6,7 +6,7 @@ use replay_lines::answer::{bad, done, nothing, number_line, pair_line, refused, 
 use text::words::write_bytes;
 
 // The answer to a call: none for a line that needs none, a short one, or how many bytes of the memory for answers a long one has.
-#[derive(Drop)]
+#[derive(Clone, Copy)]
 pub(crate) enum Reply {
     Silent,
     Text(usize),

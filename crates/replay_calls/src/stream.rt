@@ -27,7 +27,7 @@ fn lists_buffer() -> [u64; 32779]
 
 // What is read: the bytes of the chunk from `at` up to `end` are not taken yet, and `have` bytes of the line are there. The line is
 // whole after a newline and at the end of the input, and then no more follows.
-#[derive(Drop)]
+#[derive(Clone, Copy)]
 struct Input {
     at: usize,
     end: usize,

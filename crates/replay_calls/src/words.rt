@@ -7,14 +7,14 @@ use numbers::MAX;
 use replay_lines::call::is_call;
 
 // How many numbers or bytes were read; where the text breaks the protocol, it is not fine.
-#[derive(Drop)]
+#[derive(Clone, Copy)]
 pub(crate) struct Counted {
     pub(crate) fine: bool,
     pub(crate) count: usize,
 }
 
 // What digits spell, and the place after them. Without a digit, or above 2^64 - 1, they spell nothing.
-#[derive(Drop)]
+#[derive(Clone, Copy)]
 struct Spelled {
     fine: bool,
     value: u64,
@@ -22,7 +22,7 @@ struct Spelled {
 }
 
 // How many numbers and bytes a line has; where it breaks the protocol, it is not fine.
-#[derive(Drop)]
+#[derive(Clone, Copy)]
 pub(crate) struct Words {
     pub(crate) fine: bool,
     pub(crate) numbers: usize,
@@ -30,7 +30,7 @@ pub(crate) struct Words {
 }
 
 // The numbers of a call that has at most three; 4 stands for the count of one that has more or breaks the protocol.
-#[derive(Drop)]
+#[derive(Clone, Copy)]
 pub(crate) struct Few {
     pub(crate) count: usize,
     pub(crate) first: u64,

@@ -1,4 +1,6 @@
 // The save of three lists into an image: its beginning, which makes every test and fills the scratch. The steps are crate `save_step`.
+#![tactic(auto)]
+
 ghost use Rattle.std.specs.Prelude.{◌≡◌};
 ghost use Rattle.error.specs.Lent.{left, leaving};
 ghost use Rattle.free_lists.specs.Lists.{lists_in};
@@ -14,7 +16,7 @@ use free_lists::{FileLists, are_lists};
 use save_step::Save;
 
 // Where a save goes: the page size of its blocks, the address of the first, and the place of the message.
-#[derive(Drop)]
+#[derive(Clone, Copy)]
 pub struct Target {
     pub page: u64,
     pub start: u64,
@@ -22,14 +24,14 @@ pub struct Target {
 }
 
 // What a beginning is asked for: the lists to save, and where to.
-#[derive(Drop)]
+#[derive(Clone, Copy)]
 pub(crate) struct Request {
     pub(crate) lists: FileLists,
     pub(crate) to: Target,
 }
 
 // What the beginning of a save answers: its record.
-#[derive(Drop)]
+#[derive(Clone, Copy)]
 pub enum Begin {
     Begun(Save),
     Refused(Refusal),

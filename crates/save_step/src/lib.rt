@@ -1,4 +1,6 @@
 // The stores of a save, one a step. A save that is cut has made the first of them, in their order.
+#![tactic(auto)]
+
 ghost use Rattle.std.specs.Prelude.{◌≡◌, ◌+◌, ◌<◌, length, ltb};
 ghost use Rattle.error.specs.Lent.{left, leaving};
 ghost use Rattle.fields.specs.Ranges.{top};
@@ -14,7 +16,7 @@ const MESSAGE_STORES: u64 = MESSAGE_LEN + 1;
 
 // The record of a save: its blocks go to `start` and its message to `place`; `len` is the length of the blocks, `done`
 // the number of the stores that are made.
-#[derive(Drop)]
+#[derive(Clone, Copy)]
 pub struct Save {
     pub start: u64,
     pub place: u64,
@@ -22,7 +24,7 @@ pub struct Save {
     pub done: u64,
 }
 
-#[derive(Drop)]
+#[derive(Clone, Copy)]
 pub enum Step {
     // A store was made; the record after it.
     Stored(Save),
@@ -32,7 +34,7 @@ pub enum Step {
 }
 
 // A byte and the place in the image that it goes to.
-#[derive(Drop)]
+#[derive(Clone, Copy)]
 pub struct Store {
     pub place: usize,
     pub byte: u8,

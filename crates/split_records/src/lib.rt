@@ -1,4 +1,6 @@
 // Sections cut at page boundaries, into a lent run of records.
+#![tactic(auto)]
+
 ghost use Rattle.std.specs.Prelude.{◌≡◌, ◌∷◌, ◌-◌, ◌*◌, ◌^◌, ◌≤◌, ◌<◌, false, length};
 ghost use Rattle.error.specs.Lent.{left, leaving};
 ghost use Rattle.fsm_sections.specs.Sections.{decode};
@@ -12,7 +14,7 @@ use fsm_sections::FreeSection;
 use numbers::min;
 
 // A piece, and how far the cutting is then: `done` bytes of section `section`.
-#[derive(Drop)]
+#[derive(Clone, Copy)]
 struct Cut {
     piece: FreeSection,
     section: usize,

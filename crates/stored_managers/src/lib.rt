@@ -1,4 +1,6 @@
 // The managers of a paged file in its bytes, at any offset size.
+#![tactic(auto)]
+
 ghost use Rattle.std.specs.Prelude.{◌≡◌};
 ghost use Rattle.error.specs.Outcome.{answer};
 ghost use Rattle.error.specs.Lent.{left, leaving};

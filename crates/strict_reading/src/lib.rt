@@ -1,4 +1,6 @@
 // The strict reading beside the loose one.
+#![tactic(auto)]
+
 ghost use Rattle.std.specs.Prelude.{◌≡◌};
 ghost use Rattle.error.specs.Lent.{left, leaving};
 ghost use Rattle.fsm_blocks.specs.declared.checks.Reading.TheVariants.{Loose, Strict};
@@ -14,14 +16,14 @@ use fsm_blocks::persisted::{read_persisted_sections, read_persisted_sections_str
 use image::{ImageRead, read_image, read_image_strict};
 
 // What both readings of managers answer.
-#[derive(Drop)]
+#[derive(Clone, Copy)]
 pub struct SectionsReadings {
     pub strict: SectionsAnswer,
     pub loose: SectionsAnswer,
 }
 
 // What both readings of an image answer.
-#[derive(Drop)]
+#[derive(Clone, Copy)]
 pub struct ImageReadings {
     pub strict: ImageRead,
     pub loose: ImageRead,

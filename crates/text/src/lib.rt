@@ -1,3 +1,5 @@
 // Text in lent bytes: numbers in decimal, and words.
+#![tactic(auto)]
+
 mod decimal;
 pub mod words;

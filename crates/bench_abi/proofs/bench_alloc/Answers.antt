@@ -1,0 +1,10 @@
+use mathlib.Core.Path.{ap, ◌∙◌}
+use Prim.Native.Nat.{ℕ}
+use Rattle.error.specs.Lent.{with}
+use Rattle.bench_abi.specs.Totals.{given_left}
+use Rattle.bench_abi.proofs.bench_alloc.Goals as goal
+
+pub returns : goal.returns
+returns c =
+    let d = c.alloc in
+    ap (λ (n : ℕ). with n d.new.1.0) c.given_total.ensures ∙ ap given_left d.ensures

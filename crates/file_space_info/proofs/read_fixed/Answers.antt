@@ -1,0 +1,46 @@
+-- both sizes are within 1 to 8 where the code goes on
+use borrow.Author.Tests.{not-true, not-false}
+use mathlib.Core.Path.{◌≡◌, sym, ap, ◌∙◌}
+use mathlib.Core.Bool.{true, ◌&&◌}
+use native.Mathlib.Omega.{arith}
+use Rattle.error.specs.Outcome.{answer}
+use Rattle.fields.specs.Width.{valid_width}
+use Rattle.file_space_info.specs.Strategies.{strategy_outcome}
+use Rattle.file_space_info.proofs.ReadLaws.{sizes, read-width, read_short, read-version, read-refused, read_is}
+use Rattle.file_space_info.proofs.read_fixed.Goals as goal
+
+valid : (c : goal.Else-not-are_widths) → (valid_width c.args.offset_size && valid_width c.args.length_size) ≡ true
+valid c = sym c.are_widths.ensures ∙ not-false _ c.if-not-are_widths.false
+
+pub returns-then-not-are_widths : goal.returns-then-not-are_widths
+returns-then-not-are_widths c =
+    let a = c.args in
+    read-width a.offset_size a.length_size a.bytes.now (sym c.are_widths.ensures ∙ not-true _ c.if-not-are_widths.true)
+
+pub returns-then-bytes-fixed : goal.returns-then-bytes-fixed
+returns-then-bytes-fixed c =
+    let a = c.args in
+    read_short a.offset_size a.length_size a.bytes.now (valid c.before.before) _ c.fixed_len-fixed.ensures (omega arith)
+
+pub returns-then-version-ne1 : goal.returns-then-version-ne1
+returns-then-version-ne1 c =
+    let a = c.args in
+    read-version a.offset_size a.length_size a.bytes.now (valid c.before.before.before.before) (omega arith) (λ e. omega arith)
+
+pub fixed_fields-requires : goal.fixed_fields-requires
+fixed_fields-requires c =
+    let s = sizes _ _ (valid c.before.before.before.before.before.before.before.before.before) in
+    (s.os-high, s.ls-high, omega arith)
+
+pub returns-in-Refused : goal.returns-in-Refused
+returns-in-Refused c =
+    let a = c.args in
+    read-refused a.offset_size a.length_size a.bytes.now (valid c.before.before.before.before.before.before.before.before.before) (omega arith) (omega arith) c.in-Refused.r
+    (sym (ap strategy_outcome c.in-Refused.is) ∙ c.from_code.ensures)
+
+pub returns-in-Is : goal.returns-in-Is
+returns-in-Is c =
+    let a = c.args in
+    ap answer c.fixed_fields.ensures
+    ∙ read_is a.offset_size a.length_size a.bytes.now (valid c.before.before.before.before.before.before.before.before.before.before) (omega arith) (omega arith) _
+    (sym (ap strategy_outcome c.in-Is.is) ∙ c.from_code.ensures)

@@ -1,0 +1,94 @@
+-- the last region goes, and nothing comes
+use Rattle.std.proofs.Common.{◌≡◌, ◌+◌, ◌-◌, ◌≤◌, [], sym, ap, ◌∙◌, arith}
+use borrow.Author.Tests.{not-true, not-false}
+use Rattle.free_space.specs.declared.run.Patch.TheVariants.{Empty}
+use Rattle.free_space.specs.Runs.{regions}
+use Rattle.free_space.specs.Splices.{Goes, Replaces}
+use Rattle.free_space.specs.Decisions.{given_by}
+use Rattle.free_space.proofs.ListLaws.{listed}
+use Rattle.free_space.proofs.CheckLaws.{read_fits}
+use Rattle.free_space.proofs.PlaceLaws.{goes_one}
+use Rattle.free_space.proofs.SpliceLaws.{given-fitted, new_total, gone_less}
+use Rattle.free_space.proofs.AnswerLaws.{trailing_bad, trailing-none, trailing-other, trailing-last}
+use Rattle.free_space.proofs.decide.decide_trailing.Goals as goal
+
+pub returns-then-not-is_list : goal.returns-then-not-is_list
+returns-then-not-is_list c =
+    let a = c.args in
+    let t = c.is_list in
+    (trailing_bad a.run.now a.list a.eof (sym t.ensures ∙ not-true t.result c.if-not-is_list.true), tt)
+
+pub returns-then-count-eq0 : goal.returns-then-count-eq0
+returns-then-count-eq0 c =
+    let a = c.args in
+    let t = c.is_list in
+    (trailing-none a.run.now a.list a.eof (sym t.ensures ∙ not-false t.result c.if-not-is_list.false) c.if-count-eq0.true, tt)
+
+pub region_at-r-requires : goal.region_at-r-requires
+region_at-r-requires c =
+    let a = c.args in
+    let t = c.is_list in
+    let room = (listed a.run.now a.list (sym t.ensures ∙ not-false t.result c.if-not-is_list.false)).room in
+    omega arith
+
+pub overflow_add-r : goal.overflow_add-r
+overflow_add-r c =
+    let a = c.args in
+    let t = c.is_list in
+    let ok = sym t.ensures ∙ not-false t.result c.if-not-is_list.false in
+    let g = c.region_at-r in
+    let f = read_fits a.run.now a.list (a.list.count - 1) g.result ok (omega arith) g.ensures in
+    omega arith
+
+pub returns-then-r-eof : goal.returns-then-r-eof
+returns-then-r-eof c =
+    let a = c.args in
+    let t = c.is_list in
+    let g = c.region_at-r in
+    let ok = sym t.ensures ∙ not-false t.result c.if-not-is_list.false in
+    (trailing-other a.run.now a.list a.eof ok c.if-count-eq0.false g.result g.ensures c.if-r-eof.true, tt)
+
+goes : (s : goal.Else-r-eof) → let a = s.args in Goes (regions a.run.now a.list) (a.list.count - 1) a.list.count s.region_at-r.result.len
+goes s =
+    let a = s.args in
+    let t = s.is_list in
+    let g = s.region_at-r in
+    let n = a.list.count in
+    let e : n - 1 + 1 ≡ n = omega (arith, s.if-count-eq0.false) in
+    rw e at (goes_one a.run.now a.list (sym t.ensures ∙ not-false t.result s.if-not-is_list.false) (n - 1) g.result (omega (arith, s.if-count-eq0.false)) g.ensures)
+
+less : (s : goal.Else-r-eof) → s.region_at-r.result.len ≤ s.args.list.total
+less s =
+    let a = s.args in
+    let t = s.is_list in
+    gone_less a.run.now a.list (a.list.count - 1) a.list.count s.region_at-r.result.len (sym t.ensures ∙ not-false t.result s.if-not-is_list.false) (goes s)
+
+replaces : (s : goal.Else-r-eof) → let a = s.args in
+    Replaces a.run.now a.list (a.list.count - 1) a.list.count (a.list.total - s.region_at-r.result.len) []
+replaces s =
+    let a = s.args in
+    let t = s.is_list in
+    let n = a.list.count in
+    let len = s.region_at-r.result.len in
+    let ok = sym t.ensures ∙ not-false t.result s.if-not-is_list.false in
+    record { list = ok; order = omega arith; within = omega arith; sum = new_total a.run.now a.list (n - 1) n len _ [] ok (goes s) (omega (arith, less s)) }
+
+pub overflow_sub-list : goal.overflow_sub-list
+overflow_sub-list c = omega (arith, less c.before.before)
+
+pub change-requires : goal.change-requires
+change-requires c = replaces c.before.before
+
+pub returns : goal.returns
+returns c =
+    let a = c.args in
+    let t = c.is_list in
+    let g = c.region_at-r in
+    let xs = a.run.now in
+    let l = a.list in
+    let ok = sym t.ensures ∙ not-false t.result c.if-not-is_list.false in (
+      ap (given_by xs l) c.change.ensures.0
+          ∙ given-fitted xs l g.result.addr _ l.count _ Empty (replaces c.before.before.before)
+          ∙ trailing-last xs l a.eof ok c.if-count-eq0.false g.result g.ensures c.if-r-eof.false,
+      c.change.ensures.1,
+    )

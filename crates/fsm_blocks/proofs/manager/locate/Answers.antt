@@ -1,0 +1,46 @@
+-- the slot is not the undefined address
+use mathlib.Core.Path.{◌≡◌, sym, ◌∙◌}
+use Rattle.fields.specs.Ranges.{undefined_addr}
+use Rattle.fields.proofs.RangeLaws.{ones_are}
+use Rattle.fsm_blocks.proofs.NamedLaws.{sum_over, sum_is, manager-none, manager_wraps, manager-past, manager-refused, manager-is}
+use Rattle.fsm_blocks.proofs.manager.locate.Goals as goal
+
+defined : (c : goal.Else-slot-undefined_addr) → c.args.slot ≡ undefined_addr c.args.offset_size → ⊥
+defined c e = c.if-slot-undefined_addr.false (e ∙ sym (ones_are _ _ c.requires c.undefined_addr.ensures))
+
+pub returns-then-slot-undefined_addr : goal.returns-then-slot-undefined_addr
+returns-then-slot-undefined_addr c =
+    let a = c.args in
+    record { named = manager-none a.reading a.offset_size a.base.0 a.slot a.bytes.now (c.if-slot-undefined_addr.true ∙ ones_are _ _ c.requires c.undefined_addr.ensures); inside = tt }
+
+pub returns-in_default : goal.returns-in_default
+returns-in_default c =
+    let a = c.args in
+    record { named = manager_wraps a.reading a.offset_size a.base.0 a.slot a.bytes.now (defined c.before.before.before) (sum_over a.slot a.base.0 c.absolute.ensures _ c.in_default.is); inside = tt }
+
+pub returns-then-bytes-start : goal.returns-then-bytes-start
+returns-then-bytes-start c =
+    let a = c.args in
+    record { named = manager-past a.reading a.offset_size a.base.0 a.slot a.bytes.now (defined c.before.before.before.before.before) _ (sum_is a.slot a.base.0 c.absolute.ensures _ c.in-Is.is) c.if-bytes-start.true; inside = tt }
+
+pub returns-in_default-answer : goal.returns-in_default-answer
+returns-in_default-answer c =
+    let a = c.args in
+    record {
+      named = manager-refused a.reading a.offset_size a.base.0 a.slot a.bytes.now (defined c.before.before.before.before.before.before.before.before.before.before) _ (sum_is a.slot a.base.0 c.absolute.ensures _ c.in-Is.is) c.if-bytes-start.false
+          c.requires c.header_at-answer.ensures _ _ c.in_default-answer.is c.refusal_in.ensures;
+      inside = tt;
+    }
+
+pub list_of-requires : goal.list_of-requires
+list_of-requires c = c.requires
+
+pub returns : goal.returns
+returns c =
+    let a = c.args in
+    record {
+      named = c.list_of.ensures.0
+          ∙ manager-is a.reading a.offset_size a.base.0 a.slot a.bytes.now (defined c.before.before.before.before.before.before.before.before.before.before.before) _ (sum_is a.slot a.base.0 c.absolute.ensures _ c.in-Is.is) c.if-bytes-start.false
+          c.requires c.header_at-answer.ensures _ c.in-Header.is;
+      inside = c.list_of.ensures.1;
+    }

@@ -1,0 +1,72 @@
+-- the list that was found lies within the bytes, and its sections are the manager's
+use mathlib.Core.Path.{◌≡◌, sym, ap, ◌∙◌, subst}
+use mathlib.Core.List.{List}
+use Prim.Native.Nat.{◌+◌, ◌-◌, ◌≤◌}
+use native.Mathlib.Omega.{arith}
+use lib.ListN.{length}
+use Rattle.error.specs.Outcome.{Outcome}
+use Rattle.error.specs.Lent.{over}
+use Rattle.fields.specs.Layout.{window}
+use Rattle.fsm_sections.specs.declared.FreeSection.{FreeSection}
+use Rattle.fsm_sections.specs.Sections.{flat}
+use Rattle.fsm_blocks.specs.declared.checks.Reading.TheVariants.{Loose}
+use Rattle.fsm_blocks.specs.Parts.{got, Accepted, sections_by}
+use Rattle.fsm_blocks.specs.Reading.{readManager}
+use Rattle.fsm_blocks.proofs.SlotsLaws.{inside-at, put-none, put_refused, list-is, list-total}
+use borrow.Author.Rules.{rules}
+use Rattle.fsm_blocks.proofs.manager.put_manager.Goals as goal
+
+pub locate-found-requires : goal.locate-found-requires
+locate-found-requires c = c.requires.width
+
+inside : (c : goal.In-At)
+    → c.in-At.start + c.in-At.header.fsse_used ≤ length c.args.bytes.now
+inside c = inside-at _ _ _ _ c.locate-found.ensures.1 c.in-At.is
+
+sections : (c : goal.In-At)
+    → let a = c.args in
+    let g = c.found-1.given.0 in
+    sections_by g.1.0 a.offset_size (window g.0 (g.0 + g.1.0.fsse_used - g.0) a.bytes.now) ≡ readManager Loose a.offset_size a.base.0 a.slot a.bytes.now
+sections c =
+    let a = c.args in
+    list-is Loose a.offset_size a.base.0 a.slot a.bytes.now _ c.locate-found.ensures.0 c.in-At.start c.in-At.header c.in-At.is
+
+total : (c : goal.In-At)
+    → let a = c.args in
+    length (got (readManager Loose a.offset_size a.base.0 a.slot a.bytes.now)) ≡ c.in-At.header.total_sections
+total c =
+    list-total Loose c.args.offset_size c.args.base.0 c.args.slot c.args.bytes.now _ c.locate-found.ensures.0 c.in-At.start c.in-At.header c.in-At.is c.requires.accepted.0
+
+pub overflow_add-end : goal.overflow_add-end
+overflow_add-end c = omega (arith, inside c)
+
+pub slice_bounds-put_fsse-end : goal.slice_bounds-put_fsse-end
+slice_bounds-put_fsse-end c = let h = inside c in search rules
+
+pub put_fsse-requires : goal.put_fsse-requires
+put_fsse-requires c =
+    let every = let e = sections c.before.before in
+    (c.requires.width, (subst Accepted (sym e) c.requires.accepted.0, omega (arith, total c.before.before, c.requires.accepted.1))) in
+    record { width = every.0; accepted = every.1; room = every.2 }
+
+pub overflow_mul-result : goal.overflow_mul-result
+overflow_mul-result c = omega (arith, total c.before.before.before.before.before, c.requires.accepted.1)
+
+pub overflow_add-result : goal.overflow_add-result
+overflow_add-result c = omega (arith, total c.before.before.before.before.before, c.requires.accepted.1)
+
+pub returns-in-Nowhere : goal.returns-in-Nowhere
+returns-in-Nowhere c =
+    let every = let a = c.args in
+    put-none Loose a.offset_size a.base.0 a.slot a.bytes.now _ c.locate-found.ensures.0 c.in-Nowhere.is a.from a.out.now in
+    record { put = every.0; next = every.1 }
+
+pub returns-in-Refused : goal.returns-in-Refused
+returns-in-Refused c =
+    let every = put_refused Loose c.args.offset_size c.args.base.0 c.args.slot c.args.bytes.now _ c.locate-found.ensures.0 _ c.in-Refused.is c.requires.accepted.0 c.args.from c.args.out.now in
+    record { put = every.0; next = every.1 }
+
+pub returns-in-At : goal.returns-in-At
+returns-in-At c =
+    let a = c.args in
+    record { put = c.put_fsse.ensures ∙ ap (λ (o : Outcome (List FreeSection)). over a.from (flat (got o)) a.out.now) (sections c.before.before.before.before.before); next = omega (arith, total c.before.before.before.before.before) }

@@ -1,0 +1,32 @@
+use Prim.Native.Nat.{◌-◌}
+use Rattle.fsm_blocks.specs.declared.checks.Reading.TheVariants.{Loose}
+use Rattle.fsm_blocks.proofs.SlotsLaws.{store-start, store_step, store-end, slot-accepted, slot-room}
+use Rattle.fsm_blocks.proofs.persisted.put_slots.Goals as goal
+
+pub loop-i-init : goal.loop-i-init
+loop-i-init c =
+    store-start Loose c.args.offset_size c.args.base.0 c.args.bytes.now c.args.slots.now c.args.out.now c.requires.accepted.0 c.requires.accepted.1
+
+pub put_manager-k-requires : goal.put_manager-k-requires
+put_manager-k-requires c =
+    let every = let l = c.loop-i in (
+      c.requires.width,
+      (slot-accepted Loose c.args.offset_size c.args.base.0 c.args.bytes.now c.args.slots.now c.args.out.now l.out l.k l.i l.invariant c.loop-i-test.true, slot-room Loose c.args.offset_size c.args.base.0 c.args.bytes.now c.args.slots.now c.args.out.now l.out l.k l.i l.invariant c.loop-i-test.true),
+    ) in
+    record { width = every.0; accepted = every.1; room = every.2 }
+
+pub loop-i-preserved : goal.loop-i-preserved
+loop-i-preserved c =
+    let a = c.args in
+    let l = c.loop-i in
+    let e = c.put_manager-k.ensures in
+    store_step Loose a.offset_size a.base.0 a.bytes.now a.slots.now a.out.now l.out l.k l.i l.invariant c.loop-i-test.true _ _ e.0 e.1
+
+pub shape_of-out : goal.shape_of-out
+shape_of-out c = c.loop-i.invariant.same_length
+
+pub returns : goal.returns
+returns c =
+    let a = c.args in
+    let l = c.loop-i in
+    store-end Loose a.offset_size a.base.0 a.bytes.now a.slots.now a.out.now l.out l.k l.i l.invariant c.loop-i-test.false

@@ -1,0 +1,18 @@
+use Rattle.fsm_blocks.specs.declared.checks.Reading.TheVariants.{Loose, Strict}
+use Rattle.fsm_blocks.specs.Reading.{persisted}
+use Rattle.strict_reading.proofs.AlikeLaws.{persisted-alike, alike}
+use Rattle.strict_reading.proofs.read_sections_both.Goals as goal
+
+pub returns : goal.returns
+returns c =
+    let every = let a = c.args in
+    let s = a.slots.now in
+    let b = a.bytes.now in (
+      c.read_persisted_sections_strict-first.ensures,
+      (
+        c.read_persisted_sections-second.ensures,
+        alike (persisted Strict s a.base.0 a.offset_size b) (persisted Loose s a.base.0 a.offset_size b) (persisted-alike s a.base.0 a.offset_size b) _ _ _ _ _ _
+            c.read_persisted_sections_strict-first.ensures c.read_persisted_sections-second.ensures,
+      ),
+    ) in
+    record { strict = every.0; loose = every.1; alike = every.2 }
