@@ -10,12 +10,12 @@ use Rattle.file_space_info.proofs.ReadLaws.{sizes, read-width, read_short, read-
 use Rattle.file_space_info.proofs.read_fixed.Goals as goal
 
 valid : (c : goal.Else-not-are_widths) → (valid_width c.args.offset_size && valid_width c.args.length_size) ≡ true
-valid c = sym c.are_widths.ensures ∙ not-false _ c.if-not-are_widths.false
+valid c = sym c.are_widths.ensures ∙ c.if-not-are_widths.false
 
 pub returns-then-not-are_widths : goal.returns-then-not-are_widths
 returns-then-not-are_widths c =
     let a = c.args in
-    read-width a.offset_size a.length_size a.bytes.now (sym c.are_widths.ensures ∙ not-true _ c.if-not-are_widths.true)
+    read-width a.offset_size a.length_size a.bytes.now (sym c.are_widths.ensures ∙ c.if-not-are_widths.true)
 
 pub returns-then-bytes-fixed : goal.returns-then-bytes-fixed
 returns-then-bytes-fixed c =
@@ -30,7 +30,7 @@ returns-then-version-ne1 c =
 pub fixed_fields-requires : goal.fixed_fields-requires
 fixed_fields-requires c =
     let s = sizes _ _ (valid c.before.before.before.before.before.before.before.before.before) in
-    (s.os-high, s.ls-high, omega arith)
+    (s.os_high, s.ls_high, omega arith)
 
 pub returns-in-Refused : goal.returns-in-Refused
 returns-in-Refused c =

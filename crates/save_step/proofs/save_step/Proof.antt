@@ -42,7 +42,7 @@ next-store-requires c κs = (inside-more (omega arith) (stays c), number c)
 add_done : tie.Need-overflow-add-done
 add_done c =
     let n = number c.before.before in
-    let r = (stays c.before.before).both-lent in
+    let r = (stays c.before.before).both_lent in
     omega arith
 
 slice-write-image : tie.Need-slice-write-image

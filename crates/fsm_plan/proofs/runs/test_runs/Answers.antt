@@ -17,16 +17,16 @@ returns-then-page-eq0 c =
 pub returns-then-not-are_runs : goal.returns-then-not-are_runs
 returns-then-not-are_runs c =
     let a = c.args in
-    test_lists a.a.now a.b.now a.c.now a.n a.page a.offset_size (ap not (sym c.is_width.ensures) ∙ c.if-not-is_width.false) c.if-page-eq0.false c.are_runs.result c.are_runs.ensures (not-true c.are_runs.result c.if-not-are_runs.true)
+    test_lists a.a.now a.b.now a.c.now a.n a.page a.offset_size (ap not (sym c.is_width.ensures) ∙ c.if-not-is_width.false) c.if-page-eq0.false c.are_runs.result c.are_runs.ensures c.if-not-are_runs.true
 
 pub returns-then-are_late : goal.returns-then-are_late
 returns-then-are_late c =
     let a = c.args in
     test_ends a.a.now a.b.now a.c.now a.n a.page a.offset_size (ap not (sym c.is_width.ensures) ∙ c.if-not-is_width.false) c.if-page-eq0.false c.are_runs.result c.are_runs.ensures
-    (not-false c.are_runs.result c.if-not-are_runs.false) c.are_late.result c.are_late.ensures c.if-are_late.true
+    c.if-not-are_runs.false c.are_late.result c.are_late.ensures c.if-are_late.true
 
 pub returns : goal.returns
 returns c =
     let a = c.args in
     test_fine a.a.now a.b.now a.c.now a.n a.page a.offset_size (ap not (sym c.is_width.ensures) ∙ c.if-not-is_width.false) c.if-page-eq0.false c.are_runs.result c.are_runs.ensures
-    (not-false c.are_runs.result c.if-not-are_runs.false) c.are_late.result c.are_late.ensures c.if-are_late.false
+    c.if-not-are_runs.false c.are_late.result c.are_late.ensures c.if-are_late.false
