@@ -6,7 +6,7 @@ use Rattle.end_to_end.proofs.call_save_read.Goals as goal
 
 pub returns : goal.returns
 returns c =
-    let every = let a = c.args in
+    let a = c.args in
     let image = a.image.now in
     let scratch = a.scratch.now in
     let out = a.out.now in
@@ -18,5 +18,4 @@ returns c =
     let shown =
     demanded runs (calls_of a.calls.now) a.to.page a.to.start a.to.place a.k image scratch out _
     (omega (arith, c.well_formed)) (omega (arith, c.well_formed)) cut in
-    (c.make_calls-lists.ensures, (cut, (c.step_and_read-saved.ensures.1, shown))) in
-    record { lists = every.0; cut = every.1; counted = every.2; demand = every.3 }
+    record { lists = c.make_calls-lists.ensures; cut = cut; counted = c.step_and_read-saved.ensures.1; demand = shown }

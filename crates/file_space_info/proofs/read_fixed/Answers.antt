@@ -9,9 +9,6 @@ use Rattle.file_space_info.specs.Strategies.{strategy_outcome}
 use Rattle.file_space_info.proofs.ReadLaws.{sizes, read-width, read_short, read-version, read-refused, read_is}
 use Rattle.file_space_info.proofs.read_fixed.Goals as goal
 
-valid : (c : goal.Else-not-are_widths) → (valid_width c.args.offset_size && valid_width c.args.length_size) ≡ true
-valid c = sym c.are_widths.ensures ∙ c.if-not-are_widths.false
-
 pub returns-then-not-are_widths : goal.returns-then-not-are_widths
 returns-then-not-are_widths c =
     let a = c.args in
@@ -19,28 +16,33 @@ returns-then-not-are_widths c =
 
 pub returns-then-bytes-fixed : goal.returns-then-bytes-fixed
 returns-then-bytes-fixed c =
+    let valid : ((valid_width c.args.offset_size && valid_width c.args.length_size) ≡ true) = sym c.are_widths.ensures ∙ c.if-not-are_widths.false in
     let a = c.args in
-    read_short a.offset_size a.length_size a.bytes.now (valid c.before.before) _ c.fixed_len-fixed.ensures (omega arith)
+    read_short a.offset_size a.length_size a.bytes.now valid _ c.fixed_len-fixed.ensures (omega arith)
 
 pub returns-then-version-ne1 : goal.returns-then-version-ne1
 returns-then-version-ne1 c =
+    let valid : ((valid_width c.args.offset_size && valid_width c.args.length_size) ≡ true) = sym c.are_widths.ensures ∙ c.if-not-are_widths.false in
     let a = c.args in
-    read-version a.offset_size a.length_size a.bytes.now (valid c.before.before.before.before) (omega arith) (λ e. omega arith)
+    read-version a.offset_size a.length_size a.bytes.now valid (omega arith) (λ e. omega arith)
 
 pub fixed_fields-requires : goal.fixed_fields-requires
 fixed_fields-requires c =
-    let s = sizes _ _ (valid c.before.before.before.before.before.before.before.before.before) in
+    let valid : ((valid_width c.args.offset_size && valid_width c.args.length_size) ≡ true) = sym c.are_widths.ensures ∙ c.if-not-are_widths.false in
+    let s = sizes _ _ valid in
     (s.os_high, s.ls_high, omega arith)
 
 pub returns-in-Refused : goal.returns-in-Refused
 returns-in-Refused c =
+    let valid : ((valid_width c.args.offset_size && valid_width c.args.length_size) ≡ true) = sym c.are_widths.ensures ∙ c.if-not-are_widths.false in
     let a = c.args in
-    read-refused a.offset_size a.length_size a.bytes.now (valid c.before.before.before.before.before.before.before.before.before) (omega arith) (omega arith) c.in-Refused.r
+    read-refused a.offset_size a.length_size a.bytes.now valid (omega arith) (omega arith) c.in-Refused.r
     (sym (ap strategy_outcome c.in-Refused.is) ∙ c.from_code.ensures)
 
 pub returns-in-Is : goal.returns-in-Is
 returns-in-Is c =
+    let valid : ((valid_width c.args.offset_size && valid_width c.args.length_size) ≡ true) = sym c.are_widths.ensures ∙ c.if-not-are_widths.false in
     let a = c.args in
     ap answer c.fixed_fields.ensures
-    ∙ read_is a.offset_size a.length_size a.bytes.now (valid c.before.before.before.before.before.before.before.before.before.before) (omega arith) (omega arith) _
+    ∙ read_is a.offset_size a.length_size a.bytes.now valid (omega arith) (omega arith) _
     (sym (ap strategy_outcome c.in-Is.is) ∙ c.from_code.ensures)

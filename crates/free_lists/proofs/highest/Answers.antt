@@ -3,35 +3,79 @@ use native.Mathlib.Omega.{arith}
 use Rattle.free_lists.proofs.TrailingLaws.{Heights, reached_none, some-meta, some-raw, some-unclassified, next-meta, next-raw, next-unclassified}
 use Rattle.free_lists.proofs.highest.Goals as goal
 
-heights : (s : goal.After-height_of-c) → let a = s.args in
-    Heights a.meta.now a.raw.now a.unclassified.now a.at s.height_of-a.result s.height_of-b.result s.height_of-c.result
-heights s = record {
-  order = s.requires;
-  meta = s.height_of-a.ensures;
-  raw = s.height_of-b.ensures;
-  unclassified = s.height_of-c.ensures;
-}
-
 pub returns-then-a-eq0 : goal.returns-then-a-eq0
-returns-then-a-eq0 c = reached_none (heights c.before.before.before) (omega arith) c.if-a-eq0.true
+returns-then-a-eq0 c =
+    let heights : (let a = c.args in
+    Heights a.meta.now a.raw.now a.unclassified.now a.at c.height_of-a.result c.height_of-b.result c.height_of-c.result) = record {
+      order = c.requires;
+      meta = c.height_of-a.ensures;
+      raw = c.height_of-b.ensures;
+      unclassified = c.height_of-c.ensures;
+    } in
+    reached_none heights (omega arith) c.if-a-eq0.true
 
 pub overflow_sub-last : goal.overflow_sub-last
-overflow_sub-last c = some-meta (heights c.before.before.before.before) c.if-a-eq0.false
+overflow_sub-last c =
+    let heights : (let a = c.args in
+    Heights a.meta.now a.raw.now a.unclassified.now a.at c.height_of-a.result c.height_of-b.result c.height_of-c.result) = record {
+      order = c.requires;
+      meta = c.height_of-a.ensures;
+      raw = c.height_of-b.ensures;
+      unclassified = c.height_of-c.ensures;
+    } in
+    some-meta heights c.if-a-eq0.false
 
 pub returns-then-max-a : goal.returns-then-max-a
 returns-then-max-a c =
-    next-meta (heights c.before.before.before.before.before) _ c.nth_region.ensures (omega arith) c.if-a-eq0.false
+    let heights : (let a = c.args in
+    Heights a.meta.now a.raw.now a.unclassified.now a.at c.height_of-a.result c.height_of-b.result c.height_of-c.result) = record {
+      order = c.requires;
+      meta = c.height_of-a.ensures;
+      raw = c.height_of-b.ensures;
+      unclassified = c.height_of-c.ensures;
+    } in
+    next-meta heights _ c.nth_region.ensures (omega arith) c.if-a-eq0.false
 
 pub overflow_sub-last-then-c-b : goal.overflow_sub-last-then-c-b
-overflow_sub-last-then-c-b c = some-raw (heights c.before.before.before.before) (omega arith) (omega arith)
+overflow_sub-last-then-c-b c =
+    let heights : (let a = c.args in
+    Heights a.meta.now a.raw.now a.unclassified.now a.at c.height_of-a.result c.height_of-b.result c.height_of-c.result) = record {
+      order = c.requires;
+      meta = c.height_of-a.ensures;
+      raw = c.height_of-b.ensures;
+      unclassified = c.height_of-c.ensures;
+    } in
+    some-raw heights (omega arith) (omega arith)
 
 pub returns-then-c-b : goal.returns-then-c-b
 returns-then-c-b c =
-    next-raw (heights c.before.before.before.before.before) _ c.nth_region-then-c-b.ensures (omega arith) (omega arith)
+    let heights : (let a = c.args in
+    Heights a.meta.now a.raw.now a.unclassified.now a.at c.height_of-a.result c.height_of-b.result c.height_of-c.result) = record {
+      order = c.requires;
+      meta = c.height_of-a.ensures;
+      raw = c.height_of-b.ensures;
+      unclassified = c.height_of-c.ensures;
+    } in
+    next-raw heights _ c.nth_region-then-c-b.ensures (omega arith) (omega arith)
 
 pub overflow_sub-last-2 : goal.overflow_sub-last-2
-overflow_sub-last-2 c = some-unclassified (heights c.before.before.before.before) (omega arith) (omega arith)
+overflow_sub-last-2 c =
+    let heights : (let a = c.args in
+    Heights a.meta.now a.raw.now a.unclassified.now a.at c.height_of-a.result c.height_of-b.result c.height_of-c.result) = record {
+      order = c.requires;
+      meta = c.height_of-a.ensures;
+      raw = c.height_of-b.ensures;
+      unclassified = c.height_of-c.ensures;
+    } in
+    some-unclassified heights (omega arith) (omega arith)
 
 pub returns : goal.returns
 returns c =
-    next-unclassified (heights c.before.before.before.before.before) _ c.nth_region-2.ensures (omega arith) (omega arith)
+    let heights : (let a = c.args in
+    Heights a.meta.now a.raw.now a.unclassified.now a.at c.height_of-a.result c.height_of-b.result c.height_of-c.result) = record {
+      order = c.requires;
+      meta = c.height_of-a.ensures;
+      raw = c.height_of-b.ensures;
+      unclassified = c.height_of-c.ensures;
+    } in
+    next-unclassified heights _ c.nth_region-2.ensures (omega arith) (omega arith)

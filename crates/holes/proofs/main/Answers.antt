@@ -5,11 +5,12 @@ use lib.ListN.{length}
 use lib.Seq.{length-take-le}
 use Rattle.holes.proofs.main.Goals as goal
 
-inside : (c : goal.After-write_text-len) → c.write_text-len.result ≤ length c.write_text-len.new.1.0
-inside c = c.write_text-len.ensures.0
-
 pub slice_bounds-text-end : goal.slice_bounds-text-end
-slice_bounds-text-end c = inside c.before
+slice_bounds-text-end c =
+    let inside : (c.write_text-len.result ≤ length c.write_text-len.new.1.0) = c.write_text-len.ensures.0 in
+    inside
 
 pub slice_bounds-write_all-end : goal.slice_bounds-write_all-end
-slice_bounds-write_all-end c = sym (length-take-le _ _ (inside c.before.before))
+slice_bounds-write_all-end c =
+    let inside : (c.write_text-len.result ≤ length c.write_text-len.new.1.0) = c.write_text-len.ensures.0 in
+    sym (length-take-le _ _ inside)

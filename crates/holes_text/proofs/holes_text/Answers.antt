@@ -13,16 +13,17 @@ returns-then-out-n c =
     let a = c.args in
     written-refused a.image.now c.text_memory-text.result c.text_memory-text.ensures c.print-n.ensures a.out.now c.if-out-n.true
 
-inside : (c : goal.After-print-n) → c.print-n.result ≤ length c.print-n.new.1.0
-inside c =
-    let a = c.args in
-    after-inside 0 (holes_text a.image.now) c.text_memory-text.result c.print-n.ensures
-
 pub slice_bounds-text-end : goal.slice_bounds-text-end
-slice_bounds-text-end c = inside c.before.before.before
+slice_bounds-text-end c =
+    let inside : (c.print-n.result ≤ length c.print-n.new.1.0) = let a = c.args in
+    after-inside 0 (holes_text a.image.now) c.text_memory-text.result c.print-n.ensures in
+    inside
 
 pub slice_bounds-write_bytes-end : goal.slice_bounds-write_bytes-end
-slice_bounds-write_bytes-end c = sym (length-take-le _ _ (inside c.before.before.before.before))
+slice_bounds-write_bytes-end c =
+    let inside : (c.print-n.result ≤ length c.print-n.new.1.0) = let a = c.args in
+    after-inside 0 (holes_text a.image.now) c.text_memory-text.result c.print-n.ensures in
+    sym (length-take-le _ _ inside)
 
 pub returns : goal.returns
 returns c =

@@ -27,9 +27,8 @@ refuse_early-requires c =
 
 pub begin_after-requires : goal.begin_after-requires
 begin_after-requires c =
-    let every = let a = c.args in
-    (begin_asks (lists_in a.meta.now a.raw.now a.unclassified.now a.lists) a.to.page a.to.start a.to.place a.image.now a.scratch.now c.if-to-eq0.false _ c.are_lists.ensures c.if-not-are_lists.false, (begin_apart (lists_in a.meta.now a.raw.now a.unclassified.now a.lists) a.to.page a.to.start a.to.place a.image.now a.scratch.now c.if-to-eq0.false _ c.are_lists.ensures c.if-not-are_lists.false _ c.test_early-early.ensures c.in-Passed.is, begin_message (lists_in a.meta.now a.raw.now a.unclassified.now a.lists) a.to.page a.to.start a.to.place a.image.now a.scratch.now c.if-to-eq0.false _ c.are_lists.ensures c.if-not-are_lists.false _ c.test_early-early.ensures c.in-Passed.is)) in
-    record { lists = every.0; apart = every.1; message = every.2 }
+    let a = c.args in
+    record { lists = begin_asks (lists_in a.meta.now a.raw.now a.unclassified.now a.lists) a.to.page a.to.start a.to.place a.image.now a.scratch.now c.if-to-eq0.false _ c.are_lists.ensures c.if-not-are_lists.false; apart = begin_apart (lists_in a.meta.now a.raw.now a.unclassified.now a.lists) a.to.page a.to.start a.to.place a.image.now a.scratch.now c.if-to-eq0.false _ c.are_lists.ensures c.if-not-are_lists.false _ c.test_early-early.ensures c.in-Passed.is; message = begin_message (lists_in a.meta.now a.raw.now a.unclassified.now a.lists) a.to.page a.to.start a.to.place a.image.now a.scratch.now c.if-to-eq0.false _ c.are_lists.ensures c.if-not-are_lists.false _ c.test_early-early.ensures c.in-Passed.is }
 
 pub returns-in-Refused : goal.returns-in-Refused
 returns-in-Refused c =

@@ -20,17 +20,14 @@ loop-i-preserved c =
     let z : 0 < length (pieces_left a.page a.count a.sections.now (l.i + 1) 0) = omega (arith, ap length e, c.requires.3) in
     (within a.page a.count a.sections.now c.requires.1 (l.i + 1) 0 z, e)
 
-ends : (c : goal.After-loop-i) → let r = section_at c.args.sections.now c.loop-i.i in r.addr + r.size < 2 ^ 64
-ends c =
-    let l = c.loop-i in
-    let a = c.args in
-    fits-here a.count a.sections.now c.requires.1 c.requires.2 l.i l.invariant.0
-
 pub overflow_add-a : goal.overflow_add-a
 overflow_add-a c =
+    let ends : (let r = section_at c.args.sections.now c.loop-i.i in r.addr + r.size < 2 ^ 64) = let l = c.loop-i in
+    let a = c.args in
+    fits-here a.count a.sections.now c.requires.1 c.requires.2 l.i l.invariant.0 in
     let l = c.loop-i in
     let r = section_at c.args.sections.now l.i in
-    let h : r.addr + l.d < 2 ^ 64 = omega (arith, ends c.before, c.loop-i-test.false) in
+    let h : r.addr + l.d < 2 ^ 64 = omega (arith, ends, c.loop-i-test.false) in
     record { fits = h }
 
 pub overflow_sub-page : goal.overflow_sub-page
@@ -41,8 +38,11 @@ overflow_sub-page c =
 
 pub overflow_add-result : goal.overflow_add-result
 overflow_add-result c =
+    let ends : (let r = section_at c.args.sections.now c.loop-i.i in r.addr + r.size < 2 ^ 64) = let l = c.loop-i in
+    let a = c.args in
+    fits-here a.count a.sections.now c.requires.1 c.requires.2 l.i l.invariant.0 in
     let l = c.loop-i in
-    let h : l.d + c.min-z.result < 2 ^ 64 = omega (arith, ends c.before.before.before, c.loop-i-test.false, c.min-z.ensures) in
+    let h : l.d + c.min-z.result < 2 ^ 64 = omega (arith, ends, c.loop-i-test.false, c.min-z.ensures) in
     record { fits = h }
 
 pub returns : goal.returns

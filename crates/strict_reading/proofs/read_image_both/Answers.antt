@@ -5,16 +5,7 @@ use Rattle.strict_reading.proofs.read_image_both.Goals as goal
 
 pub returns : goal.returns
 returns c =
-    let every = let a = c.args in
+    let a = c.args in
     let s = c.read_image_strict-first.ensures in
-    let l = c.read_image-second.ensures in (
-      s.0,
-      (
-        l.0,
-        (
-          (s.1, l.1),
-          alike (image_into Strict a.place a.image.now) (image_into Loose a.place a.image.now) (image-alike a.place a.image.now) _ _ _ _ _ _ s.0 l.0,
-        ),
-      ),
-    ) in
-    record { strict = every.0; loose = every.1; counted = every.2; alike = every.3 }
+    let l = c.read_image-second.ensures in
+    record { strict = s.0; loose = l.0; counted = (s.1, l.1); alike = alike (image_into Strict a.place a.image.now) (image_into Loose a.place a.image.now) (image-alike a.place a.image.now) _ _ _ _ _ _ s.0 l.0 }

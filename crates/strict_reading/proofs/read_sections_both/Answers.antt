@@ -5,14 +5,12 @@ use Rattle.strict_reading.proofs.read_sections_both.Goals as goal
 
 pub returns : goal.returns
 returns c =
-    let every = let a = c.args in
+    let a = c.args in
     let s = a.slots.now in
-    let b = a.bytes.now in (
-      c.read_persisted_sections_strict-first.ensures,
-      (
-        c.read_persisted_sections-second.ensures,
-        alike (persisted Strict s a.base.0 a.offset_size b) (persisted Loose s a.base.0 a.offset_size b) (persisted-alike s a.base.0 a.offset_size b) _ _ _ _ _ _
-            c.read_persisted_sections_strict-first.ensures c.read_persisted_sections-second.ensures,
-      ),
-    ) in
-    record { strict = every.0; loose = every.1; alike = every.2 }
+    let b = a.bytes.now in
+    record {
+      strict = c.read_persisted_sections_strict-first.ensures;
+      loose = c.read_persisted_sections-second.ensures;
+      alike = alike (persisted Strict s a.base.0 a.offset_size b) (persisted Loose s a.base.0 a.offset_size b) (persisted-alike s a.base.0 a.offset_size b) _ _ _ _ _ _
+          c.read_persisted_sections_strict-first.ensures c.read_persisted_sections-second.ensures;
+    }

@@ -12,7 +12,7 @@ returns-in-Refused c =
           (omega (arith, c.well_formed)) (omega (arith, c.well_formed)) (omega (arith, c.well_formed)) _ c.make_calls-lists.ensures
           c.begin_and_step-first.result _ _ c.begin_and_step-first.ensures _ c.in-Refused.is,
     ) in
-    record { lists = every.0; anew = every.1; uncut = every.2 }
+    record { lists = every.0; anew = every.1.0; uncut = every.1.1 }
 
 pub returns-in-Begun : goal.returns-in-Begun
 returns-in-Begun c =
@@ -24,4 +24,4 @@ returns-in-Begun c =
           c.begin_and_step-first.result _ _ c.begin_and_step-first.ensures _ c.in-Begun.is
           c.begin_and_step-second.result _ _ c.begin_and_step-second.ensures,
     ) in
-    record { lists = every.0; anew = every.1; uncut = every.2 }
+    record { lists = every.0; anew = every.1.0; uncut = every.1.1 }

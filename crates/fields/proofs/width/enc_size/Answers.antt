@@ -12,8 +12,7 @@ overflow_sub-bits c = leading_le 64 c.args.value
 pub returns-then-bytes-eq0 : goal.returns-then-bytes-eq0
 returns-then-bytes-eq0 c = one_byte c.args.value c.ranges.value.fits c.if-bytes-eq0.true
 
-some : (c : goal.Else-bytes-eq0) → 1 ≤ (64 - count_leading_zeros 64 c.args.value + 7) / 8
-some c = one-le_iff_ne-zero.1 c.if-bytes-eq0.false
-
 pub returns-else-bytes-eq0 : goal.returns-else-bytes-eq0
-returns-else-bytes-eq0 c = bytes_of c.args.value _ c.ranges.value.fits (some c) refl
+returns-else-bytes-eq0 c =
+    let some : (1 ≤ (64 - count_leading_zeros 64 c.args.value + 7) / 8) = one-le_iff_ne-zero.1 c.if-bytes-eq0.false in
+    bytes_of c.args.value _ c.ranges.value.fits some refl

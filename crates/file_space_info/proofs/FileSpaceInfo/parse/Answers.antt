@@ -6,27 +6,26 @@ use Rattle.file_space_info.specs.Message.{fixed_read, fixed_outcome}
 use Rattle.file_space_info.proofs.ReadLaws.{accepted, parsed-refused, count-within, parsed-over, parsed-is}
 use Rattle.file_space_info.proofs.FileSpaceInfo.parse.Goals as goal
 
-told : (c : goal.In-Is)
-    → let a = c.args in answer c.in-Is.info ≡ fixed_read a.offset_size a.length_size a.bytes.now
-told c = sym (ap fixed_outcome c.in-Is.is) ∙ c.read_fixed-fixed.ensures
-
 pub present_addrs-n-requires : goal.present_addrs-n-requires
 present_addrs-n-requires c =
-    let ok = accepted _ _ _ _ (told c) in
+    let told : (let a = c.args in answer c.in-Is.info ≡ fixed_read a.offset_size a.length_size a.bytes.now) = sym (ap fixed_outcome c.in-Is.is) ∙ c.read_fixed-fixed.ensures in
+    let ok = accepted _ _ _ _ told in
     (ok.size.os-low, ok.long)
 
 pub returns-then-addrs-n : goal.returns-then-addrs-n
 returns-then-addrs-n c =
+    let told : (let a = c.args in answer c.in-Is.info ≡ fixed_read a.offset_size a.length_size a.bytes.now) = sym (ap fixed_outcome c.in-Is.is) ∙ c.read_fixed-fixed.ensures in
     let a = c.args in
-    parsed-over a.offset_size a.length_size a.bytes.now a.addrs.now c.in-Is.info (told c.before.before) c.present_addrs-n.result c.present_addrs-n.ensures (omega arith)
+    parsed-over a.offset_size a.length_size a.bytes.now a.addrs.now c.in-Is.info told c.present_addrs-n.result c.present_addrs-n.ensures (omega arith)
 
 pub read_addrs-requires : goal.read_addrs-requires
 read_addrs-requires c =
+    let told : (let a = c.args in answer c.in-Is.info ≡ fixed_read a.offset_size a.length_size a.bytes.now) = sym (ap fixed_outcome c.in-Is.is) ∙ c.read_fixed-fixed.ensures in
     let a = c.args in
     let m = c.in-Is.info in
     let n = c.present_addrs-n in
-    let w = count-within a.offset_size a.length_size a.bytes.now a.addrs.now m (told c.before.before.before.before) n.result n.ensures in
-    ((accepted _ _ _ _ (told c.before.before.before.before)).size.os-high, omega arith, omega arith)
+    let w = count-within a.offset_size a.length_size a.bytes.now a.addrs.now m told n.result n.ensures in
+    ((accepted _ _ _ _ told).size.os-high, omega arith, omega arith)
 
 pub returns-in-Refused : goal.returns-in-Refused
 returns-in-Refused c =
@@ -36,7 +35,8 @@ returns-in-Refused c =
 
 pub returns-else-addrs-n : goal.returns-else-addrs-n
 returns-else-addrs-n c =
+    let told : (let a = c.args in answer c.in-Is.info ≡ fixed_read a.offset_size a.length_size a.bytes.now) = sym (ap fixed_outcome c.in-Is.is) ∙ c.read_fixed-fixed.ensures in
     let a = c.args in
     let m = c.in-Is.info in
     let n = c.present_addrs-n in
-    parsed-is a.offset_size a.length_size a.bytes.now a.addrs.now m (told c.before.before.before.before.before.before.before) n.result n.ensures (omega arith) c.fixed_len.ensures c.read_addrs.ensures
+    parsed-is a.offset_size a.length_size a.bytes.now a.addrs.now m told n.result n.ensures (omega arith) c.fixed_len.ensures c.read_addrs.ensures

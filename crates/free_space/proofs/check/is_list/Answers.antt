@@ -4,17 +4,20 @@ use Rattle.free_space.specs.declared.check.Head.{Head}
 use Rattle.free_space.specs.Splices.{Begins}
 use Rattle.free_space.proofs.check.is_list.Goals as goal
 
-begins : (c : goal.After-first_region-h) (h : Head) → c.first_region-h.result ≡ h → let a = c.args in Begins a.run.now a.list h
-begins c h e = let a = c.args in subst (Begins a.run.now a.list) e c.first_region-h.ensures
-
 pub rest_is_list-requires : goal.rest_is_list-requires
-rest_is_list-requires c = begins c.before.before.before _ c.in-First.is
+rest_is_list-requires c =
+    let begins : ((h : Head) → c.first_region-h.result ≡ h → let a = c.args in Begins a.run.now a.list h) = λ h e. let a = c.args in subst (Begins a.run.now a.list) e c.first_region-h.ensures in
+    begins _ c.in-First.is
 
 pub returns-in-Bad : goal.returns-in-Bad
-returns-in-Bad c = sym (begins c.before.before _ c.in-Bad.is)
+returns-in-Bad c =
+    let begins : ((h : Head) → c.first_region-h.result ≡ h → let a = c.args in Begins a.run.now a.list h) = λ h e. let a = c.args in subst (Begins a.run.now a.list) e c.first_region-h.ensures in
+    sym (begins _ c.in-Bad.is)
 
 pub returns-in-Empty : goal.returns-in-Empty
-returns-in-Empty c = sym (begins c.before.before _ c.in-Empty.is).0
+returns-in-Empty c =
+    let begins : ((h : Head) → c.first_region-h.result ≡ h → let a = c.args in Begins a.run.now a.list h) = λ h e. let a = c.args in subst (Begins a.run.now a.list) e c.first_region-h.ensures in
+    sym (begins _ c.in-Empty.is).0
 
 pub returns-in-First : goal.returns-in-First
 returns-in-First c = c.rest_is_list.ensures

@@ -4,26 +4,6 @@ use Rattle.free_space.specs.Splices.{Tested}
 use Rattle.free_space.proofs.CheckLaws.{denied, held, pass_stops, pass_goes, pass_ends}
 use Rattle.free_space.proofs.check.rest_is_list.Goals as goal
 
-one : (s : goal.Else-not-follows) → let l = s.loop-i in
-    let r = s.region_at-r.result in
-    Tested s.args.run.now s.args.list (l.i + 1) (end r) (l.sum + r.len)
-one s = let g = s.region_at-r in pass_goes s.loop-i.invariant.0 (omega (arith, s.loop-i-test.true)) g.result g.ensures (held s.follows.ensures s.if-not-follows.false)
-
-two : (s : goal.Else-not-follows-2) → let l = s.loop-i in
-    let t = s.region_at-s.result in
-    Tested s.args.run.now s.args.list (l.i + 1 + 1) (end t) (l.sum + s.region_at-r.result.len + t.len)
-two s =
-    let l = s.loop-i in
-    let g = s.region_at-s in
-    pass_goes (one s.before.before.before.before.before) (omega (arith, s.loop-i-test.true, l.invariant.2)) g.result g.ensures (held s.follows-in-loop-i.ensures s.if-not-follows-2.false)
-
-last : (s : goal.Else-not-follows-3) → let l = s.loop-i in
-    let r = s.region_at-last.result in
-    Tested s.args.run.now s.args.list (l.i + 1) (end r) (l.sum + r.len)
-last s =
-    let g = s.region_at-last in
-    pass_goes s.loop-i.invariant.0 (omega (arith, s.if-stop-count.false, s.loop-i.invariant.1)) g.result g.ensures (held s.follows-2.ensures s.if-not-follows-3.false)
-
 pub overflow_add-prev : goal.overflow_add-prev
 overflow_add-prev c = omega (arith, c.requires.tested.within)
 
@@ -42,30 +22,67 @@ returns-then-not-follows c =
     sym (pass_stops c.loop-i.invariant.0 (omega (arith, c.loop-i-test.true)) g.result g.ensures (denied c.follows.ensures c.if-not-follows.true))
 
 pub overflow_add-prev-in-loop-i : goal.overflow_add-prev-in-loop-i
-overflow_add-prev-in-loop-i c = omega (arith, (one c.before).within)
+overflow_add-prev-in-loop-i c =
+    let one : (let l = c.loop-i in
+    let r = c.region_at-r.result in
+    Tested c.args.run.now c.args.list (l.i + 1) (end r) (l.sum + r.len)) = let g = c.region_at-r in pass_goes c.loop-i.invariant.0 (omega (arith, c.loop-i-test.true)) g.result g.ensures (held c.follows.ensures c.if-not-follows.false) in
+    omega (arith, one.within)
 
 pub overflow_add-sum : goal.overflow_add-sum
-overflow_add-sum c = let t = one c.before.before in omega (arith, t.within, t.less)
+overflow_add-sum c =
+    let one : (let l = c.loop-i in
+    let r = c.region_at-r.result in
+    Tested c.args.run.now c.args.list (l.i + 1) (end r) (l.sum + r.len)) = let g = c.region_at-r in pass_goes c.loop-i.invariant.0 (omega (arith, c.loop-i-test.true)) g.result g.ensures (held c.follows.ensures c.if-not-follows.false) in
+    let t = one in omega (arith, t.within, t.less)
 
 pub region_at-s-requires : goal.region_at-s-requires
 region_at-s-requires c = omega (arith, c.loop-i-test.true, c.loop-i.invariant.2, c.loop-i.invariant.0.room)
 
 pub returns-then-not-follows-2 : goal.returns-then-not-follows-2
 returns-then-not-follows-2 c =
+    let one : (let l = c.loop-i in
+    let r = c.region_at-r.result in
+    Tested c.args.run.now c.args.list (l.i + 1) (end r) (l.sum + r.len)) = let g = c.region_at-r in pass_goes c.loop-i.invariant.0 (omega (arith, c.loop-i-test.true)) g.result g.ensures (held c.follows.ensures c.if-not-follows.false) in
     let g = c.region_at-s in
-    sym (pass_stops (one c.before.before.before.before.before) (omega (arith, c.loop-i-test.true, c.loop-i.invariant.2)) g.result g.ensures (denied c.follows-in-loop-i.ensures c.if-not-follows-2.true))
+    sym (pass_stops one (omega (arith, c.loop-i-test.true, c.loop-i.invariant.2)) g.result g.ensures (denied c.follows-in-loop-i.ensures c.if-not-follows-2.true))
 
 pub overflow_add-prev-in-loop-i-2 : goal.overflow_add-prev-in-loop-i-2
-overflow_add-prev-in-loop-i-2 c = omega (arith, (two c.before).within)
+overflow_add-prev-in-loop-i-2 c =
+    let one : (let l = c.loop-i in
+    let r = c.region_at-r.result in
+    Tested c.args.run.now c.args.list (l.i + 1) (end r) (l.sum + r.len)) = let g = c.region_at-r in pass_goes c.loop-i.invariant.0 (omega (arith, c.loop-i-test.true)) g.result g.ensures (held c.follows.ensures c.if-not-follows.false) in
+    let two : (let l = c.loop-i in
+    let t = c.region_at-s.result in
+    Tested c.args.run.now c.args.list (l.i + 1 + 1) (end t) (l.sum + c.region_at-r.result.len + t.len)) = let l = c.loop-i in
+    let g = c.region_at-s in
+    pass_goes one (omega (arith, c.loop-i-test.true, l.invariant.2)) g.result g.ensures (held c.follows-in-loop-i.ensures c.if-not-follows-2.false) in
+    omega (arith, two.within)
 
 pub overflow_add-sum-in-loop-i : goal.overflow_add-sum-in-loop-i
-overflow_add-sum-in-loop-i c = let t = two c.before.before in omega (arith, t.within, t.less)
+overflow_add-sum-in-loop-i c =
+    let one : (let l = c.loop-i in
+    let r = c.region_at-r.result in
+    Tested c.args.run.now c.args.list (l.i + 1) (end r) (l.sum + r.len)) = let g = c.region_at-r in pass_goes c.loop-i.invariant.0 (omega (arith, c.loop-i-test.true)) g.result g.ensures (held c.follows.ensures c.if-not-follows.false) in
+    let two : (let l = c.loop-i in
+    let t = c.region_at-s.result in
+    Tested c.args.run.now c.args.list (l.i + 1 + 1) (end t) (l.sum + c.region_at-r.result.len + t.len)) = let l = c.loop-i in
+    let g = c.region_at-s in
+    pass_goes one (omega (arith, c.loop-i-test.true, l.invariant.2)) g.result g.ensures (held c.follows-in-loop-i.ensures c.if-not-follows-2.false) in
+    let t = two in omega (arith, t.within, t.less)
 
 pub loop-i-preserved : goal.loop-i-preserved
 loop-i-preserved c =
+    let one : (let l = c.loop-i in
+    let r = c.region_at-r.result in
+    Tested c.args.run.now c.args.list (l.i + 1) (end r) (l.sum + r.len)) = let g = c.region_at-r in pass_goes c.loop-i.invariant.0 (omega (arith, c.loop-i-test.true)) g.result g.ensures (held c.follows.ensures c.if-not-follows.false) in
+    let two : (let l = c.loop-i in
+    let t = c.region_at-s.result in
+    Tested c.args.run.now c.args.list (l.i + 1 + 1) (end t) (l.sum + c.region_at-r.result.len + t.len)) = let l = c.loop-i in
+    let g = c.region_at-s in
+    pass_goes one (omega (arith, c.loop-i-test.true, l.invariant.2)) g.result g.ensures (held c.follows-in-loop-i.ensures c.if-not-follows-2.false) in
     let l = c.loop-i in
     let e : l.i + 1 + 1 ≡ l.i + 2 = omega arith in
-    (rw e at (two c.before.before), omega (arith, c.loop-i-test.true, l.invariant.2), omega (arith, c.loop-i-test.true, l.invariant.2))
+    (rw e at two, omega (arith, c.loop-i-test.true, l.invariant.2), omega (arith, c.loop-i-test.true, l.invariant.2))
 
 pub returns-then-stop-count : goal.returns-then-stop-count
 returns-then-stop-count c =
@@ -80,7 +97,17 @@ returns-then-not-follows-3 c =
     sym (pass_stops c.loop-i.invariant.0 (omega (arith, c.if-stop-count.false, c.loop-i.invariant.1)) g.result g.ensures (denied c.follows-2.ensures c.if-not-follows-3.true))
 
 pub overflow_add-result : goal.overflow_add-result
-overflow_add-result c = let t = last c.before in omega (arith, t.within, t.less)
+overflow_add-result c =
+    let last : (let l = c.loop-i in
+    let r = c.region_at-last.result in
+    Tested c.args.run.now c.args.list (l.i + 1) (end r) (l.sum + r.len)) = let g = c.region_at-last in
+    pass_goes c.loop-i.invariant.0 (omega (arith, c.if-stop-count.false, c.loop-i.invariant.1)) g.result g.ensures (held c.follows-2.ensures c.if-not-follows-3.false) in
+    let t = last in omega (arith, t.within, t.less)
 
 pub returns : goal.returns
-returns c = sym (pass_ends (last c.before.before) (omega (arith, c.loop-i-test.false)))
+returns c =
+    let last : (let l = c.loop-i in
+    let r = c.region_at-last.result in
+    Tested c.args.run.now c.args.list (l.i + 1) (end r) (l.sum + r.len)) = let g = c.region_at-last in
+    pass_goes c.loop-i.invariant.0 (omega (arith, c.if-stop-count.false, c.loop-i.invariant.1)) g.result g.ensures (held c.follows-2.ensures c.if-not-follows-3.false) in
+    sym (pass_ends last (omega (arith, c.loop-i-test.false)))

@@ -48,39 +48,57 @@ returns-then-r-eof c =
     let ok = sym t.ensures ∙ not-false t.result c.if-not-is_list.false in
     (trailing-other a.run.now a.list a.eof ok c.if-count-eq0.false g.result g.ensures c.if-r-eof.true, tt)
 
-goes : (s : goal.Else-r-eof) → let a = s.args in Goes (regions a.run.now a.list) (a.list.count - 1) a.list.count s.region_at-r.result.len
-goes s =
-    let a = s.args in
-    let t = s.is_list in
-    let g = s.region_at-r in
-    let n = a.list.count in
-    let e : n - 1 + 1 ≡ n = omega (arith, s.if-count-eq0.false) in
-    rw e at (goes_one a.run.now a.list (sym t.ensures ∙ not-false t.result s.if-not-is_list.false) (n - 1) g.result (omega (arith, s.if-count-eq0.false)) g.ensures)
-
-less : (s : goal.Else-r-eof) → s.region_at-r.result.len ≤ s.args.list.total
-less s =
-    let a = s.args in
-    let t = s.is_list in
-    gone_less a.run.now a.list (a.list.count - 1) a.list.count s.region_at-r.result.len (sym t.ensures ∙ not-false t.result s.if-not-is_list.false) (goes s)
-
-replaces : (s : goal.Else-r-eof) → let a = s.args in
-    Replaces a.run.now a.list (a.list.count - 1) a.list.count (a.list.total - s.region_at-r.result.len) []
-replaces s =
-    let a = s.args in
-    let t = s.is_list in
-    let n = a.list.count in
-    let len = s.region_at-r.result.len in
-    let ok = sym t.ensures ∙ not-false t.result s.if-not-is_list.false in
-    record { list = ok; order = omega arith; within = omega arith; sum = new_total a.run.now a.list (n - 1) n len _ [] ok (goes s) (omega (arith, less s)) }
-
 pub overflow_sub-list : goal.overflow_sub-list
-overflow_sub-list c = omega (arith, less c.before.before)
+overflow_sub-list c =
+    let goes : (let a = c.args in Goes (regions a.run.now a.list) (a.list.count - 1) a.list.count c.region_at-r.result.len) = let a = c.args in
+    let t = c.is_list in
+    let g = c.region_at-r in
+    let n = a.list.count in
+    let e : n - 1 + 1 ≡ n = omega (arith, c.if-count-eq0.false) in
+    rw e at (goes_one a.run.now a.list (sym t.ensures ∙ not-false t.result c.if-not-is_list.false) (n - 1) g.result (omega (arith, c.if-count-eq0.false)) g.ensures) in
+    let less : (c.region_at-r.result.len ≤ c.args.list.total) = let a = c.args in
+    let t = c.is_list in
+    gone_less a.run.now a.list (a.list.count - 1) a.list.count c.region_at-r.result.len (sym t.ensures ∙ not-false t.result c.if-not-is_list.false) goes in
+    omega (arith, less)
 
 pub change-requires : goal.change-requires
-change-requires c = replaces c.before.before
+change-requires c =
+    let goes : (let a = c.args in Goes (regions a.run.now a.list) (a.list.count - 1) a.list.count c.region_at-r.result.len) = let a = c.args in
+    let t = c.is_list in
+    let g = c.region_at-r in
+    let n = a.list.count in
+    let e : n - 1 + 1 ≡ n = omega (arith, c.if-count-eq0.false) in
+    rw e at (goes_one a.run.now a.list (sym t.ensures ∙ not-false t.result c.if-not-is_list.false) (n - 1) g.result (omega (arith, c.if-count-eq0.false)) g.ensures) in
+    let less : (c.region_at-r.result.len ≤ c.args.list.total) = let a = c.args in
+    let t = c.is_list in
+    gone_less a.run.now a.list (a.list.count - 1) a.list.count c.region_at-r.result.len (sym t.ensures ∙ not-false t.result c.if-not-is_list.false) goes in
+    let replaces : (let a = c.args in
+    Replaces a.run.now a.list (a.list.count - 1) a.list.count (a.list.total - c.region_at-r.result.len) []) = let a = c.args in
+    let t = c.is_list in
+    let n = a.list.count in
+    let len = c.region_at-r.result.len in
+    let ok = sym t.ensures ∙ not-false t.result c.if-not-is_list.false in
+    record { list = ok; order = omega arith; within = omega arith; sum = new_total a.run.now a.list (n - 1) n len _ [] ok goes (omega (arith, less)) } in
+    replaces
 
 pub returns : goal.returns
 returns c =
+    let goes : (let a = c.args in Goes (regions a.run.now a.list) (a.list.count - 1) a.list.count c.region_at-r.result.len) = let a = c.args in
+    let t = c.is_list in
+    let g = c.region_at-r in
+    let n = a.list.count in
+    let e : n - 1 + 1 ≡ n = omega (arith, c.if-count-eq0.false) in
+    rw e at (goes_one a.run.now a.list (sym t.ensures ∙ not-false t.result c.if-not-is_list.false) (n - 1) g.result (omega (arith, c.if-count-eq0.false)) g.ensures) in
+    let less : (c.region_at-r.result.len ≤ c.args.list.total) = let a = c.args in
+    let t = c.is_list in
+    gone_less a.run.now a.list (a.list.count - 1) a.list.count c.region_at-r.result.len (sym t.ensures ∙ not-false t.result c.if-not-is_list.false) goes in
+    let replaces : (let a = c.args in
+    Replaces a.run.now a.list (a.list.count - 1) a.list.count (a.list.total - c.region_at-r.result.len) []) = let a = c.args in
+    let t = c.is_list in
+    let n = a.list.count in
+    let len = c.region_at-r.result.len in
+    let ok = sym t.ensures ∙ not-false t.result c.if-not-is_list.false in
+    record { list = ok; order = omega arith; within = omega arith; sum = new_total a.run.now a.list (n - 1) n len _ [] ok goes (omega (arith, less)) } in
     let a = c.args in
     let t = c.is_list in
     let g = c.region_at-r in
@@ -88,7 +106,7 @@ returns c =
     let l = a.list in
     let ok = sym t.ensures ∙ not-false t.result c.if-not-is_list.false in (
       ap (given_by xs l) c.change.ensures.0
-          ∙ given-fitted xs l g.result.addr _ l.count _ Empty (replaces c.before.before.before)
+          ∙ given-fitted xs l g.result.addr _ l.count _ Empty replaces
           ∙ trailing-last xs l a.eof ok c.if-count-eq0.false g.result g.ensures c.if-r-eof.false,
       c.change.ensures.1,
     )

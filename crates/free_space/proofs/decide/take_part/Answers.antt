@@ -31,12 +31,12 @@ overflow_add-r c =
     let pre = c.requires in
     omega (arith, (read_fits a.run.now a.list a.i a.r pre.0 pre.1 pre.2).within)
 
-replaces : (s : goal.After-edges) → let a = s.args in Replaces a.run.now a.list a.i (a.i + 1) (a.list.total - a.len) (patch s.edges.result)
-replaces s =
-    let a = s.args in
-    let pre = s.requires in
+pub change-requires : goal.change-requires
+change-requires c =
+    let replaces : (let a = c.args in Replaces a.run.now a.list a.i (a.i + 1) (a.list.total - a.len) (patch c.edges.result)) = let a = c.args in
+    let pre = c.requires in
     let xs = a.run.now in
-    let p = s.edges in
+    let p = c.edges in
     let goes = goes_one xs a.list pre.0 a.i a.r pre.1 pre.2 in
     let e = a.start + a.len in record {
       list = pre.0;
@@ -44,19 +44,29 @@ replaces s =
       within = omega (arith, pre.1);
       sum = new_total xs a.list a.i (a.i + 1) a.r.len _ (patch p.result) pre.0 goes
           (omega (arith, gone_less xs a.list a.i (a.i + 1) a.r.len pre.0 goes, ap sum_of_lengths p.ensures, sum-pieces a.r.addr (a.start - a.r.addr) e (end a.r - e), pre.3, pre.4));
-    }
-
-pub change-requires : goal.change-requires
-change-requires c = replaces c
+    } in
+    replaces
 
 pub returns : goal.returns
 returns c =
+    let replaces : (let a = c.args in Replaces a.run.now a.list a.i (a.i + 1) (a.list.total - a.len) (patch c.edges.result)) = let a = c.args in
+    let pre = c.requires in
+    let xs = a.run.now in
+    let p = c.edges in
+    let goes = goes_one xs a.list pre.0 a.i a.r pre.1 pre.2 in
+    let e = a.start + a.len in record {
+      list = pre.0;
+      order = omega arith;
+      within = omega (arith, pre.1);
+      sum = new_total xs a.list a.i (a.i + 1) a.r.len _ (patch p.result) pre.0 goes
+          (omega (arith, gone_less xs a.list a.i (a.i + 1) a.r.len pre.0 goes, ap sum_of_lengths p.ensures, sum-pieces a.r.addr (a.start - a.r.addr) e (end a.r - e), pre.3, pre.4));
+    } in
     let a = c.args in
     let pre = c.requires in
     let xs = a.run.now in
     let p = c.edges in (
       ap (given_by xs a.list) c.change.ensures.0
-          ∙ given-fitted xs a.list a.start a.i (a.i + 1) (a.list.total - a.len) p.result (replaces c.before)
+          ∙ given-fitted xs a.list a.start a.i (a.i + 1) (a.list.total - a.len) p.result replaces
           ∙ without_is xs a.list a.i a.r a.start a.len (patch p.result) pre.1 (listed xs a.list pre.0).room pre.2 p.ensures,
       c.change.ensures.1,
     )

@@ -37,21 +37,27 @@ overflow_add-sum c =
     let f = fit _ c.region_at-r.result (held c.follows.ensures c.if-not-follows.false) in
     omega (arith, f.within, f.above, c.loop-i.invariant.tested.less)
 
-iteration : (s : goal.After-struct_known-in-loop-i-2-1) (k : ℕ) → let a = s.args in
-    let r = s.region_at-r.result in
-    k ≡ max s.loop-i.most s.measured-m.result
-    → Passed a.what a.run.now a.list (s.loop-i.i + 1) (end r) (s.loop-i.sum + r.len) k
-iteration s k e =
-    let a = s.args in
-    let g = s.region_at-r in
-    greatest_step a.what a.run.now a.list s.loop-i.i _ _ _ k g.result g.ensures s.loop-i-test.true s.loop-i.invariant
-    (held s.follows.ensures s.if-not-follows.false) (e ∙ ap (max s.loop-i.most) s.measured-m.ensures)
-
 pub loop-i-preserved-then-most-m : goal.loop-i-preserved-then-most-m
-loop-i-preserved-then-most-m c = iteration c.before _ (omega arith)
+loop-i-preserved-then-most-m c =
+    let iteration : ((k : ℕ) → let a = c.args in
+    let r = c.region_at-r.result in
+    k ≡ max c.loop-i.most c.measured-m.result
+    → Passed a.what a.run.now a.list (c.loop-i.i + 1) (end r) (c.loop-i.sum + r.len) k) = λ k e. let a = c.args in
+    let g = c.region_at-r in
+    greatest_step a.what a.run.now a.list c.loop-i.i _ _ _ k g.result g.ensures c.loop-i-test.true c.loop-i.invariant
+    (held c.follows.ensures c.if-not-follows.false) (e ∙ ap (max c.loop-i.most) c.measured-m.ensures) in
+    iteration _ (omega arith)
 
 pub loop-i-preserved : goal.loop-i-preserved
-loop-i-preserved c = iteration c.before _ (omega arith)
+loop-i-preserved c =
+    let iteration : ((k : ℕ) → let a = c.args in
+    let r = c.region_at-r.result in
+    k ≡ max c.loop-i.most c.measured-m.result
+    → Passed a.what a.run.now a.list (c.loop-i.i + 1) (end r) (c.loop-i.sum + r.len) k) = λ k e. let a = c.args in
+    let g = c.region_at-r in
+    greatest_step a.what a.run.now a.list c.loop-i.i _ _ _ k g.result g.ensures c.loop-i-test.true c.loop-i.invariant
+    (held c.follows.ensures c.if-not-follows.false) (e ∙ ap (max c.loop-i.most) c.measured-m.ensures) in
+    iteration _ (omega arith)
 
 pub returns-then-list-sum : goal.returns-then-list-sum
 returns-then-list-sum c =

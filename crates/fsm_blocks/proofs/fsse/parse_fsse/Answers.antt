@@ -32,12 +32,11 @@ returns-then-capacity-n c =
 
 pub put_fsse-requires : goal.put_fsse-requires
 put_fsse-requires c =
-    let every = let a = c.args in
+    let a = c.args in
     let w = ap not (sym c.is_width.ensures) ∙ c.if-not-is_width.false in
     let s : c.in-Is.n < 2 ^ 64 = omega (arith, c.known_told-1.given) in
     let e = total-is a.header a.offset_size a.bytes.now a.out.now w c.if-out-ne0.false _ c.in-Is.is c.fsse_count-sections.ensures s in
-    (w, (read_ok a.header a.offset_size a.bytes.now a.out.now w c.if-out-ne0.false _ c.in-Is.is c.fsse_count-sections.ensures s, omega arith)) in
-    record { width = every.0; accepted = every.1; room = every.2 }
+    record { width = w; accepted = read_ok a.header a.offset_size a.bytes.now a.out.now w c.if-out-ne0.false _ c.in-Is.is c.fsse_count-sections.ensures s; room = omega arith }
 
 pub returns : goal.returns
 returns c =

@@ -28,22 +28,25 @@ returns-then-passes c =
     past c.args.groups.now (widths_in c.args.w) c.args.total l.at l.left l.invariant (head_some c.args.w c.requires) c.loop-left-test.true
     c.if-room-w.false _ c.field_at-count.ensures (ltb-true _ _ (sym c.passes.ensures ∙ c.if-passes.true))
 
-fits : (c : goal.After-struct_known-in-loop-left-3-1)
-    → let a = c.args in
-    c.field_at-count.result * (a.w.addresses + 1) ≤ length a.groups.now - c.loop-left.at - head_size (widths_in a.w)
-fits c = ltb-false _ _ (sym c.passes.ensures ∙ c.if-passes.false)
-
 pub overflow_mul-at : goal.overflow_mul-at
-overflow_mul-at c = omega (arith, fits c)
+overflow_mul-at c =
+    let fits : (let a = c.args in
+    c.field_at-count.result * (a.w.addresses + 1) ≤ length a.groups.now - c.loop-left.at - head_size (widths_in a.w)) = ltb-false _ _ (sym c.passes.ensures ∙ c.if-passes.false) in
+    omega (arith, fits)
 
 pub overflow_add-at-in-loop-left-2 : goal.overflow_add-at-in-loop-left-2
-overflow_add-at-in-loop-left-2 c = omega (arith, fits c)
+overflow_add-at-in-loop-left-2 c =
+    let fits : (let a = c.args in
+    c.field_at-count.result * (a.w.addresses + 1) ≤ length a.groups.now - c.loop-left.at - head_size (widths_in a.w)) = ltb-false _ _ (sym c.passes.ensures ∙ c.if-passes.false) in
+    omega (arith, fits)
 
 pub loop-left-preserved : goal.loop-left-preserved
 loop-left-preserved c =
+    let fits : (let a = c.args in
+    c.field_at-count.result * (a.w.addresses + 1) ≤ length a.groups.now - c.loop-left.at - head_size (widths_in a.w)) = ltb-false _ _ (sym c.passes.ensures ∙ c.if-passes.false) in
     let l = c.loop-left in
     iteration c.args.groups.now (widths_in c.args.w) c.args.total l.at l.left l.invariant (head_some c.args.w c.requires) c.loop-left-test.true
-    c.if-room-w.false _ c.field_at-count.ensures c.if-left-count.false (fits c)
+    c.if-room-w.false _ c.field_at-count.ensures c.if-left-count.false fits
 
 pub returns : goal.returns
 returns c =

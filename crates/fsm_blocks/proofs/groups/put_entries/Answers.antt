@@ -8,18 +8,19 @@ pub loop-left-init : goal.loop-left-init
 loop-left-init c =
     fill_start c.args.groups.now c.args.width c.args.size c.args.out.now c.args.at c.args.count c.args.from c.requires.1 c.requires.2
 
-entry : (c : goal.In-loop-left)
-    → let a = c.args in
-    c.loop-left.p + (a.width + 1) ≤ length a.groups.now
-entry c =
-    let l = c.loop-left in
-    entry_in c.args.groups.now c.args.width c.args.size c.args.out.now c.args.at c.args.count c.args.from l.out l.left l.p l.k l.invariant c.loop-left-test.true
-
 pub field_at-addr-requires : goal.field_at-addr-requires
-field_at-addr-requires c = let h = entry c in (c.requires.0, omega arith)
+field_at-addr-requires c =
+    let entry : (let a = c.args in
+    c.loop-left.p + (a.width + 1) ≤ length a.groups.now) = let l = c.loop-left in
+    entry_in c.args.groups.now c.args.width c.args.size c.args.out.now c.args.at c.args.count c.args.from l.out l.left l.p l.k l.invariant c.loop-left-test.true in
+    let h = entry in (c.requires.0, omega arith)
 
 pub overflow_add-p-in-loop-left : goal.overflow_add-p-in-loop-left
-overflow_add-p-in-loop-left c = omega (arith, entry c.before.before.before.before.before)
+overflow_add-p-in-loop-left c =
+    let entry : (let a = c.args in
+    c.loop-left.p + (a.width + 1) ≤ length a.groups.now) = let l = c.loop-left in
+    entry_in c.args.groups.now c.args.width c.args.size c.args.out.now c.args.at c.args.count c.args.from l.out l.left l.p l.k l.invariant c.loop-left-test.true in
+    omega (arith, entry)
 
 pub loop-left-preserved : goal.loop-left-preserved
 loop-left-preserved c =

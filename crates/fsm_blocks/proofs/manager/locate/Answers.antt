@@ -5,9 +5,6 @@ use Rattle.fields.proofs.RangeLaws.{ones_are}
 use Rattle.fsm_blocks.proofs.NamedLaws.{sum_over, sum_is, manager-none, manager_wraps, manager-past, manager-refused, manager-is}
 use Rattle.fsm_blocks.proofs.manager.locate.Goals as goal
 
-defined : (c : goal.Else-slot-undefined_addr) → c.args.slot ≡ undefined_addr c.args.offset_size → ⊥
-defined c e = c.if-slot-undefined_addr.false (e ∙ sym (ones_are _ _ c.requires c.undefined_addr.ensures))
-
 pub returns-then-slot-undefined_addr : goal.returns-then-slot-undefined_addr
 returns-then-slot-undefined_addr c =
     let a = c.args in
@@ -15,19 +12,22 @@ returns-then-slot-undefined_addr c =
 
 pub returns-in_default : goal.returns-in_default
 returns-in_default c =
+    let defined : (c.args.slot ≡ undefined_addr c.args.offset_size → ⊥) = λ e. c.if-slot-undefined_addr.false (e ∙ sym (ones_are _ _ c.requires c.undefined_addr.ensures)) in
     let a = c.args in
-    record { named = manager_wraps a.reading a.offset_size a.base.0 a.slot a.bytes.now (defined c.before.before.before) (sum_over a.slot a.base.0 c.absolute.ensures _ c.in_default.is); inside = tt }
+    record { named = manager_wraps a.reading a.offset_size a.base.0 a.slot a.bytes.now defined (sum_over a.slot a.base.0 c.absolute.ensures _ c.in_default.is); inside = tt }
 
 pub returns-then-bytes-start : goal.returns-then-bytes-start
 returns-then-bytes-start c =
+    let defined : (c.args.slot ≡ undefined_addr c.args.offset_size → ⊥) = λ e. c.if-slot-undefined_addr.false (e ∙ sym (ones_are _ _ c.requires c.undefined_addr.ensures)) in
     let a = c.args in
-    record { named = manager-past a.reading a.offset_size a.base.0 a.slot a.bytes.now (defined c.before.before.before.before.before) _ (sum_is a.slot a.base.0 c.absolute.ensures _ c.in-Is.is) c.if-bytes-start.true; inside = tt }
+    record { named = manager-past a.reading a.offset_size a.base.0 a.slot a.bytes.now defined _ (sum_is a.slot a.base.0 c.absolute.ensures _ c.in-Is.is) c.if-bytes-start.true; inside = tt }
 
 pub returns-in_default-answer : goal.returns-in_default-answer
 returns-in_default-answer c =
+    let defined : (c.args.slot ≡ undefined_addr c.args.offset_size → ⊥) = λ e. c.if-slot-undefined_addr.false (e ∙ sym (ones_are _ _ c.requires c.undefined_addr.ensures)) in
     let a = c.args in
     record {
-      named = manager-refused a.reading a.offset_size a.base.0 a.slot a.bytes.now (defined c.before.before.before.before.before.before.before.before.before.before) _ (sum_is a.slot a.base.0 c.absolute.ensures _ c.in-Is.is) c.if-bytes-start.false
+      named = manager-refused a.reading a.offset_size a.base.0 a.slot a.bytes.now defined _ (sum_is a.slot a.base.0 c.absolute.ensures _ c.in-Is.is) c.if-bytes-start.false
           c.requires c.header_at-answer.ensures _ _ c.in_default-answer.is c.refusal_in.ensures;
       inside = tt;
     }
@@ -37,10 +37,11 @@ list_of-requires c = c.requires
 
 pub returns : goal.returns
 returns c =
+    let defined : (c.args.slot ≡ undefined_addr c.args.offset_size → ⊥) = λ e. c.if-slot-undefined_addr.false (e ∙ sym (ones_are _ _ c.requires c.undefined_addr.ensures)) in
     let a = c.args in
     record {
       named = c.list_of.ensures.0
-          ∙ manager-is a.reading a.offset_size a.base.0 a.slot a.bytes.now (defined c.before.before.before.before.before.before.before.before.before.before.before) _ (sum_is a.slot a.base.0 c.absolute.ensures _ c.in-Is.is) c.if-bytes-start.false
+          ∙ manager-is a.reading a.offset_size a.base.0 a.slot a.bytes.now defined _ (sum_is a.slot a.base.0 c.absolute.ensures _ c.in-Is.is) c.if-bytes-start.false
           c.requires c.header_at-answer.ensures _ c.in-Header.is;
       inside = c.list_of.ensures.1;
     }

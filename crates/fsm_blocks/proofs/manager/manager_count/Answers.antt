@@ -15,15 +15,15 @@ returns-then-not-is_width c =
 pub locate-found-requires : goal.locate-found-requires
 locate-found-requires c = ap not (sym c.is_width.ensures) ∙ c.if-not-is_width.false
 
-inside : (c : goal.In-At)
-    → c.in-At.start + c.in-At.header.fsse_used ≤ length c.args.bytes.now
-inside c = inside-at _ _ _ _ c.locate-found.ensures.1 c.in-At.is
-
 pub overflow_add-end : goal.overflow_add-end
-overflow_add-end c = omega (arith, inside c)
+overflow_add-end c =
+    let inside : (c.in-At.start + c.in-At.header.fsse_used ≤ length c.args.bytes.now) = inside-at _ _ _ _ c.locate-found.ensures.1 c.in-At.is in
+    omega (arith, inside)
 
 pub slice_bounds-fsse_count-end : goal.slice_bounds-fsse_count-end
-slice_bounds-fsse_count-end c = let h = inside c in search rules
+slice_bounds-fsse_count-end c =
+    let inside : (c.in-At.start + c.in-At.header.fsse_used ≤ length c.args.bytes.now) = inside-at _ _ _ _ c.locate-found.ensures.1 c.in-At.is in
+    let h = inside in search rules
 
 pub fsse_count-requires : goal.fsse_count-requires
 fsse_count-requires c = ap not (sym c.is_width.ensures) ∙ c.if-not-is_width.false

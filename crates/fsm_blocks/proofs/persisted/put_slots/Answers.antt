@@ -5,15 +5,12 @@ use Rattle.fsm_blocks.proofs.persisted.put_slots.Goals as goal
 
 pub loop-i-init : goal.loop-i-init
 loop-i-init c =
-    store-start Loose c.args.offset_size c.args.base.0 c.args.bytes.now c.args.slots.now c.args.out.now c.requires.accepted.0 c.requires.accepted.1
+    store-start Loose c.args.offset_size c.args.base.0 c.args.bytes.now c.args.slots.now c.args.out.now c.requires.accepted c.requires.room
 
 pub put_manager-k-requires : goal.put_manager-k-requires
 put_manager-k-requires c =
-    let every = let l = c.loop-i in (
-      c.requires.width,
-      (slot-accepted Loose c.args.offset_size c.args.base.0 c.args.bytes.now c.args.slots.now c.args.out.now l.out l.k l.i l.invariant c.loop-i-test.true, slot-room Loose c.args.offset_size c.args.base.0 c.args.bytes.now c.args.slots.now c.args.out.now l.out l.k l.i l.invariant c.loop-i-test.true),
-    ) in
-    record { width = every.0; accepted = every.1; room = every.2 }
+    let l = c.loop-i in
+    record { width = c.requires.width; accepted = slot-accepted Loose c.args.offset_size c.args.base.0 c.args.bytes.now c.args.slots.now c.args.out.now l.out l.k l.i l.invariant c.loop-i-test.true; room = slot-room Loose c.args.offset_size c.args.base.0 c.args.bytes.now c.args.slots.now c.args.out.now l.out l.k l.i l.invariant c.loop-i-test.true }
 
 pub loop-i-preserved : goal.loop-i-preserved
 loop-i-preserved c =

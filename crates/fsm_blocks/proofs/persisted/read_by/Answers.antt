@@ -31,11 +31,10 @@ returns-then-capacity-needed c =
 
 pub put_slots-requires : goal.put_slots-requires
 put_slots-requires c =
-    let every = let w = ap not (sym c.is_width.ensures) ∙ c.if-not-is_width.false in
+    let w = ap not (sym c.is_width.ensures) ∙ c.if-not-is_width.false in
     let n = c.in-Is.is in
     let k = c.slots_count-sections.ensures in
-    (w, (read_ok c.args.reading c.args.slots.now c.args.base.0 c.args.offset_size c.args.bytes.now c.args.out.now w c.if-out-ne0.false _ n k, read-room c.args.reading c.args.slots.now c.args.base.0 c.args.offset_size c.args.bytes.now c.args.out.now w c.if-out-ne0.false _ n k c.if-capacity-needed.false (omega (arith, c.well_formed)))) in
-    record { width = every.0; accepted = every.1; room = every.2 }
+    record { width = w; accepted = read_ok c.args.reading c.args.slots.now c.args.base.0 c.args.offset_size c.args.bytes.now c.args.out.now w c.if-out-ne0.false _ n k; room = read-room c.args.reading c.args.slots.now c.args.base.0 c.args.offset_size c.args.bytes.now c.args.out.now w c.if-out-ne0.false _ n k c.if-capacity-needed.false (omega (arith, c.well_formed)) }
 
 pub returns : goal.returns
 returns c =

@@ -42,24 +42,18 @@ overflow_add-some c =
 pub loop-t-smaller : goal.loop-t-smaller
 loop-t-smaller c = let a = c.args in fewer a.count a.sections.now _ _ c.next_in-t.ensures c.if-t.false
 
-more-is : (c : goal.Joined-size-ne0)
-    → let x = c.next_in-t.result.region in
-    c.if-room-size.more ≡ sat (c.loop-t.more + pieces_after c.args.page x.addr x.size)
-more-is c =
-    let a = c.args in
+pub loop-t-preserved : goal.loop-t-preserved
+loop-t-preserved c =
+    let more-is : (let x = c.next_in-t.result.region in
+    c.if-room-size.more ≡ sat (c.loop-t.more + pieces_after c.args.page x.addr x.size)) = let a = c.args in
     let l = c.loop-t in
     let e = went a.count a.sections.now _ _ c.next_in-t.ensures c.if-t.false in
     ⊎_elim
     (λ w. count-more a.page a.count a.sections.now _ l.some l.more l.invariant _ _ e c.requires.page _ c.room_in-room.ensures w.0.taken _ _ w.1.ensures (w.3 ∙ w.2.ensures))
     (λ w. count_same a.page a.count a.sections.now _ l.some l.more l.invariant _ _ e c.requires.page _ c.room_in-room.ensures w.0.left _ w.1)
-    c.if-room-size.branch
-
-some_is : (c : goal.Joined-size-ne0) → c.if-size-ne0.some ≡ c.loop-t.some + min c.next_in-t.result.region.size 1
-some_is c = ⊎_elim (λ w. omega (arith, w.0.taken, w.1)) (λ w. omega (arith, w.0.left, w.1)) c.if-size-ne0.branch
-
-pub loop-t-preserved : goal.loop-t-preserved
-loop-t-preserved c =
+    c.if-room-size.branch in
+    let some_is : (c.if-size-ne0.some ≡ c.loop-t.some + min c.next_in-t.result.region.size 1) = ⊎_elim (λ w. omega (arith, w.0.taken, w.1)) (λ w. omega (arith, w.0.left, w.1)) c.if-size-ne0.branch in
     let a = c.args in
     let l = c.loop-t in
     count_step a.page a.count a.sections.now _ l.some l.more l.invariant _ _ (went a.count a.sections.now _ _ c.next_in-t.ensures c.if-t.false)
-    c.requires.page _ _ (some_is c.before) (more-is c.before) c.if-size-addr.false (omega arith)
+    c.requires.page _ _ some_is more-is c.if-size-addr.false (omega arith)

@@ -6,43 +6,55 @@ use Rattle.error.proofs.OverLaws.{store_pair}
 use Rattle.fsm_pages.proofs.PieceLaws.{walk_start, room-some, walk-room, walk_step, walk_none, walk-last}
 use Rattle.fsm_pages.proofs.pages.put_pieces.Goals as goal
 
-step_room : (c : goal.In-loop-room) → let l = c.loop-room in l.k + 2 ≤ length l.out
-step_room c =
-    let a = c.args in
-    let l = c.loop-room in
-    walk-room a.page a.addr a.size a.from a.out.now c.requires.fits.0 c.requires.room l.out l.a l.left l.room l.k l.invariant (omega arith)
-
-last-room : (c : goal.Else-left-eq0) → let l = c.loop-room in l.k + 2 ≤ length l.out
-last-room c =
-    let a = c.args in
-    let l = c.loop-room in
-    walk-room a.page a.addr a.size a.from a.out.now c.requires.fits.0 c.requires.room l.out l.a l.left l.room l.k l.invariant (omega (arith, c.if-left-eq0.false))
-
 pub loop-room-init : goal.loop-room-init
 loop-room-init c =
     let a = c.args in
     walk_start a.page a.addr a.size a.from a.out.now c.requires.fits.0 c.requires.room _ c.room_in-room.ensures
 
 pub offset_bounds-out-k : goal.offset_bounds-out-k
-offset_bounds-out-k c = omega (arith, step_room c)
+offset_bounds-out-k c =
+    let step_room : (let l = c.loop-room in l.k + 2 ≤ length l.out) = let a = c.args in
+    let l = c.loop-room in
+    walk-room a.page a.addr a.size a.from a.out.now c.requires.fits.0 c.requires.room l.out l.a l.left l.room l.k l.invariant (omega arith) in
+    omega (arith, step_room)
 
 pub bounds-out-k : goal.bounds-out-k
-bounds-out-k c = omega (arith, step_room c)
+bounds-out-k c =
+    let step_room : (let l = c.loop-room in l.k + 2 ≤ length l.out) = let a = c.args in
+    let l = c.loop-room in
+    walk-room a.page a.addr a.size a.from a.out.now c.requires.fits.0 c.requires.room l.out l.a l.left l.room l.k l.invariant (omega arith) in
+    omega (arith, step_room)
 
 pub overflow_add-out : goal.overflow_add-out
-overflow_add-out c = omega (arith, step_room c)
+overflow_add-out c =
+    let step_room : (let l = c.loop-room in l.k + 2 ≤ length l.out) = let a = c.args in
+    let l = c.loop-room in
+    walk-room a.page a.addr a.size a.from a.out.now c.requires.fits.0 c.requires.room l.out l.a l.left l.room l.k l.invariant (omega arith) in
+    omega (arith, step_room)
 
 pub offset_bounds-out-k-in-loop-room : goal.offset_bounds-out-k-in-loop-room
-offset_bounds-out-k-in-loop-room c = omega (arith, step_room c)
+offset_bounds-out-k-in-loop-room c =
+    let step_room : (let l = c.loop-room in l.k + 2 ≤ length l.out) = let a = c.args in
+    let l = c.loop-room in
+    walk-room a.page a.addr a.size a.from a.out.now c.requires.fits.0 c.requires.room l.out l.a l.left l.room l.k l.invariant (omega arith) in
+    omega (arith, step_room)
 
 pub bounds-out-k-in-loop-room : goal.bounds-out-k-in-loop-room
-bounds-out-k-in-loop-room c = let h = step_room c in simp length-set (omega (arith, h))
+bounds-out-k-in-loop-room c =
+    let step_room : (let l = c.loop-room in l.k + 2 ≤ length l.out) = let a = c.args in
+    let l = c.loop-room in
+    walk-room a.page a.addr a.size a.from a.out.now c.requires.fits.0 c.requires.room l.out l.a l.left l.room l.k l.invariant (omega arith) in
+    let h = step_room in simp length-set (omega (arith, h))
 
 pub overflow_add-a : goal.overflow_add-a
 overflow_add-a c = omega (arith, c.loop-room.invariant.ends)
 
 pub overflow_add-k : goal.overflow_add-k
-overflow_add-k c = omega (arith, step_room c)
+overflow_add-k c =
+    let step_room : (let l = c.loop-room in l.k + 2 ≤ length l.out) = let a = c.args in
+    let l = c.loop-room in
+    walk-room a.page a.addr a.size a.from a.out.now c.requires.fits.0 c.requires.room l.out l.a l.left l.room l.k l.invariant (omega arith) in
+    omega (arith, step_room)
 
 pub loop-room-smaller : goal.loop-room-smaller
 loop-room-smaller c =
@@ -68,22 +80,46 @@ returns-then-left-eq0 c =
     record { put = every.0; next = every.1 }
 
 pub offset_bounds-out-k-2 : goal.offset_bounds-out-k-2
-offset_bounds-out-k-2 c = omega (arith, last-room c)
+offset_bounds-out-k-2 c =
+    let last-room : (let l = c.loop-room in l.k + 2 ≤ length l.out) = let a = c.args in
+    let l = c.loop-room in
+    walk-room a.page a.addr a.size a.from a.out.now c.requires.fits.0 c.requires.room l.out l.a l.left l.room l.k l.invariant (omega (arith, c.if-left-eq0.false)) in
+    omega (arith, last-room)
 
 pub bounds-out-k-2 : goal.bounds-out-k-2
-bounds-out-k-2 c = omega (arith, last-room c)
+bounds-out-k-2 c =
+    let last-room : (let l = c.loop-room in l.k + 2 ≤ length l.out) = let a = c.args in
+    let l = c.loop-room in
+    walk-room a.page a.addr a.size a.from a.out.now c.requires.fits.0 c.requires.room l.out l.a l.left l.room l.k l.invariant (omega (arith, c.if-left-eq0.false)) in
+    omega (arith, last-room)
 
 pub overflow_add-out-2 : goal.overflow_add-out-2
-overflow_add-out-2 c = omega (arith, last-room c)
+overflow_add-out-2 c =
+    let last-room : (let l = c.loop-room in l.k + 2 ≤ length l.out) = let a = c.args in
+    let l = c.loop-room in
+    walk-room a.page a.addr a.size a.from a.out.now c.requires.fits.0 c.requires.room l.out l.a l.left l.room l.k l.invariant (omega (arith, c.if-left-eq0.false)) in
+    omega (arith, last-room)
 
 pub offset_bounds-out-k-3 : goal.offset_bounds-out-k-3
-offset_bounds-out-k-3 c = omega (arith, last-room c)
+offset_bounds-out-k-3 c =
+    let last-room : (let l = c.loop-room in l.k + 2 ≤ length l.out) = let a = c.args in
+    let l = c.loop-room in
+    walk-room a.page a.addr a.size a.from a.out.now c.requires.fits.0 c.requires.room l.out l.a l.left l.room l.k l.invariant (omega (arith, c.if-left-eq0.false)) in
+    omega (arith, last-room)
 
 pub bounds-out-k-3 : goal.bounds-out-k-3
-bounds-out-k-3 c = let h = last-room c in simp length-set (omega (arith, h))
+bounds-out-k-3 c =
+    let last-room : (let l = c.loop-room in l.k + 2 ≤ length l.out) = let a = c.args in
+    let l = c.loop-room in
+    walk-room a.page a.addr a.size a.from a.out.now c.requires.fits.0 c.requires.room l.out l.a l.left l.room l.k l.invariant (omega (arith, c.if-left-eq0.false)) in
+    let h = last-room in simp length-set (omega (arith, h))
 
 pub overflow_add-result : goal.overflow_add-result
-overflow_add-result c = omega (arith, last-room c)
+overflow_add-result c =
+    let last-room : (let l = c.loop-room in l.k + 2 ≤ length l.out) = let a = c.args in
+    let l = c.loop-room in
+    walk-room a.page a.addr a.size a.from a.out.now c.requires.fits.0 c.requires.room l.out l.a l.left l.room l.k l.invariant (omega (arith, c.if-left-eq0.false)) in
+    omega (arith, last-room)
 
 pub shape_of-out : goal.shape_of-out
 shape_of-out c =

@@ -6,11 +6,6 @@ use Rattle.error.specs.Answers.{number_outcome}
 use Rattle.fsm_pages.proofs.SplitLaws.{Splits, split_told, split-page, split_odd, split-refused, split-over, split_number, split-is}
 use Rattle.fsm_pages.proofs.pages.split_at_pages.Goals as goal
 
-told : (c : goal.In-Is) → let a = c.args in Splits a.sections.now a.count a.page c.in-Is.needed
-told c =
-    let a = c.args in
-    split_told a.sections.now a.count a.page c.in-Is.needed (ap number_outcome (sym c.in-Is.is) ∙ c.split_count.ensures)
-
 pub returns-then-page-eq0 : goal.returns-then-page-eq0
 returns-then-page-eq0 c = let a = c.args in split-page a.sections.now a.count a.page a.out.now c.if-page-eq0.true
 
@@ -20,16 +15,19 @@ returns-then-out-ne0 c =
 
 pub returns-then-capacity-needed : goal.returns-then-capacity-needed
 returns-then-capacity-needed c =
+    let told : (let a = c.args in Splits a.sections.now a.count a.page c.in-Is.needed) = let a = c.args in
+    split_told a.sections.now a.count a.page c.in-Is.needed (ap number_outcome (sym c.in-Is.is) ∙ c.split_count.ensures) in
     let a = c.args in
-    split-over a.sections.now a.count a.page a.out.now c.if-out-ne0.false _ (told c.before) c.if-capacity-needed.true
+    split-over a.sections.now a.count a.page a.out.now c.if-out-ne0.false _ told c.if-capacity-needed.true
 
 pub put_split-requires : goal.put_split-requires
 put_split-requires c =
-    let every = let a = c.args in
-    let n = split_number a.sections.now a.count a.page a.out.now c.if-out-ne0.false _ (told c.before.before) c.if-capacity-needed.false (omega (arith, c.well_formed)) in
+    let told : (let a = c.args in Splits a.sections.now a.count a.page c.in-Is.needed) = let a = c.args in
+    split_told a.sections.now a.count a.page c.in-Is.needed (ap number_outcome (sym c.in-Is.is) ∙ c.split_count.ensures) in
+    let a = c.args in
+    let n = split_number a.sections.now a.count a.page a.out.now c.if-out-ne0.false _ told c.if-capacity-needed.false (omega (arith, c.well_formed)) in
     let h : 0 < a.page = omega (arith, c.if-page-eq0.false) in
-    (h, ((told c.before.before).ranges, omega (arith, n, c.if-capacity-needed.false))) in
-    record { page = every.0; fits = every.1; room = every.2 }
+    record { page = h; fits = told.ranges; room = omega (arith, n, c.if-capacity-needed.false) }
 
 pub returns-in-Refused : goal.returns-in-Refused
 returns-in-Refused c =
@@ -38,5 +36,7 @@ returns-in-Refused c =
 
 pub returns-else-capacity-needed : goal.returns-else-capacity-needed
 returns-else-capacity-needed c =
+    let told : (let a = c.args in Splits a.sections.now a.count a.page c.in-Is.needed) = let a = c.args in
+    split_told a.sections.now a.count a.page c.in-Is.needed (ap number_outcome (sym c.in-Is.is) ∙ c.split_count.ensures) in
     let a = c.args in
-    split-is a.sections.now a.count a.page a.out.now c.if-out-ne0.false _ (told c.before.before.before.before.before) c.if-capacity-needed.false (omega (arith, c.well_formed)) _ c.put_split.ensures
+    split-is a.sections.now a.count a.page a.out.now c.if-out-ne0.false _ told c.if-capacity-needed.false (omega (arith, c.well_formed)) _ c.put_split.ensures

@@ -27,28 +27,29 @@ managers_at-managers-requires c =
     let a = c.args in
     from-placed a.meta.now a.raw.now a.unclassified.now a.s a.offset_size a.m c.requires a.start c.ends_late.result c.ends_late.ensures c.if-ends_late.false
 
-wide_by : (w : goal.After-wide_managers) → w.wide_managers.result ≡ wide_managers (undefined_addr w.args.offset_size) w.managers_at-managers.result
-wide_by w =
-    w.wide_managers.ensures
-    ∙ ap (λ (x : ℕ). wide_managers x w.managers_at-managers.result) (ones_are _ _ w.requires.width w.undefined_addr.ensures)
-
 pub returns-then-wide_managers : goal.returns-then-wide_managers
 returns-then-wide_managers c =
+    let wide_by : (c.wide_managers.result ≡ wide_managers (undefined_addr c.args.offset_size) c.managers_at-managers.result) = c.wide_managers.ensures
+    ∙ ap (λ (x : ℕ). wide_managers x c.managers_at-managers.result) (ones_are _ _ c.requires.width c.undefined_addr.ensures) in
     let a = c.args in
     from-wide a.meta.now a.raw.now a.unclassified.now a.s a.offset_size a.m c.requires a.start c.ends_late.result c.ends_late.ensures
     c.if-ends_late.false _ c.source_of.ensures c.is_shared.result c.is_shared.ensures c.if-is_shared.false _ c.managers_at-managers.ensures
-    c.wide_managers.result (wide_by c.before) c.if-wide_managers.true
+    c.wide_managers.result wide_by c.if-wide_managers.true
 
 pub returns-then-wide_slots : goal.returns-then-wide_slots
 returns-then-wide_slots c =
+    let wide_by : (c.wide_managers.result ≡ wide_managers (undefined_addr c.args.offset_size) c.managers_at-managers.result) = c.wide_managers.ensures
+    ∙ ap (λ (x : ℕ). wide_managers x c.managers_at-managers.result) (ones_are _ _ c.requires.width c.undefined_addr.ensures) in
     let a = c.args in
     from-wide-section a.meta.now a.raw.now a.unclassified.now a.s a.offset_size a.m c.requires a.start c.ends_late.result c.ends_late.ensures
     c.if-ends_late.false _ c.source_of.ensures c.is_shared.result c.is_shared.ensures c.if-is_shared.false _ c.managers_at-managers.ensures
-    c.wide_managers.result (wide_by c.before.before.before) c.if-wide_managers.false c.wide_slots.result c.wide_slots.ensures c.if-wide_slots.true
+    c.wide_managers.result wide_by c.if-wide_managers.false c.wide_slots.result c.wide_slots.ensures c.if-wide_slots.true
 
 pub returns : goal.returns
 returns c =
+    let wide_by : (c.wide_managers.result ≡ wide_managers (undefined_addr c.args.offset_size) c.managers_at-managers.result) = c.wide_managers.ensures
+    ∙ ap (λ (x : ℕ). wide_managers x c.managers_at-managers.result) (ones_are _ _ c.requires.width c.undefined_addr.ensures) in
     let a = c.args in
     from_plan a.meta.now a.raw.now a.unclassified.now a.s a.offset_size a.m c.requires a.start c.ends_late.result c.ends_late.ensures
     c.if-ends_late.false _ c.source_of.ensures c.is_shared.result c.is_shared.ensures c.if-is_shared.false _ c.managers_at-managers.ensures
-    c.wide_managers.result (wide_by c.before.before.before) c.if-wide_managers.false c.wide_slots.result c.wide_slots.ensures c.if-wide_slots.false
+    c.wide_managers.result wide_by c.if-wide_managers.false c.wide_slots.result c.wide_slots.ensures c.if-wide_slots.false

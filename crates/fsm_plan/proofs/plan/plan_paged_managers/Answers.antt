@@ -21,10 +21,9 @@ returns-then-out-ne0 c =
 
 pub put_plan-requires : goal.put_plan-requires
 put_plan-requires c =
-    let every = let a = c.args in
+    let a = c.args in
     let h = planned-accepted a.meta.now a.raw.now a.unclassified.now a.n a.page a.start a.offset_size a.out.now (ap not (sym c.is_width.ensures) ∙ c.if-not-is_width.false) c.if-page-eq0.false c.if-out-ne0.false _ c.plan_blocks-planned.ensures _ c.in-Plan.is in
-    (large_given a.meta.now a.raw.now a.unclassified.now a.n a.page a.offset_size h.tested, ((h.tested.late-x, h.tested.late-y), accepted-counted a.meta.now a.raw.now a.unclassified.now a.n a.page a.start a.offset_size _ h)) in
-    record { given = every.0; fits = every.1; counted = every.2 }
+    record { given = large_given a.meta.now a.raw.now a.unclassified.now a.n a.page a.offset_size h.tested; fits = (h.tested.late-x, h.tested.late-y); counted = accepted-counted a.meta.now a.raw.now a.unclassified.now a.n a.page a.start a.offset_size _ h }
 
 pub returns-in-Refused : goal.returns-in-Refused
 returns-in-Refused c =

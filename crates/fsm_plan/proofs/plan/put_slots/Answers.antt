@@ -4,15 +4,14 @@ use Rattle.fsm_plan.proofs.plan.put_slots.Goals as goal
 
 pub put_small-k-requires : goal.put_small-k-requires
 put_small-k-requires c =
-    let every = let p = c.requires in (p.0.some, (p.1.0.0, omega (arith, p.1.1))) in
-    record { page = every.0; fits = every.1; room = every.2 }
+    let p = c.requires in
+    record { page = p.0.some; fits = p.1.0.0; room = omega (arith, p.1.1) }
 
 pub put_small-j-requires : goal.put_small-j-requires
 put_small-j-requires c =
-    let every = let a = c.args in
+    let a = c.args in
     let p = c.requires in
-    (p.0.some, (p.1.0.1, second-room a.s a.meta.now a.raw.now a.unclassified.now a.out.now p.0.some p.1.1 _ _ c.put_small-k.ensures.0 c.put_small-k.ensures.1)) in
-    record { page = every.0; fits = every.1; room = every.2 }
+    record { page = p.0.some; fits = p.1.0.1; room = second-room a.s a.meta.now a.raw.now a.unclassified.now a.out.now p.0.some p.1.1 _ _ c.put_small-k.ensures.0 c.put_small-k.ensures.1 }
 
 pub put_large-requires : goal.put_large-requires
 put_large-requires c =

@@ -8,17 +8,18 @@ use Rattle.free_space.specs.Runs.{region_at}
 use Rattle.paged_calls.proofs.CodeLaws.{last-region, none_reached, last_reached}
 use Rattle.paged_calls.proofs.tests.end_of.Goals as goal
 
-is_last : (s : goal.After-pair_at-last) → let a = s.args in
-    region s.pair_at-last.result.addr s.pair_at-last.result.len ≡ region_at a.run.now (a.list.count - 1)
-is_last s = ap (λ (p : Pair). region p.addr p.len) s.pair_at-last.ensures
-
 pub returns-then-list-eq0 : goal.returns-then-list-eq0
 returns-then-list-eq0 c = none_reached c.args.run.now c.args.list c.if-list-eq0.true
 
 pub overflow_add-result : goal.overflow_add-result
 overflow_add-result c =
-    let f = last-region c.args.run.now c.args.list _ c.requires (omega arith) (is_last c.before) in
+    let is_last : (let a = c.args in
+    region c.pair_at-last.result.addr c.pair_at-last.result.len ≡ region_at a.run.now (a.list.count - 1)) = ap (λ (p : Pair). region p.addr p.len) c.pair_at-last.ensures in
+    let f = last-region c.args.run.now c.args.list _ c.requires (omega arith) is_last in
     record { fits = omega (arith, f.within) }
 
 pub returns : goal.returns
-returns c = last_reached c.args.run.now c.args.list _ c.requires (omega arith) (is_last c.before)
+returns c =
+    let is_last : (let a = c.args in
+    region c.pair_at-last.result.addr c.pair_at-last.result.len ≡ region_at a.run.now (a.list.count - 1)) = ap (λ (p : Pair). region p.addr p.len) c.pair_at-last.ensures in
+    last_reached c.args.run.now c.args.list _ c.requires (omega arith) is_last

@@ -11,46 +11,55 @@ use Rattle.save.specs.Beginning.{awayTests, earlyTests}
 use Rattle.save.proofs.OrderLaws.{away_outside, message_there, away_version, away_strategy, away_way, away_fine, shared-refused, shared-not}
 use Rattle.save.proofs.conditions.test_early.Goals as goal
 
-past : (c : goal.In-Passed) →
-    let a = c.args in
-    (o : Outcome (Unit {0})) → o ≡ first_of (awayTests (regions_in (lists_in a.meta.now a.raw.now a.unclassified.now a.q.lists)) a.q.to.start a.q.to.place a.image.now) (answer tt) → o ≡ first_of (earlyTests (regions_in (lists_in a.meta.now a.raw.now a.unclassified.now a.q.lists)) a.q.to.start a.q.to.place a.image.now) (answer tt)
-past c =
-    let a = c.args in
-    shared-not a.meta.now a.raw.now a.unclassified.now a.q.lists c.requires.lists _ c.check_lists-shared.ensures (awayTests (regions_in (lists_in a.meta.now a.raw.now a.unclassified.now a.q.lists)) a.q.to.start a.q.to.place a.image.now) c.in-Passed.is
-
-there : (c : goal.Else-not-message_in) → let a = c.args in a.q.to.place + 125 ≤ length a.image.now
-there c = let a = c.args in message_there (regions_in (lists_in a.meta.now a.raw.now a.unclassified.now a.q.lists)) a.q.to.start a.q.to.place a.image.now _ c.message_in.ensures c.if-not-message_in.false
-
 pub returns-then-not-message_in : goal.returns-then-not-message_in
 returns-then-not-message_in c =
-    let a = c.args in past c.before.before _ (away_outside (regions_in (lists_in a.meta.now a.raw.now a.unclassified.now a.q.lists)) a.q.to.start a.q.to.place a.image.now _ c.message_in.ensures c.if-not-message_in.true)
+    let past : (let a = c.args in
+    (o : Outcome (Unit {0})) → o ≡ first_of (awayTests (regions_in (lists_in a.meta.now a.raw.now a.unclassified.now a.q.lists)) a.q.to.start a.q.to.place a.image.now) (answer tt) → o ≡ first_of (earlyTests (regions_in (lists_in a.meta.now a.raw.now a.unclassified.now a.q.lists)) a.q.to.start a.q.to.place a.image.now) (answer tt)) = let a = c.args in
+    shared-not a.meta.now a.raw.now a.unclassified.now a.q.lists c.requires.lists _ c.check_lists-shared.ensures (awayTests (regions_in (lists_in a.meta.now a.raw.now a.unclassified.now a.q.lists)) a.q.to.start a.q.to.place a.image.now) c.in-Passed.is in
+    let a = c.args in past _ (away_outside (regions_in (lists_in a.meta.now a.raw.now a.unclassified.now a.q.lists)) a.q.to.start a.q.to.place a.image.now _ c.message_in.ensures c.if-not-message_in.true)
 
 pub bounds-image-at : goal.bounds-image-at
-bounds-image-at c = let i = there c.before in search rules
+bounds-image-at c =
+    let there : (let a = c.args in a.q.to.place + 125 ≤ length a.image.now) = let a = c.args in message_there (regions_in (lists_in a.meta.now a.raw.now a.unclassified.now a.q.lists)) a.q.to.start a.q.to.place a.image.now _ c.message_in.ensures c.if-not-message_in.false in
+    let i = there in search rules
 
 pub returns-then-version-ne1 : goal.returns-then-version-ne1
 returns-then-version-ne1 c =
-    let a = c.args in past c.before.before.before.before _ (away_version (regions_in (lists_in a.meta.now a.raw.now a.unclassified.now a.q.lists)) a.q.to.start a.q.to.place a.image.now _ c.message_in.ensures c.if-not-message_in.false c.if-version-ne1.true)
+    let past : (let a = c.args in
+    (o : Outcome (Unit {0})) → o ≡ first_of (awayTests (regions_in (lists_in a.meta.now a.raw.now a.unclassified.now a.q.lists)) a.q.to.start a.q.to.place a.image.now) (answer tt) → o ≡ first_of (earlyTests (regions_in (lists_in a.meta.now a.raw.now a.unclassified.now a.q.lists)) a.q.to.start a.q.to.place a.image.now) (answer tt)) = let a = c.args in
+    shared-not a.meta.now a.raw.now a.unclassified.now a.q.lists c.requires.lists _ c.check_lists-shared.ensures (awayTests (regions_in (lists_in a.meta.now a.raw.now a.unclassified.now a.q.lists)) a.q.to.start a.q.to.place a.image.now) c.in-Passed.is in
+    let a = c.args in past _ (away_version (regions_in (lists_in a.meta.now a.raw.now a.unclassified.now a.q.lists)) a.q.to.start a.q.to.place a.image.now _ c.message_in.ensures c.if-not-message_in.false c.if-version-ne1.true)
 
 pub overflow_add-code : goal.overflow_add-code
-overflow_add-code c = let i = there c.before.before in search rules
+overflow_add-code c =
+    let there : (let a = c.args in a.q.to.place + 125 ≤ length a.image.now) = let a = c.args in message_there (regions_in (lists_in a.meta.now a.raw.now a.unclassified.now a.q.lists)) a.q.to.start a.q.to.place a.image.now _ c.message_in.ensures c.if-not-message_in.false in
+    let i = there in search rules
 
 pub bounds-image-at-in-Passed : goal.bounds-image-at-in-Passed
-bounds-image-at-in-Passed c = let i = there c.before.before.before in search rules
+bounds-image-at-in-Passed c =
+    let there : (let a = c.args in a.q.to.place + 125 ≤ length a.image.now) = let a = c.args in message_there (regions_in (lists_in a.meta.now a.raw.now a.unclassified.now a.q.lists)) a.q.to.start a.q.to.place a.image.now _ c.message_in.ensures c.if-not-message_in.false in
+    let i = there in search rules
 
 pub returns-then-code-gt3 : goal.returns-then-code-gt3
 returns-then-code-gt3 c =
-    let a = c.args in past c.before.before.before.before.before.before _ (away_strategy (regions_in (lists_in a.meta.now a.raw.now a.unclassified.now a.q.lists)) a.q.to.start a.q.to.place a.image.now _ c.message_in.ensures c.if-not-message_in.false c.if-version-ne1.false c.if-code-gt3.true)
+    let past : (let a = c.args in
+    (o : Outcome (Unit {0})) → o ≡ first_of (awayTests (regions_in (lists_in a.meta.now a.raw.now a.unclassified.now a.q.lists)) a.q.to.start a.q.to.place a.image.now) (answer tt) → o ≡ first_of (earlyTests (regions_in (lists_in a.meta.now a.raw.now a.unclassified.now a.q.lists)) a.q.to.start a.q.to.place a.image.now) (answer tt)) = let a = c.args in
+    shared-not a.meta.now a.raw.now a.unclassified.now a.q.lists c.requires.lists _ c.check_lists-shared.ensures (awayTests (regions_in (lists_in a.meta.now a.raw.now a.unclassified.now a.q.lists)) a.q.to.start a.q.to.place a.image.now) c.in-Passed.is in
+    let a = c.args in past _ (away_strategy (regions_in (lists_in a.meta.now a.raw.now a.unclassified.now a.q.lists)) a.q.to.start a.q.to.place a.image.now _ c.message_in.ensures c.if-not-message_in.false c.if-version-ne1.false c.if-code-gt3.true)
 
 pub any_in_the_way-requires : goal.any_in_the_way-requires
 any_in_the_way-requires c =
-    let i = there c.before.before.before.before in
+    let there : (let a = c.args in a.q.to.place + 125 ≤ length a.image.now) = let a = c.args in message_there (regions_in (lists_in a.meta.now a.raw.now a.unclassified.now a.q.lists)) a.q.to.start a.q.to.place a.image.now _ c.message_in.ensures c.if-not-message_in.false in
+    let i = there in
     record { lists = c.requires.lists; message = omega arith }
 
 pub returns-then-any_in_the_way : goal.returns-then-any_in_the_way
 returns-then-any_in_the_way c =
+    let past : (let a = c.args in
+    (o : Outcome (Unit {0})) → o ≡ first_of (awayTests (regions_in (lists_in a.meta.now a.raw.now a.unclassified.now a.q.lists)) a.q.to.start a.q.to.place a.image.now) (answer tt) → o ≡ first_of (earlyTests (regions_in (lists_in a.meta.now a.raw.now a.unclassified.now a.q.lists)) a.q.to.start a.q.to.place a.image.now) (answer tt)) = let a = c.args in
+    shared-not a.meta.now a.raw.now a.unclassified.now a.q.lists c.requires.lists _ c.check_lists-shared.ensures (awayTests (regions_in (lists_in a.meta.now a.raw.now a.unclassified.now a.q.lists)) a.q.to.start a.q.to.place a.image.now) c.in-Passed.is in
     let a = c.args in
-    past c.before.before.before.before.before.before.before.before _ (away_way (regions_in (lists_in a.meta.now a.raw.now a.unclassified.now a.q.lists)) a.q.to.start a.q.to.place a.image.now _ c.message_in.ensures c.if-not-message_in.false c.if-version-ne1.false c.if-code-gt3.false _ c.any_in_the_way.ensures c.if-any_in_the_way.true)
+    past _ (away_way (regions_in (lists_in a.meta.now a.raw.now a.unclassified.now a.q.lists)) a.q.to.start a.q.to.place a.image.now _ c.message_in.ensures c.if-not-message_in.false c.if-version-ne1.false c.if-code-gt3.false _ c.any_in_the_way.ensures c.if-any_in_the_way.true)
 
 pub returns-in-Refused : goal.returns-in-Refused
 returns-in-Refused c =
@@ -59,5 +68,8 @@ returns-in-Refused c =
 
 pub returns-else-any_in_the_way : goal.returns-else-any_in_the_way
 returns-else-any_in_the_way c =
+    let past : (let a = c.args in
+    (o : Outcome (Unit {0})) → o ≡ first_of (awayTests (regions_in (lists_in a.meta.now a.raw.now a.unclassified.now a.q.lists)) a.q.to.start a.q.to.place a.image.now) (answer tt) → o ≡ first_of (earlyTests (regions_in (lists_in a.meta.now a.raw.now a.unclassified.now a.q.lists)) a.q.to.start a.q.to.place a.image.now) (answer tt)) = let a = c.args in
+    shared-not a.meta.now a.raw.now a.unclassified.now a.q.lists c.requires.lists _ c.check_lists-shared.ensures (awayTests (regions_in (lists_in a.meta.now a.raw.now a.unclassified.now a.q.lists)) a.q.to.start a.q.to.place a.image.now) c.in-Passed.is in
     let a = c.args in
-    past c.before.before.before.before.before.before.before.before _ (away_fine (regions_in (lists_in a.meta.now a.raw.now a.unclassified.now a.q.lists)) a.q.to.start a.q.to.place a.image.now _ c.message_in.ensures c.if-not-message_in.false c.if-version-ne1.false c.if-code-gt3.false _ c.any_in_the_way.ensures c.if-any_in_the_way.false)
+    past _ (away_fine (regions_in (lists_in a.meta.now a.raw.now a.unclassified.now a.q.lists)) a.q.to.start a.q.to.place a.image.now _ c.message_in.ensures c.if-not-message_in.false c.if-version-ne1.false c.if-code-gt3.false _ c.any_in_the_way.ensures c.if-any_in_the_way.false)

@@ -16,7 +16,7 @@ returns-then-number-eq4 c =
     let x = c.serialize_paged_managers-planned.ensures
     ∙ ap (λ (n : Counts). leaving (take k a.scratch.now) (writtenManagers a.meta.now a.raw.now a.unclassified.now n a.q.to.page a.q.to.start 8 (take k a.scratch.now)))
     c.counts_of-n.ensures in
-    large_refused a.meta.now a.raw.now a.unclassified.now a.q.lists a.q.to.page a.q.to.start a.q.to.place a.image.now a.scratch.now c.requires.lists.0 c.requires.lists.1 c.requires.apart.0 c.block_room-room.result c.block_room-room.ensures k lent _ _ x _ c.in-Refused.is (sym c.number.ensures ∙ c.if-number-eq4.true)
+    large_refused a.meta.now a.raw.now a.unclassified.now a.q.lists a.q.to.page a.q.to.start a.q.to.place a.image.now a.scratch.now c.requires.lists.0 c.requires.lists.1 c.requires.apart c.block_room-room.result c.block_room-room.ensures k lent _ _ x _ c.in-Refused.is (sym c.number.ensures ∙ c.if-number-eq4.true)
 
 pub returns-then-room-needed : goal.returns-then-room-needed
 returns-then-room-needed c =
@@ -26,7 +26,7 @@ returns-then-room-needed c =
     let x = c.serialize_paged_managers-planned.ensures
     ∙ ap (λ (n : Counts). leaving (take k a.scratch.now) (writtenManagers a.meta.now a.raw.now a.unclassified.now n a.q.to.page a.q.to.start 8 (take k a.scratch.now)))
     c.counts_of-n.ensures in
-    blocks_refused a.meta.now a.raw.now a.unclassified.now a.q.lists a.q.to.page a.q.to.start a.q.to.place a.image.now a.scratch.now c.requires.lists.0 c.requires.lists.1 c.requires.apart.0 c.block_room-room.result c.block_room-room.ensures k lent _ _ x _ c.in-Refused.is (λ z. c.if-number-eq4.false (c.number.ensures ∙ z)) _ c.needed_of-needed.ensures c.if-room-needed.true
+    blocks_refused a.meta.now a.raw.now a.unclassified.now a.q.lists a.q.to.page a.q.to.start a.q.to.place a.image.now a.scratch.now c.requires.lists.0 c.requires.lists.1 c.requires.apart c.block_room-room.result c.block_room-room.ensures k lent _ _ x _ c.in-Refused.is (λ z. c.if-number-eq4.false (c.number.ensures ∙ z)) _ c.needed_of-needed.ensures c.if-room-needed.true
 
 pub refuse_room-requires : goal.refuse_room-requires
 refuse_room-requires c =
@@ -36,7 +36,7 @@ refuse_room-requires c =
     let x = c.serialize_paged_managers-planned.ensures
     ∙ ap (λ (n : Counts). leaving (take k a.scratch.now) (writtenManagers a.meta.now a.raw.now a.unclassified.now n a.q.to.page a.q.to.start 8 (take k a.scratch.now)))
     c.counts_of-n.ensures in
-    omega (arith, needed_low a.meta.now a.raw.now a.unclassified.now a.q.lists a.q.to.page a.q.to.start a.q.to.place a.image.now a.scratch.now c.requires.lists.0 c.requires.lists.1 c.requires.apart.0 c.block_room-room.result c.block_room-room.ensures k lent _ _ x _ c.in-Refused.is (λ z. c.if-number-eq4.false (c.number.ensures ∙ z)) _ c.needed_of-needed.ensures c.if-room-needed.false)
+    omega (arith, needed_low a.meta.now a.raw.now a.unclassified.now a.q.lists a.q.to.page a.q.to.start a.q.to.place a.image.now a.scratch.now c.requires.lists.0 c.requires.lists.1 c.requires.apart c.block_room-room.result c.block_room-room.ensures k lent _ _ x _ c.in-Refused.is (λ z. c.if-number-eq4.false (c.number.ensures ∙ z)) _ c.needed_of-needed.ensures c.if-room-needed.false)
 
 pub overflow_sub-len : goal.overflow_sub-len
 overflow_sub-len c =
@@ -46,7 +46,7 @@ overflow_sub-len c =
     let x = c.serialize_paged_managers-planned.ensures
     ∙ ap (λ (n : Counts). leaving (take k a.scratch.now) (writtenManagers a.meta.now a.raw.now a.unclassified.now n a.q.to.page a.q.to.start 8 (take k a.scratch.now)))
     c.counts_of-n.ensures in
-    omega (arith, plan_start a.meta.now a.raw.now a.unclassified.now a.q.lists a.q.to.page a.q.to.start a.q.to.place a.image.now a.scratch.now c.requires.lists.0 c.requires.lists.1 c.requires.apart.0 c.block_room-room.result c.block_room-room.ensures k lent _ _ x _ c.in-Plan.is)
+    omega (arith, plan_start a.meta.now a.raw.now a.unclassified.now a.q.lists a.q.to.page a.q.to.start a.q.to.place a.image.now a.scratch.now c.requires.lists.0 c.requires.lists.1 c.requires.apart c.block_room-room.result c.block_room-room.ensures k lent _ _ x _ c.in-Plan.is)
 
 pub refuse_room-requires-then-given-lt-MESSAGE_LEN : goal.refuse_room-requires-then-given-lt-MESSAGE_LEN
 refuse_room-requires-then-given-lt-MESSAGE_LEN c =
@@ -56,7 +56,7 @@ refuse_room-requires-then-given-lt-MESSAGE_LEN c =
     let x = c.serialize_paged_managers-planned.ensures
     ∙ ap (λ (n : Counts). leaving (take k a.scratch.now) (writtenManagers a.meta.now a.raw.now a.unclassified.now n a.q.to.page a.q.to.start 8 (take k a.scratch.now)))
     c.counts_of-n.ensures in
-    omega (arith, len_low a.meta.now a.raw.now a.unclassified.now a.q.lists a.q.to.page a.q.to.start a.q.to.place a.image.now a.scratch.now c.requires.lists.0 c.requires.lists.1 c.requires.apart.0 c.block_room-room.result c.block_room-room.ensures k lent _ _ x _ c.in-Plan.is)
+    omega (arith, len_low a.meta.now a.raw.now a.unclassified.now a.q.lists a.q.to.page a.q.to.start a.q.to.place a.image.now a.scratch.now c.requires.lists.0 c.requires.lists.1 c.requires.apart c.block_room-room.result c.block_room-room.ensures k lent _ _ x _ c.in-Plan.is)
 
 pub returns-then-given-lt-MESSAGE_LEN : goal.returns-then-given-lt-MESSAGE_LEN
 returns-then-given-lt-MESSAGE_LEN c =
@@ -66,7 +66,7 @@ returns-then-given-lt-MESSAGE_LEN c =
     let x = c.serialize_paged_managers-planned.ensures
     ∙ ap (λ (n : Counts). leaving (take k a.scratch.now) (writtenManagers a.meta.now a.raw.now a.unclassified.now n a.q.to.page a.q.to.start 8 (take k a.scratch.now)))
     c.counts_of-n.ensures in
-    message_refused a.meta.now a.raw.now a.unclassified.now a.q.lists a.q.to.page a.q.to.start a.q.to.place a.image.now a.scratch.now c.requires.lists.0 c.requires.lists.1 c.requires.apart.0 c.block_room-room.result c.block_room-room.ensures k lent _ _ x _ c.in-Plan.is c.if-given-lt-MESSAGE_LEN.true _ c.refuse_room-then-given-lt-MESSAGE_LEN.ensures
+    message_refused a.meta.now a.raw.now a.unclassified.now a.q.lists a.q.to.page a.q.to.start a.q.to.place a.image.now a.scratch.now c.requires.lists.0 c.requires.lists.1 c.requires.apart c.block_room-room.result c.block_room-room.ensures k lent _ _ x _ c.in-Plan.is c.if-given-lt-MESSAGE_LEN.true _ c.refuse_room-then-given-lt-MESSAGE_LEN.ensures
 
 pub put_message-requires : goal.put_message-requires
 put_message-requires c =
@@ -76,7 +76,7 @@ put_message-requires c =
     let x = c.serialize_paged_managers-planned.ensures
     ∙ ap (λ (n : Counts). leaving (take k a.scratch.now) (writtenManagers a.meta.now a.raw.now a.unclassified.now n a.q.to.page a.q.to.start 8 (take k a.scratch.now)))
     c.counts_of-n.ensures in
-    (plan_start a.meta.now a.raw.now a.unclassified.now a.q.lists a.q.to.page a.q.to.start a.q.to.place a.image.now a.scratch.now c.requires.lists.0 c.requires.lists.1 c.requires.apart.0 c.block_room-room.result c.block_room-room.ensures k lent _ _ x _ c.in-Plan.is, message_room a.meta.now a.raw.now a.unclassified.now a.q.lists a.q.to.page a.q.to.start a.q.to.place a.image.now a.scratch.now c.requires.lists.0 c.requires.lists.1 c.requires.apart.0 c.block_room-room.result c.block_room-room.ensures k lent _ _ x _ c.in-Plan.is c.if-given-lt-MESSAGE_LEN.false)
+    (plan_start a.meta.now a.raw.now a.unclassified.now a.q.lists a.q.to.page a.q.to.start a.q.to.place a.image.now a.scratch.now c.requires.lists.0 c.requires.lists.1 c.requires.apart c.block_room-room.result c.block_room-room.ensures k lent _ _ x _ c.in-Plan.is, message_room a.meta.now a.raw.now a.unclassified.now a.q.lists a.q.to.page a.q.to.start a.q.to.place a.image.now a.scratch.now c.requires.lists.0 c.requires.lists.1 c.requires.apart c.block_room-room.result c.block_room-room.ensures k lent _ _ x _ c.in-Plan.is c.if-given-lt-MESSAGE_LEN.false)
 
 pub returns-else-room-needed : goal.returns-else-room-needed
 returns-else-room-needed c =
@@ -86,7 +86,7 @@ returns-else-room-needed c =
     let x = c.serialize_paged_managers-planned.ensures
     ∙ ap (λ (n : Counts). leaving (take k a.scratch.now) (writtenManagers a.meta.now a.raw.now a.unclassified.now n a.q.to.page a.q.to.start 8 (take k a.scratch.now)))
     c.counts_of-n.ensures in
-    scratch-refused a.meta.now a.raw.now a.unclassified.now a.q.lists a.q.to.page a.q.to.start a.q.to.place a.image.now a.scratch.now c.requires.lists.0 c.requires.lists.1 c.requires.apart.0 c.block_room-room.result c.block_room-room.ensures k lent _ _ x _ c.in-Refused.is (λ z. c.if-number-eq4.false (c.number.ensures ∙ z)) _ c.needed_of-needed.ensures c.if-room-needed.false _ c.refuse_room.ensures
+    scratch-refused a.meta.now a.raw.now a.unclassified.now a.q.lists a.q.to.page a.q.to.start a.q.to.place a.image.now a.scratch.now c.requires.lists.0 c.requires.lists.1 c.requires.apart c.block_room-room.result c.block_room-room.ensures k lent _ _ x _ c.in-Refused.is (λ z. c.if-number-eq4.false (c.number.ensures ∙ z)) _ c.needed_of-needed.ensures c.if-room-needed.false _ c.refuse_room.ensures
 
 pub returns-else-given-lt-MESSAGE_LEN : goal.returns-else-given-lt-MESSAGE_LEN
 returns-else-given-lt-MESSAGE_LEN c =
@@ -96,4 +96,4 @@ returns-else-given-lt-MESSAGE_LEN c =
     let x = c.serialize_paged_managers-planned.ensures
     ∙ ap (λ (n : Counts). leaving (take k a.scratch.now) (writtenManagers a.meta.now a.raw.now a.unclassified.now n a.q.to.page a.q.to.start 8 (take k a.scratch.now)))
     c.counts_of-n.ensures in
-    begun a.meta.now a.raw.now a.unclassified.now a.q.lists a.q.to.page a.q.to.start a.q.to.place a.image.now a.scratch.now c.requires.lists.0 c.requires.lists.1 c.requires.apart.0 c.block_room-room.result c.block_room-room.ensures k lent _ _ x _ c.in-Plan.is c.if-given-lt-MESSAGE_LEN.false _ c.put_message.ensures
+    begun a.meta.now a.raw.now a.unclassified.now a.q.lists a.q.to.page a.q.to.start a.q.to.place a.image.now a.scratch.now c.requires.lists.0 c.requires.lists.1 c.requires.apart c.block_room-room.result c.block_room-room.ensures k lent _ _ x _ c.in-Plan.is c.if-given-lt-MESSAGE_LEN.false _ c.put_message.ensures
