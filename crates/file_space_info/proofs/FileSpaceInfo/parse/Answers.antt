@@ -10,7 +10,7 @@ pub present_addrs-n-requires : goal.present_addrs-n-requires
 present_addrs-n-requires c =
     let told : (let a = c.args in answer c.in-Is.info ≡ fixed_read a.offset_size a.length_size a.bytes.now) = sym (ap fixed_outcome c.in-Is.is) ∙ c.read_fixed-fixed.ensures in
     let ok = accepted _ _ _ _ told in
-    (ok.size.os-low, ok.long)
+    (ok.size.os_low, ok.long)
 
 pub returns-then-addrs-n : goal.returns-then-addrs-n
 returns-then-addrs-n c =
@@ -25,7 +25,7 @@ read_addrs-requires c =
     let m = c.in-Is.info in
     let n = c.present_addrs-n in
     let w = count-within a.offset_size a.length_size a.bytes.now a.addrs.now m told n.result n.ensures in
-    ((accepted _ _ _ _ told).size.os-high, omega arith, omega arith)
+    ((accepted _ _ _ _ told).size.os_high, omega arith, omega arith)
 
 pub returns-in-Refused : goal.returns-in-Refused
 returns-in-Refused c =
