@@ -15,11 +15,11 @@ use Rattle.save_step.specs.contracts.Step.{the_type}
 use Rattle.save_step.proofs.RowLaws.{steps_step, steps-stop}
 use Rattle.save_step.proofs.save_steps.Goals as goal
 
-stops : (r : Step) → OneOf (1 ∷ 2 ∷ []) (tag_of the_type r) → (t : Save) → step_outcome r ≡ answer (stored t) → ⊥
-stops (step.Stored s) (inl k) t e = omega arith
-stops (step.Stored s) (inr k) t e = omega arith
-stops step.Finished k t e = let z : ◌≡◌ {A = ℕ} 0 1 = cc in omega arith
-stops (step.Refused r) k t e = let z : ◌≡◌ {A = ℕ} 0 1 = cc in omega arith
+-- an answer of the other two variants is no store
+stops : (r : Step) → ((x : Save) → r ≡ step.Stored x → ⊥) → (t : Save) → step_outcome r ≡ answer (stored t) → ⊥
+stops (step.Stored s) n t e = n s refl
+stops step.Finished n t e = cc
+stops (step.Refused r) n t e = cc
 
 pub loop-i-init : goal.loop-i-init
 unfolding steps
@@ -29,16 +29,16 @@ pub returns-in_default : goal.returns-in_default
 returns-in_default c =
     let l = c.loop-i in
     let a = c.args in
-    steps-stop l.c l.image a.scratch.now (saving a.s a.image.now) l.i l.invariant.2 _ (step_outcome c.save_step.result) (stops c.save_step.result c.in_default.is) c.save_step.ensures a.k l.invariant.0
+    steps-stop l.c l.image a.scratch.now (saving a.s a.image.now) l.i l.invariant.2 _ (step_outcome c.save_step.result) (stops c.save_step.result c.in_default.not-Stored) c.save_step.ensures a.k l.invariant.0
 
 pub loop-i-preserved : goal.loop-i-preserved
 loop-i-preserved c =
     let l = c.loop-i in
     let a = c.args in
-    let n = c.next-1.given in (
+    let n = c.in-Stored in (
       search rules,
       search rules,
-      steps_step l.c l.image a.scratch.now (saving a.s a.image.now) l.i l.invariant.2 _ (step_outcome c.save_step.result) n.0.0 (ap step_outcome n.1) c.save_step.ensures,
+      steps_step l.c l.image a.scratch.now (saving a.s a.image.now) l.i l.invariant.2 _ (step_outcome c.save_step.result) n.next (ap step_outcome n.is) c.save_step.ensures,
     )
 
 pub returns : goal.returns
