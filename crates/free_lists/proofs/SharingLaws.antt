@@ -6,6 +6,7 @@ use mathlib.Core.Bool.{Bool, true, false, ◌||◌, not}
 use Prim.Native.Nat.{ℕ, zero, suc, ◌+◌, ◌≤◌, ◌<◌}
 use native.Mathlib.Nat.{le_of_suc-le-suc, not-suc-le-zero}
 use native.Mathlib.Omega.{arith}
+use borrow.Author.Tests.{not-false}
 use lib.ListN.{length, get_or, drop}
 use Rattle.error.specs.declared.Checked.{Checked}
 use Rattle.error.specs.declared.Checked.TheVariants as checked
@@ -24,7 +25,6 @@ use Rattle.free_regions.proofs.ShareLaws.{meets_both, shares-above, share_past, 
 use Rattle.free_space.specs.declared.list.FreeList.{FreeList}
 use Rattle.free_space.specs.Runs.{region_at, decode, is_list}
 use Rattle.free_space.proofs.DecodeLaws.{here}
-use Rattle.free_space.proofs.CheckLaws.{denied, held}
 use Rattle.free_space.proofs.ListLaws.{listed}
 use Rattle.pairs.proofs.PairLaws.{length-decode, decode-at, decode-end}
 use Rattle.free_lists.specs.declared.FileLists.{FileLists}
@@ -114,20 +114,20 @@ module _ (xs ys zs : List ℕ) (f : FileLists) where
   ls = lists_in xs ys zs f
 
   -- b and s are the flags of the code
-  pub lists-order : {b : Bool} → b ≡ are_lists ls → not b ≡ false → AllInOrder xs ys zs (counts_of f)
+  pub lists-order : {b : Bool} → b ≡ are_lists ls → b ≡ true → AllInOrder xs ys zs (counts_of f)
   lists-order e h =
-      let p = and_true (is_list xs f.metadata) _ (held e h) in
+      let p = and_true (is_list xs f.metadata) _ (sym e ∙ h) in
       let q = and_true (is_list ys f.raw) (is_list zs f.unclassified) p.1 in
       record { meta = in_order xs f.metadata p.0; raw = in_order ys f.raw q.0; unclassified = in_order zs f.unclassified q.1 }
 
-  pub apart-not : {b : Bool} → b ≡ are_lists ls → not b ≡ true → refused NotAList ≡ together ls
-  apart-not e h = sym (first_holds _ _ _ _ (ap not (denied e h)))
+  pub apart-not : {b : Bool} → b ≡ are_lists ls → b ≡ false → refused NotAList ≡ together ls
+  apart-not e h = sym (first_holds _ _ _ _ (ap not (sym e ∙ h)))
 
-  pub apart-shared : {b s : Bool} → b ≡ are_lists ls → not b ≡ false → s ≡ shared_byte (regions_in ls) → s ≡ true → refused SharedAddress ≡ together ls
-  apart-shared e h f g = sym (first_passes _ _ _ _ (ap not (held e h)) ∙ first_holds _ _ _ _ (sym f ∙ g))
+  pub apart-shared : {b s : Bool} → b ≡ are_lists ls → b ≡ true → s ≡ shared_byte (regions_in ls) → s ≡ true → refused SharedAddress ≡ together ls
+  apart-shared e h f g = sym (first_passes _ _ _ _ (ap not (sym e ∙ h)) ∙ first_holds _ _ _ _ (sym f ∙ g))
 
-  pub apart-fine : {b s : Bool} → b ≡ are_lists ls → not b ≡ false → s ≡ shared_byte (regions_in ls) → s ≡ false → answer tt ≡ together ls
-  apart-fine e h f g = sym (first_pass (apart ls) (answer tt) (ap not (held e h), (sym f ∙ g, tt)))
+  pub apart-fine : {b s : Bool} → b ≡ are_lists ls → b ≡ true → s ≡ shared_byte (regions_in ls) → s ≡ false → answer tt ≡ together ls
+  apart-fine e h f g = sym (first_pass (apart ls) (answer tt) (ap not (sym e ∙ h), (sym f ∙ g, tt)))
 
   -- what the answer of the test tells
   module _ {o : Checked} (a : checked_outcome o ≡ together ls) where
@@ -135,7 +135,7 @@ module _ (xs ys zs : List ℕ) (f : FileLists) where
     none h = (first_answers (apart ls) tt tt (sym a ∙ ap checked_outcome h)).0
 
     pub fine-order : o ≡ checked.Passed → AllInOrder xs ys zs (counts_of f)
-    fine-order h = lists-order refl (none h).0
+    fine-order h = lists-order refl (not-false (are_lists ls) (none h).0)
 
     pub start_is : (eof n : ℕ) → o ≡ checked.Passed → n ≡ walk eof (falling (remaining xs ys zs (counts_of f))) → answer n ≡ run_start ls eof
     unfolding run_start
