@@ -1,7 +1,7 @@
 -- How many sections there are, how many sizes they have and what their sizes add up to. Assumes nothing.
 --   summed           a number of sections and a sum of their sizes; refusal 4 where one of them is above top (document 01: "a sum of section
 --                    sizes"; a number of sections above top makes a length above it)
---   totals_of         the same of sections, with the number of their sizes
+--   totals_of        the same of sections, with the number of their sizes
 --   summed_outcome, totals_outcome   the outcome that an answer of the code stands for
 use Rattle.std.specs.Prelude.{ℕ, ◌||◌, List, [], ◌∷◌, length, nat_lt}
 use Rattle.error.specs.declared.Refusal.TheVariants.{Overflow}

@@ -1,12 +1,12 @@
 -- Sizes in a window: those from a bound up to another, each once, and how many sizes there are from a bound on. The number of sizes is the
 -- "distinct sizes" of document 01, Blocks: "Length: 9+O + distinct sizes × (count width+8) + sections × (O+1)". Assumes nothing.
 --   inside      a number is in a window
---   at_least     the sections whose size is at or above a bound
---   sizes_from   how many sizes these have
+--   at_least    the sections whose size is at or above a bound
+--   sizes_from  how many sizes these have
 --   Gathers     what a list of sizes becomes: each size in the window that has sections (seen z of them) stands in it once, the others as before
 --   Counted     as many sizes as lie in a window, and those above it, are those from where it begins
 --   between     the groups whose size lies in a window
---   groups_in    those of sections in the order on file
+--   groups_in   those of sections in the order on file
 use Rattle.std.specs.Prelude.{◌≡◌, ℕ, ◌+◌, ◌≤◌, Bool, cond, ◌&&◌, List, [], ◌∷◌, nat_le, nat_lt}
 use Rattle.fsm_sections.specs.declared.FreeSection.{FreeSection}
 use Rattle.fsm_sections.specs.Sections.{Group, by_size_then_addr, groups_of, distinct}
