@@ -9,14 +9,14 @@ returns-then-bytes-len c = let a = c.args in block_short a.len a.third a.fourth 
 pub returns-then-not-is_signed : goal.returns-then-not-is_signed
 returns-then-not-is_signed c =
     let a = c.args in
-    block_unsigned a.len a.third a.fourth a.bytes.now c.if-bytes-len.false (ap not (sym c.is_signed.ensures) ∙ c.if-not-is_signed.true)
+    block_unsigned a.len a.third a.fourth a.bytes.now c.if-bytes-len.false (ap not (sym c.is_signed.ensures ∙ c.if-not-is_signed.true))
 
 pub returns-then-version-ne0 : goal.returns-then-version-ne0
 returns-then-version-ne0 c =
     let a = c.args in
-    block_version a.len a.third a.fourth a.bytes.now c.if-bytes-len.false (ap not (sym c.is_signed.ensures) ∙ c.if-not-is_signed.false) c.if-version-ne0.true
+    block_version a.len a.third a.fourth a.bytes.now c.if-bytes-len.false (ap not (sym c.is_signed.ensures ∙ c.if-not-is_signed.false)) c.if-version-ne0.true
 
 pub returns : goal.returns
 returns c =
     let a = c.args in
-    block_passed a.len a.third a.fourth a.bytes.now c.if-bytes-len.false (ap not (sym c.is_signed.ensures) ∙ c.if-not-is_signed.false) c.if-version-ne0.false
+    block_passed a.len a.third a.fourth a.bytes.now c.if-bytes-len.false (ap not (sym c.is_signed.ensures ∙ c.if-not-is_signed.false)) c.if-version-ne0.false

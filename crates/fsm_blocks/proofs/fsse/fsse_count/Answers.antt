@@ -14,13 +14,13 @@ returns-then-len-o c =
 pub returns-then-not-is_signed : goal.returns-then-not-is_signed
 returns-then-not-is_signed c =
     let a = c.args in
-    refused-count InvalidManager (fsse_unsigned a.offset_size _ _ _ a.bytes.now c.if-len-o.false (ap not (sym c.is_signed.ensures) ∙ c.if-not-is_signed.true))
+    refused-count InvalidManager (fsse_unsigned a.offset_size _ _ _ a.bytes.now c.if-len-o.false (ap not (sym c.is_signed.ensures ∙ c.if-not-is_signed.true)))
 
 pub returns-then-bits : goal.returns-then-bits
 returns-then-bits c =
     let a = c.args in
     refused-count InvalidManager
-    (fsse-bits a.offset_size _ _ _ a.bytes.now c.if-len-o.false (ap not (sym c.is_signed.ensures) ∙ c.if-not-is_signed.false) c.if-bits.true)
+    (fsse-bits a.offset_size _ _ _ a.bytes.now c.if-len-o.false (ap not (sym c.is_signed.ensures ∙ c.if-not-is_signed.false)) c.if-bits.true)
 
 pub widths_of-requires : goal.widths_of-requires
 widths_of-requires c = few_bits _ c.if-bits.false
@@ -32,4 +32,4 @@ pub returns : goal.returns
 returns c =
     let a = c.args in
     groups_counted a.header a.offset_size a.bytes.now _ c.widths_of.ensures.same
-    c.if-len-o.false (ap not (sym c.is_signed.ensures) ∙ c.if-not-is_signed.false) c.if-bits.false _ c.groups_count.ensures
+    c.if-len-o.false (ap not (sym c.is_signed.ensures ∙ c.if-not-is_signed.false)) c.if-bits.false _ c.groups_count.ensures

@@ -40,8 +40,8 @@ returns c =
     let defined : (c.args.slot ≡ undefined_addr c.args.offset_size → ⊥) = λ e. c.if-slot-undefined_addr.false (e ∙ sym (ones_are _ _ c.requires c.undefined_addr.ensures)) in
     let a = c.args in
     record {
-      named = c.list_of.ensures.0
+      named = c.list_of.ensures.named
           ∙ manager-is a.reading a.offset_size a.base.0 a.slot a.bytes.now defined _ (sum_is a.slot a.base.0 c.absolute.ensures _ c.in-Is.is) c.if-bytes-start.false
           c.requires c.header_at-answer.ensures _ c.in-Header.is;
-      inside = c.list_of.ensures.1;
+      inside = c.list_of.ensures.inside;
     }

@@ -17,7 +17,7 @@ loop-i-preserved c =
     let a = c.args in
     let l = c.loop-i in
     let e = c.put_manager-k.ensures in
-    store_step Loose a.offset_size a.base.0 a.bytes.now a.slots.now a.out.now l.out l.k l.i l.invariant c.loop-i-test.true _ _ e.0 e.1
+    store_step Loose a.offset_size a.base.0 a.bytes.now a.slots.now a.out.now l.out l.k l.i l.invariant c.loop-i-test.true _ _ e.put e.next
 
 pub shape_of-out : goal.shape_of-out
 shape_of-out c = c.loop-i.invariant.same_length

@@ -10,7 +10,7 @@ returns-then-page-eq0 c = let a = c.args in count-page a.sections.now a.count a.
 pub returns-then-not-is_run : goal.returns-then-not-is_run
 returns-then-not-is_run c =
     let a = c.args in
-    count_no_run a.sections.now a.count a.page c.if-page-eq0.false (ap not (sym c.is_run.ensures) ∙ c.if-not-is_run.true)
+    count_no_run a.sections.now a.count a.page c.if-page-eq0.false (ap not (sym c.is_run.ensures ∙ c.if-not-is_run.true))
 
 pub pieces_in-requires : goal.pieces_in-requires
 pieces_in-requires c = record { page = omega (arith, c.if-page-eq0.false) }
@@ -18,4 +18,4 @@ pieces_in-requires c = record { page = omega (arith, c.if-page-eq0.false) }
 pub returns : goal.returns
 returns c =
     let a = c.args in
-    c.pieces_in.ensures ∙ count-run a.sections.now a.count a.page c.if-page-eq0.false (ap not (sym c.is_run.ensures) ∙ c.if-not-is_run.false)
+    c.pieces_in.ensures ∙ count-run a.sections.now a.count a.page c.if-page-eq0.false (ap not (sym c.is_run.ensures ∙ c.if-not-is_run.false))
