@@ -1,9 +1,8 @@
 use mathlib.Core.Path.{◌≡◌, sym, ◌∙◌}
 use mathlib.Core.Bool.{false}
-use Prim.Native.Nat.{◌<◌}
 use native.Mathlib.Omega.{arith}
 use lib.ListN.{length}
-use Rattle.save_step.specs.Steps.{stores, all_made, leaves, Inside}
+use Rattle.save_step.specs.Steps.{all_made, leaves}
 use Rattle.save_step.proofs.StepLaws.{inside, inside-more, next_in, step_finished, not_yet, step_refused, step_stored}
 use Rattle.save_step.proofs.save_step.Goals as goal
 

@@ -1,17 +1,12 @@
 use mathlib.Core.Path.{◌≡◌, refl, ap, ◌∙◌}
-use Prim.Native.Nat.{ℕ, ◌-◌, ◌≤◌}
+use Prim.Native.Nat.{ℕ}
 use native.Mathlib.Omega.{arith}
 use borrow.Author.Rules.{rules}
-use mathlib.Core.List.{[], ◌∷◌}
-use mathlib.Core.Logic.{inl, inr}
-use types.Run.{OneOf}
-use denote.Enum.Declared.{tag_of}
 use Rattle.error.specs.Outcome.{answer}
 use Rattle.save_step.specs.declared.Save.{Save}
 use Rattle.save_step.specs.declared.Step.{Step}
 use Rattle.save_step.specs.declared.Step.TheVariants as step
 use Rattle.save_step.specs.Steps.{stored, step_outcome, saving, steps}
-use Rattle.save_step.specs.contracts.Step.{the_type}
 use Rattle.save_step.proofs.RowLaws.{steps_step, steps-stop}
 use Rattle.save_step.proofs.save_steps.Goals as goal
 

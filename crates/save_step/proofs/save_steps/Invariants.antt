@@ -1,8 +1,6 @@
-use mathlib.Core.Path.{◌≡◌, ◌∙◌}
+use mathlib.Core.Path.{◌≡◌}
 use Prim.Native.Nat.{◌-◌, ◌≤◌}
 use lib.ListN.{length}
-use mathlib.Core.List.{[], ◌∷◌}
-use Rattle.save_step.specs.declared.Step.TheVariants as step
 use Rattle.save_step.specs.Steps.{saving, steps}
 use Rattle.save_step.proofs.save_steps.Given as goal
 
