@@ -8,6 +8,7 @@ use Rattle.fsm_sections.proofs.RunStepLaws.{rest-start, ended, went, fewer}
 use Rattle.fsm_pages.proofs.PieceLaws.{pieces_after}
 use Rattle.fsm_pages.proofs.SplitLaws.{count-start, count-few, count-above, count-more, count_same, count_step, count-end}
 use Rattle.fsm_pages.proofs.pages.pieces_in.Goals as goal
+use Rattle.fsm_pages.proofs.pages.pieces_in.Goals.{then-room-size, else-room-size, then-size-ne0, else-size-ne0}
 
 pub loop-t-init : goal.loop-t-init
 loop-t-init c =
@@ -48,11 +49,11 @@ loop-t-preserved c =
     c.if-room-size.more ≡ sat (c.loop-t.more + pieces_after c.args.page x.addr x.size)) = let a = c.args in
     let l = c.loop-t in
     let e = went a.count a.sections.now _ _ c.next_in-t.ensures c.if-t.false in
-    ⊎_elim
-    (λ w. count-more a.page a.count a.sections.now _ l.some l.more l.invariant _ _ e c.requires.page _ c.room_in-room.ensures w.0.taken _ _ w.1.ensures (w.3 ∙ w.2.ensures))
-    (λ w. count_same a.page a.count a.sections.now _ l.some l.more l.invariant _ _ e c.requires.page _ c.room_in-room.ensures w.0.left _ w.1)
-    c.if-room-size.branch in
-    let some_is : (c.if-size-ne0.some ≡ c.loop-t.some + min c.next_in-t.result.region.size 1) = ⊎_elim (λ w. omega (arith, w.0.taken, w.1)) (λ w. omega (arith, w.0.left, w.1)) c.if-size-ne0.branch in
+    elim c.if-room-size.branch [
+      then-room-size w ↦ count-more a.page a.count a.sections.now _ l.some l.more l.invariant _ _ e c.requires.page _ c.room_in-room.ensures w.if-room-size.true _ _ w.quotient.ensures (w.more-is ∙ w.saturating_add-more.ensures)
+    | else-room-size w ↦ count_same a.page a.count a.sections.now _ l.some l.more l.invariant _ _ e c.requires.page _ c.room_in-room.ensures w.if-room-size.false _ w.more-is
+    ] in
+    let some_is : (c.if-size-ne0.some ≡ c.loop-t.some + min c.next_in-t.result.region.size 1) = elim c.if-size-ne0.branch [ then-size-ne0 w ↦ omega arith | else-size-ne0 w ↦ omega arith ] in
     let a = c.args in
     let l = c.loop-t in
     count_step a.page a.count a.sections.now _ l.some l.more l.invariant _ _ (went a.count a.sections.now _ _ c.next_in-t.ensures c.if-t.false)

@@ -27,7 +27,7 @@ put_split-requires c =
     let a = c.args in
     let n = split_number a.sections.now a.count a.page a.out.now c.if-out-ne0.false _ told c.if-capacity-needed.false (omega (arith, c.well_formed)) in
     let h : 0 < a.page = omega (arith, c.if-page-eq0.false) in
-    record { page = h; fits = told.ranges; room = omega (arith, n, c.if-capacity-needed.false) }
+    record { page = h; fits = told.fits; room = omega (arith, n, c.if-capacity-needed.false) }
 
 pub returns-in-Refused : goal.returns-in-Refused
 returns-in-Refused c =
