@@ -49,6 +49,13 @@ denied {b} e h = sym e ∙ not-true b h
 pub held : {b t : Bool} → b ≡ t → not b ≡ false → t ≡ true
 held {b} e h = sym e ∙ not-false b h
 
+-- the same where the test is told as one of the flag itself
+pub is_denied : {b t : Bool} → b ≡ t → b ≡ false → t ≡ false
+is_denied e h = sym e ∙ h
+
+pub is_held : {b t : Bool} → b ≡ t → b ≡ true → t ≡ true
+is_held e h = sym e ∙ h
+
 -- ---- an iteration of a pass that tests the regions and adds their lengths, from what the code reads
 
 module _ {xs : List ℕ} {l : FreeList} {i prev sum : ℕ} (t : Tested xs l i prev sum) where

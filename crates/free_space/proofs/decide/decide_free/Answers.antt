@@ -6,7 +6,7 @@ use Rattle.free_space.specs.declared.meet.Meet.{Meet}
 use Rattle.free_space.specs.Runs.{is_list}
 use Rattle.free_space.specs.Splices.{Apart, Meets}
 use Rattle.free_space.proofs.ListLaws.{listed}
-use Rattle.free_space.proofs.CheckLaws.{denied, held}
+use Rattle.free_space.proofs.CheckLaws.{is_denied, is_held}
 use Rattle.free_space.proofs.MeetLaws.{apart-here, begins, begins-not}
 use Rattle.free_space.proofs.InsertLaws.{shares-some, shares-none}
 use Rattle.free_space.proofs.AnswerLaws.{free_bad, free-over, free-zero, free-shared, free_else}
@@ -14,7 +14,7 @@ use Rattle.free_space.proofs.decide.decide_free.Goals as goal
 
 pub meeting-m-requires : goal.meeting-m-requires
 meeting-m-requires c =
-    let ok : (let a = c.args in is_list a.run.now a.list ≡ true) = held c.is_list.ensures c.if-not-is_list.false in
+    let ok : (let a = c.args in is_list a.run.now a.list ≡ true) = is_held c.is_list.ensures c.if-not-is_list.false in
     ok
 
 pub overflow_add-addr : goal.overflow_add-addr
@@ -24,17 +24,17 @@ overflow_add-addr c =
 
 pub begins_below-requires : goal.begins_below-requires
 begins_below-requires c =
-    let ok : (let a = c.args in is_list a.run.now a.list ≡ true) = held c.is_list.ensures c.if-not-is_list.false in
+    let ok : (let a = c.args in is_list a.run.now a.list ≡ true) = is_held c.is_list.ensures c.if-not-is_list.false in
     let a = c.args in (listed a.run.now a.list ok).room
 
 pub returns-then-not-is_list : goal.returns-then-not-is_list
 returns-then-not-is_list c =
     let a = c.args in
-    record { decided = (free_bad a.run.now a.list a.addr a.len (denied c.is_list.ensures c.if-not-is_list.true), tt); folds = tt }
+    record { decided = (free_bad a.run.now a.list a.addr a.len (is_denied c.is_list.ensures c.if-not-is_list.true), tt); folds = tt }
 
 pub returns-then-begins_below : goal.returns-then-begins_below
 returns-then-begins_below c =
-    let ok : (let a = c.args in is_list a.run.now a.list ≡ true) = held c.is_list.ensures c.if-not-is_list.false in
+    let ok : (let a = c.args in is_list a.run.now a.list ≡ true) = is_held c.is_list.ensures c.if-not-is_list.false in
     let tells : ((m : Meet) → c.meeting-m.result ≡ m → let a = c.args in Meets a.run.now a.list a.addr a.len m) = λ m e. let a = c.args in subst (Meets a.run.now a.list a.addr a.len) e c.meeting-m.ensures in
     let a = c.args in
     let xs = a.run.now in
@@ -52,7 +52,7 @@ returns-then-begins_below c =
 
 pub put_between-requires : goal.put_between-requires
 put_between-requires c =
-    let ok : (let a = c.args in is_list a.run.now a.list ≡ true) = held c.is_list.ensures c.if-not-is_list.false in
+    let ok : (let a = c.args in is_list a.run.now a.list ≡ true) = is_held c.is_list.ensures c.if-not-is_list.false in
     let tells : ((m : Meet) → c.meeting-m.result ≡ m → let a = c.args in Meets a.run.now a.list a.addr a.len m) = λ m e. let a = c.args in subst (Meets a.run.now a.list a.addr a.len) e c.meeting-m.ensures in
     let apart : (let a = c.args in
     let i = c.in-Past.i in
@@ -65,14 +65,14 @@ put_between-requires c =
 
 pub returns-in-Over : goal.returns-in-Over
 returns-in-Over c =
-    let ok : (let a = c.args in is_list a.run.now a.list ≡ true) = held c.is_list.ensures c.if-not-is_list.false in
+    let ok : (let a = c.args in is_list a.run.now a.list ≡ true) = is_held c.is_list.ensures c.if-not-is_list.false in
     let tells : ((m : Meet) → c.meeting-m.result ≡ m → let a = c.args in Meets a.run.now a.list a.addr a.len m) = λ m e. let a = c.args in subst (Meets a.run.now a.list a.addr a.len) e c.meeting-m.ensures in
     let a = c.args in
     record { decided = (free-over a.run.now a.list a.addr a.len ok (tells _ c.in-Over.is), tt); folds = tt }
 
 pub returns-in-Empty : goal.returns-in-Empty
 returns-in-Empty c =
-    let ok : (let a = c.args in is_list a.run.now a.list ≡ true) = held c.is_list.ensures c.if-not-is_list.false in
+    let ok : (let a = c.args in is_list a.run.now a.list ≡ true) = is_held c.is_list.ensures c.if-not-is_list.false in
     let tells : ((m : Meet) → c.meeting-m.result ≡ m → let a = c.args in Meets a.run.now a.list a.addr a.len m) = λ m e. let a = c.args in subst (Meets a.run.now a.list a.addr a.len) e c.meeting-m.ensures in
     let a = c.args in
     let p = tells _ c.in-Empty.is in
@@ -80,7 +80,7 @@ returns-in-Empty c =
 
 pub returns-else-begins_below : goal.returns-else-begins_below
 returns-else-begins_below c =
-    let ok : (let a = c.args in is_list a.run.now a.list ≡ true) = held c.is_list.ensures c.if-not-is_list.false in
+    let ok : (let a = c.args in is_list a.run.now a.list ≡ true) = is_held c.is_list.ensures c.if-not-is_list.false in
     let tells : ((m : Meet) → c.meeting-m.result ≡ m → let a = c.args in Meets a.run.now a.list a.addr a.len m) = λ m e. let a = c.args in subst (Meets a.run.now a.list a.addr a.len) e c.meeting-m.ensures in
     let apart : (let a = c.args in
     let i = c.in-Past.i in
@@ -94,10 +94,10 @@ returns-else-begins_below c =
     let p = tells _ c.in-Past.is in
     record {
       decided = (
-        c.put_between.ensures.0.0
+        c.put_between.ensures.decided.0
             ∙ free_else xs a.list a.addr a.len p.0 ok (λ z. absurd (omega (arith, p.1)))
             (shares-none xs a.list (region a.addr a.len) p.1 _ apart),
-        c.put_between.ensures.0.1,
+        c.put_between.ensures.decided.1,
       );
-      folds = c.put_between.ensures.1;
+      folds = c.put_between.ensures.folds;
     }

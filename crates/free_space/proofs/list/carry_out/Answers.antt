@@ -3,7 +3,7 @@ use Rattle.error.specs.Lent.{with}
 use Rattle.free_space.specs.declared.list.FreeList.{FreeList}
 use Rattle.free_space.specs.Splices.{patch}
 use Rattle.free_space.specs.Decisions.{carried_out}
-use Rattle.free_space.proofs.CheckLaws.{denied, held}
+use Rattle.free_space.proofs.CheckLaws.{is_denied, is_held}
 use Rattle.free_space.proofs.CarryLaws.{fits_facts, unfit, fit}
 use Rattle.free_space.proofs.list.carry_out.Goals as goal
 
@@ -11,15 +11,15 @@ pub returns-then-not-can_replace : goal.returns-then-not-can_replace
 returns-then-not-can_replace c =
     let a = c.args in
     let xs = a.run.now in
-    let d = c.d-1.given in
-    sym (ap (carried_out xs a.list) d.1
-    ∙ unfit xs a.list d.0.0 d.0.1.0 d.0.1.1.0 d.0.1.1.1.0 d.0.1.1.1.1.0 (denied c.can_replace.ensures c.if-not-can_replace.true))
+    let d = c.in-Change in
+    sym (ap (carried_out xs a.list) d.is
+    ∙ unfit xs a.list d.addr d.lo d.hi d.total d.patch (is_denied c.can_replace.ensures c.if-not-can_replace.true))
 
 pub apply-requires : goal.apply-requires
 apply-requires c =
     let a = c.args in
-    let d = c.d-1.given in
-    fits_facts a.run.now a.list d.0.1.0 d.0.1.1.0 (patch d.0.1.1.1.1.0) (held c.can_replace.ensures c.if-not-can_replace.false)
+    let d = c.in-Change in
+    fits_facts a.run.now a.list d.lo d.hi (patch d.patch) (is_held c.can_replace.ensures c.if-not-can_replace.false)
 
 pub returns-in-Refused : goal.returns-in-Refused
 returns-in-Refused c = let a = c.args in ap (carried_out a.run.now a.list) (sym c.in-Refused.is)
@@ -31,8 +31,8 @@ pub returns-else-not-can_replace : goal.returns-else-not-can_replace
 returns-else-not-can_replace c =
     let a = c.args in
     let xs = a.run.now in
-    let d = c.d-1.given in
+    let d = c.in-Change in
     let done = c.apply.ensures in
-    let ok = held c.can_replace.ensures c.if-not-can_replace.false in
-    ap₂ (λ (l : FreeList) (ys : List ℕ). with l ys) done.0 done.1
-    ∙ sym (ap (carried_out xs a.list) d.1 ∙ fit xs a.list d.0.0 d.0.1.0 d.0.1.1.0 d.0.1.1.1.0 d.0.1.1.1.1.0 ok)
+    let ok = is_held c.can_replace.ensures c.if-not-can_replace.false in
+    ap₂ (λ (l : FreeList) (ys : List ℕ). with l ys) done.«record» done.memory
+    ∙ sym (ap (carried_out xs a.list) d.is ∙ fit xs a.list d.addr d.lo d.hi d.total d.patch ok)

@@ -29,8 +29,8 @@ pub returns-in-Change : goal.returns-in-Change
 returns-in-Change c =
     let a = c.args in
     let xs = a.run.now in
-    let given = c.d-in-Change-1.given in
+    let given = c.in-Change in
     let done = c.apply.ensures in
-    let can = subst (Applicable xs a.list) given.1 c.requires in
-    ap₂ (λ (l : FreeList) (ys : List ℕ). left (answer l) ys) (done.0 ∙ record_left xs a.list given.0.0 _ _ _ given.0.1.1.1.1.0 can) done.1
-    ∙ ap (λ (d : Decision). leaving xs (kept_by xs a.list d)) (sym given.1)
+    let can = subst (Applicable xs a.list) given.is c.requires in
+    ap₂ (λ (l : FreeList) (ys : List ℕ). left (answer l) ys) (done.«record» ∙ record_left xs a.list given.addr _ _ _ given.patch can) done.memory
+    ∙ ap (λ (d : Decision). leaving xs (kept_by xs a.list d)) (sym given.is)

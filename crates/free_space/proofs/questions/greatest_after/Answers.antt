@@ -1,7 +1,7 @@
 use Rattle.std.proofs.Common.{◌≡◌, ℕ, ◌+◌, ◌-◌, max, ap, ◌∙◌, arith, eq-eqb, ne_eqb}
 use Rattle.free_regions.specs.Regions.{end}
 use Rattle.free_regions.proofs.OkLaws.{fit}
-use Rattle.free_space.proofs.CheckLaws.{denied, held, pass_stops, pass_ends}
+use Rattle.free_space.proofs.CheckLaws.{is_denied, is_held, pass_stops, pass_ends}
 use Rattle.free_space.proofs.QuestionLaws.{Passed, no_list, greatest-first, greatest_step, greatest-end}
 use Rattle.free_space.proofs.questions.greatest_after.Goals as goal
 
@@ -23,18 +23,18 @@ returns-then-not-follows c =
     let a = c.args in
     let g = c.region_at-r in
     no_list a.what a.run.now a.list
-    (pass_stops c.loop-i.invariant.tested c.loop-i-test.true g.result g.ensures (denied c.follows.ensures c.if-not-follows.true))
+    (pass_stops c.loop-i.invariant.tested c.loop-i-test.true g.result g.ensures (is_denied c.follows.ensures c.if-not-follows.true))
 
 pub measured-m-requires : goal.measured-m-requires
-measured-m-requires c = (fit _ c.region_at-r.result (held c.follows.ensures c.if-not-follows.false)).within
+measured-m-requires c = (fit _ c.region_at-r.result (is_held c.follows.ensures c.if-not-follows.false)).within
 
 pub overflow_add-end-in-loop-i : goal.overflow_add-end-in-loop-i
 overflow_add-end-in-loop-i c =
-    omega (arith, (fit _ c.region_at-r.result (held c.follows.ensures c.if-not-follows.false)).within)
+    omega (arith, (fit _ c.region_at-r.result (is_held c.follows.ensures c.if-not-follows.false)).within)
 
 pub overflow_add-sum : goal.overflow_add-sum
 overflow_add-sum c =
-    let f = fit _ c.region_at-r.result (held c.follows.ensures c.if-not-follows.false) in
+    let f = fit _ c.region_at-r.result (is_held c.follows.ensures c.if-not-follows.false) in
     omega (arith, f.within, f.above, c.loop-i.invariant.tested.less)
 
 pub loop-i-preserved-then-most-m : goal.loop-i-preserved-then-most-m
@@ -45,7 +45,7 @@ loop-i-preserved-then-most-m c =
     → Passed a.what a.run.now a.list (c.loop-i.i + 1) (end r) (c.loop-i.sum + r.len) k) = λ k e. let a = c.args in
     let g = c.region_at-r in
     greatest_step a.what a.run.now a.list c.loop-i.i _ _ _ k g.result g.ensures c.loop-i-test.true c.loop-i.invariant
-    (held c.follows.ensures c.if-not-follows.false) (e ∙ ap (max c.loop-i.most) c.measured-m.ensures) in
+    (is_held c.follows.ensures c.if-not-follows.false) (e ∙ ap (max c.loop-i.most) c.measured-m.ensures) in
     iteration _ (omega arith)
 
 pub loop-i-preserved : goal.loop-i-preserved
@@ -56,7 +56,7 @@ loop-i-preserved c =
     → Passed a.what a.run.now a.list (c.loop-i.i + 1) (end r) (c.loop-i.sum + r.len) k) = λ k e. let a = c.args in
     let g = c.region_at-r in
     greatest_step a.what a.run.now a.list c.loop-i.i _ _ _ k g.result g.ensures c.loop-i-test.true c.loop-i.invariant
-    (held c.follows.ensures c.if-not-follows.false) (e ∙ ap (max c.loop-i.most) c.measured-m.ensures) in
+    (is_held c.follows.ensures c.if-not-follows.false) (e ∙ ap (max c.loop-i.most) c.measured-m.ensures) in
     iteration _ (omega arith)
 
 pub returns-then-list-sum : goal.returns-then-list-sum

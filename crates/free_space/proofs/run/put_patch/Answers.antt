@@ -14,7 +14,7 @@ put_region-requires-in-Two c = omega (arith, ap (λ (q : Patch). length (patch q
 
 pub put_region-requires-in-Two-2 : goal.put_region-requires-in-Two-2
 put_region-requires-in-Two-2 c =
-    omega (arith, c.put_region-in-Two.auto.0, ap (λ (q : Patch). length (patch q)) c.in-Two.is)
+    omega (arith, c.put_region-in-Two.auto.run, ap (λ (q : Patch). length (patch q)) c.in-Two.is)
 
 pub returns-in-Empty : goal.returns-in-Empty
 returns-in-Empty c =
@@ -29,8 +29,8 @@ returns-in-One c =
 pub returns-in-Two : goal.returns-in-Two
 returns-in-Two c =
     let a = c.args in
-    let g = c.p-in-Two-1.given in
+    let g = c.in-Two in
     c.put_region-in-Two-2.ensures
-    ∙ ap (λ (l : List ℕ). over (a.at + 2) (flat (g.0.1.0 ∷ [])) l) c.put_region-in-Two.ensures
-    ∙ over_right a.at (flat (g.0.0 ∷ [])) (flat (g.0.1.0 ∷ [])) a.run.now
-    ∙ ap (λ (q : Patch). over a.at (flat (patch q)) a.run.now) (sym g.1)
+    ∙ ap (λ (l : List ℕ). over (a.at + 2) (flat (g.s ∷ [])) l) c.put_region-in-Two.ensures
+    ∙ over_right a.at (flat (g.r ∷ [])) (flat (g.s ∷ [])) a.run.now
+    ∙ ap (λ (q : Patch). over a.at (flat (patch q)) a.run.now) (sym g.is)
