@@ -9,4 +9,4 @@ returns c =
     let a = c.args in
     let values = word a.first 32 ++ word a.second 10 in
     then 0 err_word (word a.number 32 ++ values) a.out.now c.write_bytes-at.ensures
-    (then c.write_bytes-at.result (word a.number 32) values c.write_bytes-at.new.0 c.write_word-to.ensures c.put_two.ensures)
+    (then c.write_bytes-at.result (word a.number 32) values c.write_bytes-at.new.out c.write_word-to.ensures c.put_two.ensures)

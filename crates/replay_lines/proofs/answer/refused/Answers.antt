@@ -36,4 +36,6 @@ returns-in-VersionOrClient c =
 pub returns-in_default : goal.returns-in_default
 returns-in_default c =
     let a = c.args in
-    stated a.refusal a.out.now c.number-number.ensures (no_values a.refusal c.in_default.is) c.plain_refusal.ensures
+    let d = c.in_default in
+    let none = no_values a.refusal d.not-Short d.not-MessageVersion d.not-Strategy d.not-Checksum d.not-OverCapacity d.not-VersionOrClient in
+    stated a.refusal a.out.now c.number-number.ensures none c.plain_refusal.ensures
