@@ -1,4 +1,3 @@
 pub mod CutLaws
 pub mod RecordLaws
 pub mod PairLaws
-pub mod WalkTypes

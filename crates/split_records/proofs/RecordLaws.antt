@@ -101,11 +101,6 @@ module _ (xs : List ℕ) (n page : ℕ) where
       ∙ ap (leaving ys) (first_refuses (refusals xs n page (length ys)) (length all) r (answer (with (length all) (at_front all ys))) e)
 
   module _ (ys : List FreeSection) (m : ℕ) (now : Ready (length ys) m) where
-    length-shown : (k : ℕ) → k ≤ m → length (shown ys k) ≡ length ys
-    length-shown k h =
-        length-append (take k all) (drop k ys)
-        ∙ (let t : length (take k all) ≡ k = length-take-le k all (omega (arith, now.whole)) in omega (arith, length-drop k ys, now.space))
-
     module _ (k i d : ℕ) (here : drop k all ≡ pieces_left page n xs i d) (h : k < m) where
       pub left-some : 0 < length (pieces_left page n xs i d)
       left-some = let e : length (drop k all) ≡ length (pieces_left page n xs i d) = ap length here in omega (arith, length-drop k all, now.whole)
@@ -127,9 +122,3 @@ module _ (xs : List ℕ) (n page : ℕ) where
             ∙ sym (append_snoc (take k all) p (drop (suc k) ys))
             ∙ sym (ap (λ (x : FreeSection). (take k all ++ (x ∷ [])) ++ drop (suc k) ys) piece_is)
             ∙ sym (ap (λ (l : List FreeSection). l ++ drop (suc k) ys) (take-suc all k (section 0 0) (omega (arith, now.whole))))
-
-  -- and whatever the answer
-  pub shown-length : (a : Split) (ys : List FreeSection) (m k : ℕ) → split_outcome a ≡ split_answer xs n page (length ys) → m ≡ pieces_in (split_outcome a) → k ≤ m
-      → length (shown ys k) ≡ length ys
-  shown-length a ys m zero e f h = refl
-  shown-length a ys m (suc k) e f h = length-shown ys m (ready a (length ys) m k e f (omega arith)) (suc k) h

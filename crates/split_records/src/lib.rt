@@ -74,8 +74,7 @@ fn next_piece(sections: &[u64], count: usize, page: u64, section: usize, done: u
     }
 }
 
-// Cuts each section at every page multiple and puts the pieces into the records `out`. An empty section has none. The prover
-// walks no function over a slice of structs: this one, proved by hand, stores and does nothing else.
+// Cuts each section at every page multiple and puts the pieces into the records `out`. An empty section has none.
 pub fn split_at_pages(sections: &[u64], count: usize, page: u64, out: &mut [FreeSection]) -> Split
     ensures { left (split_outcome result) out.new
         ≡ leaving out.old (split_records sections.now count page out.old) }
