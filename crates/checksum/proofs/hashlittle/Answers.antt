@@ -1,4 +1,4 @@
-use Rattle.std.proofs.Common.{◌≡◌, ◌-◌, ◌≤◌, sym, ◌∙◌, arith, rules}
+use Rattle.std.proofs.Common.{sym, ◌∙◌, arith, rules}
 use Rattle.checksum.proofs.HashLaws.{hash_start, hash_step, hash_none, hash_some}
 use Rattle.checksum.proofs.hashlittle.Goals as goal
 

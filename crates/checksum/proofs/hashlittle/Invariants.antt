@@ -1,5 +1,5 @@
 -- The loop's invariant: the hash of the bytes that are left, from the words reached, is the hash of all bytes.
-use Rattle.std.proofs.Common.{◌≡◌, ◌-◌, ◌≤◌, length, drop, ◌∙◌}
+use Rattle.std.proofs.Common.{◌≡◌, ◌-◌, ◌≤◌, length, drop}
 use Rattle.checksum.specs.Lookup3.{hash_of}
 use Rattle.checksum.proofs.HashLaws.{hash}
 use Rattle.checksum.proofs.hashlittle.Given as goal

@@ -1,4 +1,4 @@
-use Rattle.std.proofs.Common.{◌≡◌, ◌-◌, ◌≤◌, ◌∙◌, rules}
+use Rattle.std.proofs.Common.{◌∙◌, rules}
 use Rattle.checksum.proofs.LastBlockLaws.{copy_next, copy_end}
 use Rattle.checksum.proofs.last_block.Goals as goal
 

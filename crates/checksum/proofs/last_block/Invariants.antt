@@ -1,5 +1,5 @@
 -- The loop's invariant: the first i bytes stand over zeros.
-use Rattle.std.proofs.Common.{◌≡◌, ◌-◌, ◌≤◌, length, ◌∙◌}
+use Rattle.std.proofs.Common.{◌≡◌, ◌-◌, ◌≤◌, length}
 use Rattle.checksum.proofs.LastBlockLaws.{copied}
 use Rattle.checksum.proofs.last_block.Given as goal
 

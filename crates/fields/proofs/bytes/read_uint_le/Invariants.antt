@@ -1,6 +1,5 @@
-use mathlib.Core.List.{[]}
-use mathlib.Core.Path.{◌≡◌, ◌∙◌}
-use Prim.Native.Nat.{◌+◌, ◌-◌, ◌*◌, ◌^◌, ◌≤◌, ◌<◌}
+use mathlib.Core.Path.{◌≡◌}
+use Prim.Native.Nat.{◌-◌, ◌^◌, ◌≤◌, ◌<◌}
 use lib.ListN.{take, drop}
 use Rattle.fields.specs.Le.{le_value}
 use Rattle.fields.proofs.bytes.read_uint_le.Given as goal

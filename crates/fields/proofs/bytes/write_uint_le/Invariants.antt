@@ -1,6 +1,6 @@
 -- the stores keep the length
-use mathlib.Core.Path.{◌≡◌, ◌∙◌}
-use Prim.Native.Nat.{◌-◌, ◌/◌, ◌^◌, ◌≤◌, ◌<◌}
+use mathlib.Core.Path.{◌≡◌}
+use Prim.Native.Nat.{◌-◌, ◌/◌, ◌^◌, ◌≤◌}
 use lib.ListN.{take}
 use Rattle.error.specs.Lent.{over}
 use Rattle.fields.specs.Le.{le_bytes}

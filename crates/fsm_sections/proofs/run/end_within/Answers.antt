@@ -1,4 +1,4 @@
-use Rattle.std.proofs.Common.{◌-◌, ◌≤◌, arith}
+use Rattle.std.proofs.Common.{arith}
 use Rattle.fsm_sections.proofs.RowLaws.{alike-none, alike-one, alike-two, alike-three, alike-four}
 use Rattle.fsm_sections.proofs.run.end_within.Goals as goal
 

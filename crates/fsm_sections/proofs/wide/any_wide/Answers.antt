@@ -1,4 +1,4 @@
-use Rattle.std.proofs.Common.{◌≡◌, ap}
+use Rattle.std.proofs.Common.{ap}
 use Rattle.fsm_sections.specs.Runs.{wide, any_wide}
 use Rattle.fsm_sections.proofs.RunStepLaws.{rest-start, ended, went, fewer}
 use Rattle.fsm_sections.proofs.AnyLaws.{any_found, any_step, any_none}

@@ -1,5 +1,3 @@
-use mathlib.Core.Path.{◌≡◌}
-use Prim.Native.Nat.{◌+◌, ◌-◌, ◌^◌, ◌≤◌, ◌<◌}
 use native.Mathlib.Omega.{arith}
 use Rattle.text.proofs.DecimalLaws.{count-start, count_next, count-end, fewer}
 use Rattle.text.proofs.decimal.digit_count.Goals as goal
