@@ -267,6 +267,6 @@ calls_say xs l = record {
   free = free_law xs l;
   take_range = take_law xs l;
   alloc = alloc_law xs l;
-  alloc-whole_units = units_law xs l;
-  take-trailing = trailing_law xs l;
+  alloc_whole_units = units_law xs l;
+  take_trailing = trailing_law xs l;
 }

@@ -212,5 +212,5 @@ module _ (ls : Lists) where
   unfolding run_start
   lists_say = record {
     check_lists = tested-together _ (λ ok no. answers (record { lists = ok; apart = none-shared no }));
-    trailing-run-start = λ eof. tested-together _ (λ ok no. answers (run_to no eof ok));
+    trailing_run_start = λ eof. tested-together _ (λ ok no. answers (run_to no eof ok));
   }

@@ -131,5 +131,5 @@ pub record CallsSay (xs : List ℕ) (l : FreeList) : Type 0 where
   pub free : (a len : ℕ) → FreeSays xs l a len (freed xs l a len)
   pub take_range : (a len : ℕ) → TakeRangeSays xs l a len (range_taken xs l a len)
   pub alloc : (len : ℕ) → AllocSays xs l len (allocated xs l len)
-  pub alloc-whole_units : (len unit : ℕ) → UnitsSays xs l len unit (allocated_units xs l len unit)
-  pub take-trailing : (eof : ℕ) → TrailingSays xs l eof (trailing_taken xs l eof)
+  pub alloc_whole_units : (len unit : ℕ) → UnitsSays xs l len unit (allocated_units xs l len unit)
+  pub take_trailing : (eof : ℕ) → TrailingSays xs l eof (trailing_taken xs l eof)

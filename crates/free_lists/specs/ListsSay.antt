@@ -35,4 +35,4 @@ pub record RunTo (ls : Lists) (eof start : ℕ) : Type 0 where
 
 pub record ListsSay (ls : Lists) : Type 0 where
   pub check_lists : Ends (λ done. Together ls) ⊥ (NotTogether ls) (together ls)
-  pub trailing-run-start : (eof : ℕ) → Ends (RunTo ls eof) ⊥ (NotTogether ls) (run_start ls eof)
+  pub trailing_run_start : (eof : ℕ) → Ends (RunTo ls eof) ⊥ (NotTogether ls) (run_start ls eof)
