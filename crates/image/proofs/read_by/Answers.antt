@@ -15,24 +15,21 @@ returns-then-out-ne0 c =
 pub slice_bounds-slots-end : goal.slice_bounds-slots-end
 slice_bounds-slots-end c =
     let message : (let a = c.args in
-    let told = c.message-in-Message-1.given.0 in
-    MessageIs (message_at a.place a.image.now) told.0 told.1.0 c.read_message-message.new.1.1.0) = let a = c.args in
+    MessageIs (message_at a.place a.image.now) c.in-Message.info c.in-Message.count c.read_message-message.new.slots) = let a = c.args in
     message_is (message_at a.place a.image.now) (message_few a.place a.image.now) _ _ c.read_message-message.ensures _ _ c.in-Message.is in
     message.within
 
 pub slice_bounds-read_slots-end : goal.slice_bounds-read_slots-end
 slice_bounds-read_slots-end c =
     let message : (let a = c.args in
-    let told = c.message-in-Message-1.given.0 in
-    MessageIs (message_at a.place a.image.now) told.0 told.1.0 c.read_message-message.new.1.1.0) = let a = c.args in
+    MessageIs (message_at a.place a.image.now) c.in-Message.info c.in-Message.count c.read_message-message.new.slots) = let a = c.args in
     message_is (message_at a.place a.image.now) (message_few a.place a.image.now) _ _ c.read_message-message.ensures _ _ c.in-Message.is in
     sym (length-take-le _ _ message.within)
 
 pub read_slots-requires : goal.read_slots-requires
 read_slots-requires c =
     let message : (let a = c.args in
-    let told = c.message-in-Message-1.given.0 in
-    MessageIs (message_at a.place a.image.now) told.0 told.1.0 c.read_message-message.new.1.1.0) = let a = c.args in
+    MessageIs (message_at a.place a.image.now) c.in-Message.info c.in-Message.count c.read_message-message.new.slots) = let a = c.args in
     message_is (message_at a.place a.image.now) (message_few a.place a.image.now) _ _ c.read_message-message.ensures _ _ c.in-Message.is in
     message.few
 
@@ -47,10 +44,9 @@ returns-in-Refused c =
 pub returns-in-Message : goal.returns-in-Message
 returns-in-Message c =
     let message : (let a = c.args in
-    let told = c.message-in-Message-1.given.0 in
-    MessageIs (message_at a.place a.image.now) told.0 told.1.0 c.read_message-message.new.1.1.0) = let a = c.args in
+    MessageIs (message_at a.place a.image.now) c.in-Message.info c.in-Message.count c.read_message-message.new.slots) = let a = c.args in
     message_is (message_at a.place a.image.now) (message_few a.place a.image.now) _ _ c.read_message-message.ensures _ _ c.in-Message.is in
     let a = c.args in
     let e = c.read_slots.ensures in
     let m = message in
-    record { read = e.0 ∙ image-is a.reading a.place a.image.now a.out.now _ m.accepted _ m.slots; counted = e.1 }
+    record { read = e.read ∙ image-is a.reading a.place a.image.now a.out.now _ m.accepted _ m.slots; counted = e.counted }
