@@ -33,8 +33,8 @@ pub returns-then-reach : goal.returns-then-reach
 returns-then-reach c =
     let a = c.args in
     let l : List FreeSection = sections_of (chains_of a.s a.a.now a.b.now a.c.now) in
-    let low = source_low a.s a.a.now a.b.now a.c.now (λ i. (c.shared_slice_known-1.given i).fits)
-    (λ i. (c.shared_slice_known-2-1.given i).fits) (λ i. (c.shared_slice_known-3-1.given i).fits) in
+    let low = source_low a.s a.a.now a.b.now a.c.now (λ i. (c.type_inv.a i).fits)
+    (λ i. (c.type_inv.b i).fits) (λ i. (c.type_inv.c i).fits) in
     c.saturating_add-n.ensures
     ∙ ap (λ (m : ℕ). sat (c.loop-s.n + m)) (last-window l low _ _ _ (windowed_counted _ _ _ _ _ _ _ c.window_of-w.ensures) c.if-reach.true)
     ∙ c.loop-s.invariant.3
