@@ -1,4 +1,4 @@
-use Rattle.std.proofs.Common.{◌≡◌, ◌+◌, ◌≤◌, refl, arith}
+use Rattle.std.proofs.Common.{refl, arith}
 use Rattle.fsm_sections.proofs.RunStepLaws.{rest-start, ended, went, fewer}
 use Rattle.fsm_sizes.proofs.TotalLaws.{region-space, space_step, count_step, space-end, count-end, sum_over, number_over, both_low}
 use Rattle.fsm_sizes.proofs.totals.sums_in.Goals as goal

@@ -1,4 +1,4 @@
-use Rattle.std.proofs.Common.{◌≡◌, ◌+◌, ◌-◌, length, ◌∙◌}
+use Rattle.std.proofs.Common.{◌≡◌, ◌+◌, ◌-◌, length}
 use Rattle.fields.specs.Ranges.{top}
 use Rattle.fsm_sections.specs.Sections.{distinct}
 use Rattle.fsm_sections.specs.Chains.{sections_of}

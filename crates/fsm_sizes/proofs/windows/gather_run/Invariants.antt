@@ -1,4 +1,4 @@
-use Rattle.std.proofs.Common.{ℕ, ◌+◌, length, take, ◌∙◌}
+use Rattle.std.proofs.Common.{ℕ, length, take}
 use Rattle.fsm_sections.specs.RunSteps.{rest_in}
 use Rattle.fsm_sizes.specs.Chained.{Stands}
 use Rattle.fsm_sizes.proofs.SourceSizesLaws.{Seen}

@@ -1,4 +1,4 @@
-use Rattle.std.proofs.Common.{◌≡◌, ◌≤◌, sym, refl, ◌∙◌, arith}
+use Rattle.std.proofs.Common.{sym, refl, ◌∙◌, arith}
 use Rattle.fsm_sizes.proofs.NoteLaws.{stands-first, stands_sized, room-cleared}
 use Rattle.fsm_sizes.proofs.windows.window_of.Goals as goal
 

@@ -1,4 +1,4 @@
-use Rattle.std.proofs.Common.{◌≡◌, ◌≤◌, length, ◌∙◌}
+use Rattle.std.proofs.Common.{◌≡◌, ◌≤◌, length}
 use Rattle.fields.specs.Ranges.{top}
 use Rattle.fsm_sizes.specs.Chained.{Room, Cleared}
 use Rattle.fsm_sizes.proofs.windows.window_of.Given as goal
