@@ -6,19 +6,18 @@ use Rattle.error.specs.Lent.{with, over}
 use Rattle.error.proofs.OverLaws.{over-nil, over-front}
 use Rattle.error.proofs.OutcomeLaws.{refuses, passes}
 use Rattle.free_regions.specs.declared.FreeRegion.{FreeRegion}
-use Rattle.free_regions.specs.Regions.{region, end, sum_of_lengths, piece, spliced}
+use Rattle.free_regions.specs.Regions.{region, sum_of_lengths, piece, spliced}
 use Rattle.pairs.proofs.PairLaws.{length-decode, length-flat, flat-decode, length-spliced}
 use Rattle.pairs.specs.Pairs.{capacity}
 use Rattle.free_regions.proofs.CutSets.{piece-none, piece-some}
 use Rattle.free_regions.proofs.LengthLaws.{sum_parts, sum-spliced}
 use Rattle.free_space.specs.declared.list.FreeList.{FreeList}
 use Rattle.free_space.specs.declared.run.Patch.{Patch}
-use Rattle.free_space.specs.declared.run.Patch.TheVariants.{One}
 use Rattle.free_space.specs.declared.decide.Decision.TheVariants.{Refused, Nothing, Change}
 use Rattle.free_space.specs.Runs.{record_of, decode, flat, regions, is_list, stored}
 use Rattle.free_space.specs.Calls.{leave, placed, giving, keeping}
 use Rattle.free_space.specs.Splices.{Goes, patch, Replaces}
-use Rattle.free_space.specs.Decisions.{fitted, given_by, kept_by, Folds}
+use Rattle.free_space.specs.Decisions.{fitted, given_by, kept_by}
 use Rattle.free_space.proofs.ListLaws.{listed}
 use Rattle.free_space.proofs.DecodeLaws.{region_form}
 
@@ -49,17 +48,6 @@ module _ (given n a lo hi total : ℕ) (p : Patch) where
 
   pub fitted-is : lo + length (patch p) + (n - hi) ≤ given → Change a lo hi total p ≡ fitted given n a lo hi total p
   fitted-is h = rw (le-ltb given (lo + length (patch p) + (n - hi)) h)
-
--- what is freed lies in the one region that is put in
-pub folds_fitted : (given n a lo hi total : ℕ) (r : FreeRegion) (b len : ℕ) → r.addr ≤ b → b + len ≤ end r → Folds b len (fitted given n a lo hi total (One r))
-folds_fitted given n a lo hi total r b len low high = go (ltb given needed)
-  where
-    needed : ℕ
-    needed = lo + 1 + (n - hi)
-
-    go : (t : Bool) → Folds b len (cond t (Refused (OverCapacity needed given)) (Change a lo hi total (One r)))
-    go true = tt
-    go false = (low, high)
 
 -- a change that is fitted to the run leaves the regions, or is refused, as the definitions of the calls say
 module _ (xs : List ℕ) (l : FreeList) (a lo hi total : ℕ) (p : Patch) (t : Replaces xs l lo hi total (patch p)) where

@@ -3,27 +3,27 @@
 -- In quotes: document 01's words, from "The list", from the refusal of that number or from the heading named.
 --   Gave          the address that a call gives out, and the record after it
 --   kept_outcome, given_outcome   the outcome that an answer of the code stands for ("Language forms": "for every case of the enum")
---   record_after   the record after an outcome: an answer's; a refusal or Nothing leaves the old one
---   not_list       refusal 3, "Not a list": of the run and the record
+--   record_after  the record after an outcome: an answer's; a refusal or Nothing leaves the old one
+--   not_list      refusal 3, "Not a list": of the run and the record
 --   overflows     refusal 4: "address plus length"
---   part_unit      refusal 6: "a length that is no multiple of its nonzero unit"
---   no_room        refusal 14: "the result has more regions"
+--   part_unit     refusal 6: "a length that is no multiple of its nonzero unit"
+--   no_room       refusal 14: "the result has more regions"
 --   leave         the outcome of a call that leaves these regions
 --   placed        the same with its refusal 14, which is given only where they do not fit ("a 14 while unused pairs suffice" is wrong)
 --   keeping, giving   the record alone; the record with an address given out
 --   freed_regions, left_regions   the regions after `free`; after `take_range`
 --   without         the regions after an allocation from the region at a place
 --   serve         the outcome of an allocation, by the region that was found: "If its leftovers make a 14, no other region is tried"
---   last_ends_at    the last region "ends exactly at the given end of file"
+--   last_ends_at  the last region "ends exactly at the given end of file"
 --   freed         `free`: "length 0 changes nothing. Otherwise touching regions fold into one"; refusals 3, 4, 5, 14
---   range_taken    `take_range`: "removes the free bytes within the range; length 0 changes nothing"; refusals 3, 4, 14
+--   range_taken   `take_range`: "removes the free bytes within the range; length 0 changes nothing"; refusals 3, 4, 14
 --   allocated     `alloc`: "smallest region that is long enough, lowest on a tie, served from its front. Length 0, or none long enough, gives
 --                 Nothing"; refusal 3
 --   allocated_units   `alloc_whole_units`: "length 0 or unit 0 gives Nothing"; "The least interior that suffices serves, lowest on a tie";
 --                 refusals 3, 6, 14
 --   trailing_taken   `take_trailing`: "drops the last region if it ends exactly at the given end of file, and gives its address; else Nothing";
 --                 refusal 3
-use Rattle.std.specs.Prelude.{ℕ, suc, ◌+◌, ◌-◌, ◌%◌, Bool, cond, not, ◌&&◌, List, [], ◌∷◌, length, get_or, ◌==◌, nat_lt, slice_index_or}
+use Rattle.std.specs.Prelude.{ℕ, suc, ◌+◌, ◌-◌, ◌%◌, Bool, cond, not, ◌&&◌, List, [], ◌∷◌, length, ◌==◌, nat_lt, slice_index_or}
 use Rattle.error.specs.declared.Refusal.TheVariants.{NotAList, Overflow, SharedAddress, PartUnit, OverCapacity}
 use Rattle.error.specs.Outcome.{Outcome, answer, nothing, refuse, refused, Condition, when, first_of}
 use Rattle.error.specs.Lent.{With, with}
@@ -138,4 +138,4 @@ trailing_taken xs l eof =
     let rs = regions xs l in
     let last = length rs - 1 in
     first_of (not_list xs l ∷ [])
-    (cond (last_ends_at rs eof) (placed (giving (get_or rs last (region 0 0)).addr) xs l (spliced rs last (suc last) [])) nothing)
+    (cond (last_ends_at rs eof) (placed (giving (slice_index_or rs last (region 0 0)).addr) xs l (spliced rs last (suc last) [])) nothing)

@@ -1,10 +1,10 @@
 -- What a decision stands for: a call decides first, and then carries its decision out. A call that is made of several, on one list or on more,
 -- decides all of them before it carries any out (document 02, P4: "if one of these is refused, the whole call is"). Assumes nothing.
---   number_in   the number of the refusal that a decision is, 0 where it is none (`refusal_number`)
+--   number_in  the number of the refusal that a decision is, 0 where it is none (`refusal_number`)
 --   fitted     a change, where the run has room for the regions that it leaves; else refusal 14
---   if_list     a decision, or refusal 3 where the test for it fails
---   given_by    the outcome of a decision, for a call that gives an address out
---   kept_by     the same for one that gives nothing out
+--   if_list    a decision, or refusal 3 where the test for it fails
+--   given_by   the outcome of a decision, for a call that gives an address out
+--   kept_by    the same for one that gives nothing out
 --   Applicable a decision that can be carried out
 --   Gives      a decision with this outcome that can be carried out, for a call that gives an address out
 --   Keeps      the same for one that gives nothing out

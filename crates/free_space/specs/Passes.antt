@@ -1,6 +1,6 @@
 -- What the contracts of the questions' private functions say. No public contract cites this file. Assumes nothing.
---   measure_of    what counts of a region: its length, or that of its aligned interior
---   greatest_of   the greatest measure of the regions of a list; refusal 3
+--   measure_of   what counts of a region: its length, or that of its aligned interior
+--   greatest_of  the greatest measure of the regions of a list; refusal 3
 use Rattle.std.specs.Prelude.{ℕ, List, [], ◌∷◌}
 use Rattle.error.specs.Outcome.{Outcome, answer, first_of}
 use Rattle.free_regions.specs.declared.FreeRegion.{FreeRegion}

@@ -1,13 +1,13 @@
 -- A lent run of numbers as a list of regions, and the run that holds a list of regions (document 01, "The list": "A list is a lent run of
 -- 64-bit numbers, address then length, and a count"). Assumes nothing.
 -- In quotes: document 01's words, from "The list" or from the refusal of that number.
---   region_at   the i-th pair of a run
+--   region_at  the i-th pair of a run
 --   decode     the first n pairs of a run, as regions
 --   flat       regions as a run: address, length, address, length, ..
---   record_of   the record of a list of regions: its count, and the sum of its lengths (document 02, P1: "A list's record carries the total of its
+--   record_of  the record of a list of regions: its count, and the sum of its lengths (document 02, P1: "A list's record carries the total of its
 --              lengths")
 --   regions    the regions of a run by its record
---   is_list     the run and the record are a list: what refusal 3 tests ("a run of pairs has odd length, or a list's count passes its capacity",
+--   is_list    the run and the record are a list: what refusal 3 tests ("a run of pairs has odd length, or a list's count passes its capacity",
 --              and the rest of it; document 02, P1: "refusal 3, which now also refuses a total unlike the sum")
 --   stored     the run after an accepted call that leaves regions where there were n: "places between new and old count hold 0, later ones are
 --              unchanged"

@@ -1,6 +1,6 @@
 -- What a pass for the best fit finds on its way, and what its answer says. No public contract cites this file; it serves the contracts of
 -- private functions. Assumes nothing.
---   so_far      what was found so far, as the pass keeps it: a place and the bytes left over
+--   so_far     what was found so far, as the pass keeps it: a place and the bytes left over
 --   answered   the answer from what is kept at the end
 --   Serves     a place of a list at which the best fit lies
 --   Finds      what an answer says

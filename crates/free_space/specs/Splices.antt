@@ -1,6 +1,6 @@
 -- What the inner functions of the calls know of a run, and what a patch holds. But for `patch`, no public contract cites this file; it serves
 -- the contracts of private functions. Assumes nothing.
---   goes_on     the regions that are left follow one that ends at a place, and their lengths are what a sum lacks of the total
+--   goes_on    the regions that are left follow one that ends at a place, and their lengths are what a sum lacks of the total
 --   Tested     where a pass stands: the regions before a place are tested
 --   First      a list's first region, tested
 --   Begins     what is known where the room and the first region were tested

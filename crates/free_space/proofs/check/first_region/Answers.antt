@@ -1,4 +1,4 @@
--- the run has room for the count
+-- `has`: the run has room for the count
 use Rattle.std.proofs.Common.{◌≡◌, true, ◌∙◌, arith, eq-eqb, ne_eqb}
 use Rattle.pairs.specs.Pairs.{is_run}
 use Rattle.pairs.proofs.RunLaws.{run_room}

@@ -1,4 +1,4 @@
--- what is known by the answer of the first region's test
+-- `begins`: what is known by the answer of the first region's test
 use Rattle.std.proofs.Common.{◌≡◌, sym, subst}
 use Rattle.free_space.specs.declared.check.Head.{Head}
 use Rattle.free_space.specs.Splices.{Begins}

@@ -1,4 +1,5 @@
-use Rattle.std.proofs.Common.{◌≡◌, ◌+◌, ◌-◌, ◌%◌, ◌≤◌, sym, arith}
+-- `one` and `two` hold after the first region of an iteration and after the second, `last` after the last region
+use Rattle.std.proofs.Common.{◌≡◌, ◌+◌, sym, arith}
 use Rattle.free_regions.specs.Regions.{end}
 use Rattle.free_space.specs.Splices.{Tested}
 use Rattle.free_space.proofs.CheckLaws.{is_denied, is_held, pass_stops, pass_goes, pass_ends}

@@ -1,6 +1,4 @@
--- after the first region of an iteration, and after the second
--- after the last region
-use Rattle.std.proofs.Common.{◌≡◌, ◌+◌, ◌-◌, ◌%◌, ◌≤◌}
+use Rattle.std.proofs.Common.{◌≡◌, ◌-◌, ◌%◌, ◌≤◌}
 use Rattle.free_space.specs.Splices.{Tested}
 use Rattle.free_space.proofs.check.rest_is_list.Given as goal
 

@@ -1,6 +1,6 @@
--- what is left of the first region and of the last
--- the new total is the sum of what the range leaves
--- what the patch makes of the list
+-- `left_is`: what is left of the first region and of the last
+-- `total-is`: the new total is the sum of what the range leaves
+-- `is_cut`: what the patch makes of the list
 use Rattle.std.proofs.Common.{◌≡◌, ℕ, ◌+◌, ◌-◌, ◌≤◌, ◌++◌, sym, ap, ◌∙◌, ap₂, arith}
 use Rattle.fields.specs.Ranges.{top}
 use Rattle.free_regions.specs.declared.FreeRegion.{FreeRegion}

@@ -1,5 +1,5 @@
--- refusal 3 was tested, and then the range
--- no region shares a byte
+-- `ok`: refusal 3 was tested; `tells`: and then the range
+-- `apart`: no region shares a byte
 use Rattle.std.proofs.Common.{◌≡◌, ◌+◌, true, sym, ◌∙◌, subst, arith}
 use Rattle.free_regions.specs.Regions.{region}
 use Rattle.free_space.specs.declared.meet.Meet.{Meet}

@@ -1,4 +1,4 @@
--- refusal 3 was tested, and then the range
+-- `ok`: refusal 3 was tested; `tells`: and then the range
 use Rattle.std.proofs.Common.{◌≡◌, true, ◌∙◌, subst, arith}
 use Rattle.free_space.specs.declared.meet.Meet.{Meet}
 use Rattle.free_space.specs.Runs.{is_list}

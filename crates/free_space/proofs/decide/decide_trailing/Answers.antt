@@ -1,4 +1,4 @@
--- the last region goes, and nothing comes
+-- `goes`: the last region goes, and nothing comes
 use Rattle.std.proofs.Common.{◌≡◌, ◌+◌, ◌-◌, ◌≤◌, [], sym, ap, ◌∙◌, arith}
 use Rattle.free_space.specs.declared.run.Patch.TheVariants.{Empty}
 use Rattle.free_space.specs.Runs.{regions}

@@ -1,4 +1,4 @@
--- the region goes, and what is left around the range comes
+-- `replaces`: the region goes, and what is left around the range comes
 use Rattle.std.proofs.Common.{◌+◌, ◌-◌, ap, ◌∙◌, arith}
 use Rattle.free_regions.specs.Regions.{end, sum_of_lengths}
 use Rattle.free_regions.proofs.LengthLaws.{sum-pieces}

@@ -1,4 +1,4 @@
-use Rattle.std.proofs.Common.{◌≡◌, ℕ, ap, ◌∙◌, arith, eq-eqb, ne_eqb}
+use Rattle.std.proofs.Common.{ℕ, ap, ◌∙◌, arith, eq-eqb, ne_eqb}
 use Rattle.free_regions.specs.Regions.{one_at, lower}
 use Rattle.free_space.specs.Passes.{measure_of}
 use Rattle.free_space.specs.Searches.{so_far}

@@ -1,4 +1,4 @@
--- what is known by the answer of the first region's test
+-- `begins`: what is known by the answer of the first region's test
 use Rattle.std.proofs.Common.{◌≡◌, ℕ, ap, subst}
 use Rattle.free_regions.specs.Regions.{best}
 use Rattle.free_space.specs.declared.check.Head.{Head}

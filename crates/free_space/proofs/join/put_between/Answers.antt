@@ -1,7 +1,5 @@
 use Rattle.std.proofs.Common.{◌≡◌, ℕ, ◌+◌, ◌-◌, ◌≤◌, List, [], ◌∷◌, ◌++◌, take, sym, ap, ◌∙◌, arith}
-use mathlib.Core.Path.{subst⁻¹}
 use Rattle.fields.specs.Ranges.{top}
-use Rattle.pairs.specs.Pairs.{capacity}
 use Rattle.free_regions.specs.declared.FreeRegion.{FreeRegion}
 use Rattle.free_regions.specs.Regions.{sum_of_lengths, insert, spliced}
 use Rattle.free_regions.proofs.OkLaws.{ok_prop}
@@ -11,9 +9,9 @@ use Rattle.free_space.specs.declared.run.Patch.TheVariants.{One}
 use Rattle.free_space.specs.Runs.{regions}
 use Rattle.free_space.specs.Calls.{placed, keeping}
 use Rattle.free_space.specs.Splices.{Goes, Replaces}
-use Rattle.free_space.specs.Decisions.{kept_by, Folds}
+use Rattle.free_space.specs.Decisions.{kept_by}
 use Rattle.free_space.proofs.ListLaws.{listed}
-use Rattle.free_space.proofs.SpliceLaws.{folds_fitted, kept-fitted, new_total}
+use Rattle.free_space.proofs.SpliceLaws.{kept-fitted, new_total}
 use Rattle.free_space.proofs.join.put_between.Goals as goal
 use Rattle.free_space.proofs.join.put_between.Goals.{After-join_above-high}
 

@@ -1,4 +1,4 @@
-use Rattle.std.proofs.Common.{◌+◌, ◌-◌, ◌<◌, ◌≤◌, ap, arith, rules}
+use Rattle.std.proofs.Common.{◌+◌, ap, arith, rules}
 use Rattle.free_regions.specs.declared.FreeRegion.{FreeRegion}
 use Rattle.free_regions.proofs.LengthLaws.{sum_parts}
 use Rattle.free_space.specs.Runs.{regions}
@@ -26,6 +26,7 @@ returns-then-e-r c =
       l.invariant.3,
     )
 
+-- the sum is at most that of the whole list
 pub overflow_add-gone : goal.overflow_add-gone
 overflow_add-gone c =
     let a = c.args in

@@ -1,5 +1,4 @@
--- the sum is at most that of the whole list
-use Rattle.std.proofs.Common.{◌+◌, ◌-◌, ◌<◌, ◌≤◌}
+use Rattle.std.proofs.Common.{◌-◌, ◌<◌, ◌≤◌}
 use Rattle.free_space.specs.Runs.{region_at, regions}
 use Rattle.free_space.specs.Splices.{Goes}
 use Rattle.free_space.proofs.meet.first_from.Given as goal

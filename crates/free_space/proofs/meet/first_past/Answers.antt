@@ -1,4 +1,4 @@
-use Rattle.std.proofs.Common.{◌≡◌, ℕ, ◌+◌, ◌-◌, ◌/◌, ◌<◌, ◌≤◌, ap, subst, arith}
+use Rattle.std.proofs.Common.{◌≡◌, ℕ, ◌+◌, ◌-◌, ◌/◌, ◌<◌, ap, subst, arith}
 use Rattle.free_regions.specs.Regions.{end}
 use Rattle.free_space.specs.Runs.{region_at}
 use Rattle.free_space.proofs.CheckLaws.{read_fits}

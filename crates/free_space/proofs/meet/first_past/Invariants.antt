@@ -1,4 +1,4 @@
-use Rattle.std.proofs.Common.{◌≡◌, ◌+◌, ◌-◌, ◌/◌, ◌<◌, ◌≤◌}
+use Rattle.std.proofs.Common.{◌-◌, ◌<◌, ◌≤◌}
 use Rattle.free_regions.specs.Regions.{end}
 use Rattle.free_space.specs.Runs.{region_at}
 use Rattle.free_space.proofs.meet.first_past.Given as goal

@@ -1,4 +1,5 @@
-use Rattle.std.proofs.Common.{◌≡◌, ℕ, ◌+◌, ◌-◌, max, ap, ◌∙◌, arith, eq-eqb, ne_eqb}
+-- in `iteration`, k is the greatest measure with the region that was read
+use Rattle.std.proofs.Common.{◌≡◌, ℕ, ◌+◌, max, ap, ◌∙◌, arith, eq-eqb, ne_eqb}
 use Rattle.free_regions.specs.Regions.{end}
 use Rattle.free_regions.proofs.OkLaws.{fit}
 use Rattle.free_space.proofs.CheckLaws.{is_denied, is_held, pass_stops, pass_ends}

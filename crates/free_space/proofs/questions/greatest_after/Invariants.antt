@@ -1,6 +1,4 @@
--- k is the greatest measure with the region that was read
-use Rattle.std.proofs.Common.{◌≡◌, ◌+◌, ◌-◌, ◌∙◌}
-use Rattle.free_regions.specs.Regions.{end}
+use Rattle.std.proofs.Common.{◌-◌}
 use Rattle.free_space.proofs.QuestionLaws.{Passed}
 use Rattle.free_space.proofs.questions.greatest_after.Given as goal
 

@@ -1,4 +1,4 @@
-use Rattle.std.proofs.Common.{◌≡◌, ℕ, ◌-◌, ◌≤◌, List, length, set, replicate, ap, ◌∙◌, arith, rules}
+use Rattle.std.proofs.Common.{◌≡◌, ℕ, ◌-◌, List, length, set, replicate, ap, ◌∙◌, arith, rules}
 use Rattle.error.specs.Lent.{over}
 use Rattle.error.proofs.OverLaws.{length_over, fill_start, fill_next}
 use Rattle.free_space.proofs.run.clear.Goals as goal
