@@ -44,7 +44,7 @@ module _ (page n : ℕ) (pos : 0 < page) where
   first_fits low r s rs w = go (pages_fit page n (s ∷ rs)) refl
     where
       go : (t : Bool) → pages_fit page n (s ∷ rs) ≡ t → t ≡ (ltb ((end r - 1) / page) n && t)
-      go false e = sym (bool.and_false (ltb ((end r - 1) / page) n))
+      go false e = sym (bool.and-false (ltb ((end r - 1) / page) n))
       go true e =
           let l = ltb-true ((end s - 1) / page) n (and_true (ltb ((end s - 1) / page) n) (pages_fit page n rs) e).0 in
           let m = page_mono page pos (end r - 1) (end s - 1) (omega (arith, w.3.2)) in
@@ -53,7 +53,7 @@ module _ (page n : ℕ) (pos : 0 < page) where
   last_fits : (low i : ℕ) (rs : List FreeRegion) (d : FreeRegion) → Within low top rs → suc i ≡ length rs
       → ltb ((end (get_or rs i d) - 1) / page) n ≡ pages_fit page n rs
   last_fits low i [] d w e = absurd (omega arith)
-  last_fits low zero (r ∷ []) d w e = sym (bool.and_true (ltb ((end r - 1) / page) n))
+  last_fits low zero (r ∷ []) d w e = sym (bool.and-true (ltb ((end r - 1) / page) n))
   last_fits low (suc i) (r ∷ []) d w e = absurd (omega arith)
   last_fits low zero (r ∷ s ∷ rs) d w e = absurd (omega arith)
   last_fits low (suc i) (r ∷ s ∷ rs) d w e = last_fits (suc (end r)) i (s ∷ rs) d w.3 (omega arith) ∙ first_fits low r s rs w

@@ -152,11 +152,11 @@ module _ (page a len : ℕ) (s : PagedLists) where
             ∙ ap₂ (λ (x y : ℕ). all_marked (mark_of k) (suc (x - y)) y s.marks)
             (ranged.last-is ∙ ap₂ (λ (x y : ℕ). (x + y - 1) / page) from long) (ranged.first-is ∙ ap (λ (x : ℕ). x / page) from)))
 
-        pub free_other : not t ≡ true → paged_free page k a len s ≡ refused OtherKind
-        free_other e = is-other k some-page q.sound q.fits q.apart (other-is ∙ e)
+        pub free_other : t ≡ false → paged_free page k a len s ≡ refused OtherKind
+        free_other e = is-other k some-page q.sound q.fits q.apart (other-is ∙ ap not e)
 
-        pub free-rejoined : not t ≡ false → {x : Left (List ℕ) PagedLists} → x ≡ effect_of (Free k f.addr f.len) (rejoined page k f.addr f.len s) s
+        pub free-rejoined : t ≡ true → {x : Left (List ℕ) PagedLists} → x ≡ effect_of (Free k f.addr f.len) (rejoined page k f.addr f.len s) s
             → x ≡ performed page (Free k a len) s
         free-rejoined e h =
             h ∙ ap₂ (λ (b n : ℕ). effect_of (Free k b n) (rejoined page k b n s) s) from long
-            ∙ sym (ap (λ (y : Outcome Made). effect_of (Free k a len) y s) (is-past k some-page q.sound q.fits q.apart (other-is ∙ e) false z))
+            ∙ sym (ap (λ (y : Outcome Made). effect_of (Free k a len) y s) (is-past k some-page q.sound q.fits q.apart (other-is ∙ ap not e) false z))

@@ -5,7 +5,6 @@ use mathlib.Core.Bool.{Bool, true, false, ◌&&◌, not}
 use Prim.Native.Nat.{ℕ, ◌<◌}
 use borrow.Author.Tests.{not-true}
 use lib.ListN.{length}
-use Rattle.free_space.proofs.CheckLaws.{denied, held}
 use Rattle.free_lists.specs.declared.calls.Which.{Which}
 use Rattle.free_lists.specs.declared.calls.Which.TheVariants.{Metadata, Raw, Unclassified}
 use Rattle.free_lists.specs.Lists.{regions_of, are_lists}
@@ -30,12 +29,12 @@ module _ (page : ℕ) (s : PagedLists) where
 
   -- by the flags of the code, of the marks and of the highest end
   module _ {b : Bool} (marks : b ≡ marks_fit s.marks) where
-    pub wrong_mark : not b ≡ true → areMarked ≡ false
-    wrong_mark h = rw (denied marks h)
+    pub wrong_mark : b ≡ false → areMarked ≡ false
+    wrong_mark h = rw (sym marks ∙ h)
 
-    module _ (fine : not b ≡ false) {t : Bool} (e : ℕ) (reaches : ReachesAll e s.lists) (pos : 0 < page) (pages : t ≡ end_fits page (length s.marks) e) where
-      pub no_mark : not t ≡ true → areMarked ≡ false
-      no_mark h = rw (held marks fine) (sym (reaches page (length s.marks) pos) ∙ denied pages h)
+    module _ (fine : b ≡ true) {t : Bool} (e : ℕ) (reaches : ReachesAll e s.lists) (pos : 0 < page) (pages : t ≡ end_fits page (length s.marks) e) where
+      pub no_mark : t ≡ false → areMarked ≡ false
+      no_mark h = rw (sym marks ∙ fine) (sym (reaches page (length s.marks) pos) ∙ sym pages ∙ h)
 
-      pub all-marks : not t ≡ false → areMarked ≡ true
-      all-marks h = rw (held marks fine) (sym (reaches page (length s.marks) pos) ∙ held pages h)
+      pub all-marks : t ≡ true → areMarked ≡ true
+      all-marks h = rw (sym marks ∙ fine) (sym (reaches page (length s.marks) pos) ∙ sym pages ∙ h)

@@ -19,7 +19,7 @@ test_free-tested-requires c =
     let s = paged_in a.metadata.now a.raw.now a.unclassified.now a.marks.now a.lists in
     let own = c.decide_free-own in
     subst⁻¹ (λ (n : ℕ). Tells n (not (are_lists s.lists)) (ltb top (a.addr + a.len)) (is_shared a.addr a.len s.lists)) c.refusal_number-number.ensures
-    (free-tells s.lists c.list_of.result a.addr a.len own.result own.ensures.0.0)
+    (free-tells s.lists c.list_of.result a.addr a.len own.result own.ensures.decided.0)
 
 pub returns-then-len-eq0 : goal.returns-then-len-eq0
 returns-then-len-eq0 c =
@@ -70,7 +70,7 @@ give_back_for-requires c =
     let f = c.pages_of-f in
     let own = c.decide_free-own in
     free_joins a.page a.addr a.len s q a.kind c.if-len-eq0.false f.result f.ensures.0 f.ensures.1 f.ensures.2 _ c.list_of.ensures own.result
-    own.ensures.0 own.ensures.1
+    own.ensures.decided own.ensures.folds
 
 pub returns-in-Refused : goal.returns-in-Refused
 returns-in-Refused c =

@@ -40,7 +40,7 @@ pub returns-in-Refused-rest : goal.returns-in-Refused-rest
 returns-in-Refused-rest c =
     rw c.unchanged_step-in-Refused-rest.ensures (
       Refused c.in-Refused-rest.r,
-      draw_made _ _ _ _ _ _ c.decide_whole_units-pages.ensures _ _ _ _ _ c.in-Change.is c.decide_free-rest.result c.decide_free-rest.ensures.0
+      draw_made _ _ _ _ _ _ c.decide_whole_units-pages.ensures _ _ _ _ _ c.in-Change.is c.decide_free-rest.result c.decide_free-rest.ensures.decided
           c.in-Refused-rest.is,
       refl,
       (refl, (refl, refl)),
@@ -49,10 +49,10 @@ returns-in-Refused-rest c =
 pub returns-in-Nothing-rest : goal.returns-in-Nothing-rest
 returns-in-Nothing-rest c =
     let a = c.args in
-    let g = c.pages-in-Change-1.given.0 in
+    let g = c.in-Change in
     let all = c.draw_all.ensures in (
-      Drawn g.0 (list.Change g.0 g.1.0 g.1.1.0 g.1.1.1.0 g.1.1.1.1.0) list.Nothing (g.0 / a.page) (a.width / a.page),
-      draw_made _ _ _ _ _ _ c.decide_whole_units-pages.ensures _ _ _ _ _ c.in-Change.is c.decide_free-rest.result c.decide_free-rest.ensures.0
+      Drawn g.addr (list.Change g.addr g.lo g.hi g.total g.patch) list.Nothing (g.addr / a.page) (a.width / a.page),
+      draw_made _ _ _ _ _ _ c.decide_whole_units-pages.ensures _ _ _ _ _ c.in-Change.is c.decide_free-rest.result c.decide_free-rest.ensures.decided
           c.in-Nothing-rest.is,
       ap answered_outcome all.0,
       (ap (list_in a.own.now) all.1, (all.2, all.3)),
@@ -61,16 +61,16 @@ returns-in-Nothing-rest c =
 pub returns-in-Change-rest : goal.returns-in-Change-rest
 returns-in-Change-rest c =
     let a = c.args in
-    let g = c.pages-in-Change-1.given.0 in
-    let t = c.enum_told-in-Change-rest-1.given.0 in
-    let rest = list.Change t.0 t.1.0 t.1.1.0 t.1.1.1.0 t.1.1.1.1.0 in
+    let g = c.in-Change in
+    let t = c.in-Change-rest in
+    let rest = list.Change t.addr t.lo t.hi t.total t.patch in
     let all = c.draw_all-in-Change-rest.ensures in (
-      Drawn g.0 (list.Change g.0 g.1.0 g.1.1.0 g.1.1.1.0 g.1.1.1.1.0) rest (g.0 / a.page) (a.width / a.page),
-      draw_made _ _ _ _ _ _ c.decide_whole_units-pages.ensures _ _ _ _ _ c.in-Change.is c.decide_free-rest.result c.decide_free-rest.ensures.0
+      Drawn g.addr (list.Change g.addr g.lo g.hi g.total g.patch) rest (g.addr / a.page) (a.width / a.page),
+      draw_made _ _ _ _ _ _ c.decide_whole_units-pages.ensures _ _ _ _ _ c.in-Change.is c.decide_free-rest.result c.decide_free-rest.ensures.decided
           c.in-Change-rest.is,
       ap answered_outcome all.0,
       (
-        ap (list_in c.carry_out-joined.new.0) all.1 ∙ in_list_lem a.own.now _ a.lists.own _ c.decide_free-rest.result c.carry_out-joined.ensures
+        ap (list_in c.carry_out-joined.new.run) all.1 ∙ in_list_lem a.own.now _ a.lists.own _ c.decide_free-rest.result c.carry_out-joined.ensures
             ∙ ap (carried_in (list_in a.own.now a.lists.own)) c.in-Change-rest.is,
         (all.2, all.3),
       ),

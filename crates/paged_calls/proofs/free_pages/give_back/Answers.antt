@@ -34,8 +34,8 @@ pub returns-then-e-p : goal.returns-then-e-p
 returns-then-e-p c =
     let a = c.args in
     let pre = c.requires in
-    let q = c.d-in-Change-1.given.0 in
-    back-own a.page a.f a.own.now a.shared.now a.marks.now a.lists.own a.lists.shared a.f.addr (Change q.0 q.1.0 q.1.1.0 q.1.1.1.0 q.1.1.1.1.0)
+    let q = c.in-Change in
+    back-own a.page a.f a.own.now a.shared.now a.marks.now a.lists.own a.lists.shared a.f.addr (Change q.addr q.lo q.hi q.total q.patch)
     (gives-own a.page a.f (list_in a.own.now a.lists.own) (list_in a.shared.now a.lists.shared) pre.2 a.d pre.0 pre.1 _ _ _ _ _ c.in-Change.is _ c.folded-r.ensures _ _ c.whole_from-p.ensures c.whole_up_to-e.ensures c.if-e-p.true) _ _ c.carry_out-joined.ensures
 
 pub overflow_add-count : goal.overflow_add-count
@@ -90,9 +90,9 @@ pub returns-then-is_over : goal.returns-then-is_over
 returns-then-is_over c =
     let a = c.args in
     let pre = c.requires in
-    let q = c.d-in-Change-1.given.0 in
+    let q = c.in-Change in
     rw c.unchanged_step-then-is_over.ensures (back_no a.page a.f a.own.now a.shared.now a.marks.now a.lists.own a.lists.shared
-    (OverCapacity (q.1.0 + 1 + (a.lists.own.count - q.1.1.0) + 1) (length a.own.now / 2)) (gives-full a.page a.f (list_in a.own.now a.lists.own) (list_in a.shared.now a.lists.shared) pre.2 a.d pre.0 pre.1 _ _ _ _ _ c.in-Change.is _ c.folded-r.ensures _ _ c.whole_from-p.ensures c.whole_up_to-e.ensures (omega (arith, c.if-e-p.false)) _ c.is_over.ensures c.if-is_over.true))
+    (OverCapacity (q.lo + 1 + (a.lists.own.count - q.hi) + 1) (length a.own.now / 2)) (gives-full a.page a.f (list_in a.own.now a.lists.own) (list_in a.shared.now a.lists.shared) pre.2 a.d pre.0 pre.1 _ _ _ _ _ c.in-Change.is _ c.folded-r.ensures _ _ c.whole_from-p.ensures c.whole_up_to-e.ensures (omega (arith, c.if-e-p.false)) _ c.is_over.ensures c.if-is_over.true))
 
 pub return_pages-requires : goal.return_pages-requires
 return_pages-requires c =

@@ -14,18 +14,18 @@ pub returns-in-Refused : goal.returns-in-Refused
 returns-in-Refused c =
     let a = c.args in
     let d = c.decide_free-pages in
-    rw c.unchanged_step.ensures (return_refused a.page a.d a.p a.e a.own.now a.shared.now a.marks.now a.lists.own a.lists.shared d.result d.ensures.0 _ c.in-Refused.is)
+    rw c.unchanged_step.ensures (return_refused a.page a.d a.p a.e a.own.now a.shared.now a.marks.now a.lists.own a.lists.shared d.result d.ensures.decided _ c.in-Refused.is)
 
 pub returns-in-Nothing : goal.returns-in-Nothing
 returns-in-Nothing c =
     let a = c.args in
     let h = c.requires in
     let d = c.decide_free-pages in
-    absurd (return_some a.page a.d a.p a.e a.own.now a.shared.now a.marks.now a.lists.own a.lists.shared d.result d.ensures.0 d.ensures.1 h.0 h.2 c.in-Nothing.is)
+    absurd (return_some a.page a.d a.p a.e a.own.now a.shared.now a.marks.now a.lists.own a.lists.shared d.result d.ensures.decided d.ensures.folds h.0 h.2 c.in-Nothing.is)
 
 pub returns-in-Change : goal.returns-in-Change
 returns-in-Change c =
     let a = c.args in
     let d = c.decide_free-pages in
-    return_done a.page a.d a.p a.e a.own.now a.shared.now a.marks.now a.lists.own a.lists.shared d.result d.ensures.0 _ _ _ _ _ c.in-Change.is _ _ c.carry_out-joined.ensures _ _ c.perform-taken.ensures.0 _ _ c.carry_out-given.ensures
+    return_done a.page a.d a.p a.e a.own.now a.shared.now a.marks.now a.lists.own a.lists.shared d.result d.ensures.decided _ _ _ _ _ c.in-Change.is _ _ c.carry_out-joined.ensures _ _ c.perform-taken.ensures.list _ _ c.carry_out-given.ensures
     _ c.set_marks.ensures

@@ -25,7 +25,7 @@ loop-at-preserved c =
     let l = c.loop-at in (
       search rules,
       (search rules, search rules, search rules),
-      l.invariant.2 ∙ free_step _ l.at _ _ (omega (arith, c.loop-at-test.true)) c.apply-applied.ensures.0,
+      l.invariant.2 ∙ free_step _ l.at _ _ (omega (arith, c.loop-at-test.true)) c.apply-applied.ensures.lists,
     )
 
 pub returns : goal.returns

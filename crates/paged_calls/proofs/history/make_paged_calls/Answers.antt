@@ -1,11 +1,7 @@
-use mathlib.Core.Path.{◌∙◌}
 use lib.ListN.{length}
 use Rattle.paged_calls.specs.Encoding.{frees_of, paged_calls_of, runs_of}
 use Rattle.paged_calls.proofs.HistoryLaws.{begun-is, shown}
 use Rattle.paged_calls.proofs.history.make_paged_calls.Goals as goal
-
-pub shape_of-marks : goal.shape_of-marks
-shape_of-marks c = c.marks-2-1.given ∙ c.marks-1.given
 
 pub returns : goal.returns
 returns c =
