@@ -12,9 +12,9 @@ pub returns-in-At : goal.returns-in-At
 returns-in-At c =
     let a = c.args in
     let f = c.records_in-lists in
-    ap (λ (ls : Lists). with c.in-At.field-0 (runs_of ls)) c.apply.ensures.0
+    ap (λ (ls : Lists). with c.in-At.addr (runs_of ls)) c.apply.ensures.lists
     ∙ list_seen (lists_in a.metadata.now a.raw.now a.unclassified.now f.result) _ c.apply-made.result.answer Metadata (Alloc a.len)
-    c.apply-made.ensures.1 c.apply-made.ensures.0 (in_own_list a.page a.len) _ c.in-At.is
+    c.apply-made.ensures.answer c.apply-made.ensures.lists (in_own_list a.page a.len) _ c.in-At.is
     ∙ ap (λ (r : FileLists). list_round a.page a.len (lists_in a.metadata.now a.raw.now a.unclassified.now r)) f.ensures
 
 pub returns-in-Done : goal.returns-in-Done
@@ -22,7 +22,7 @@ returns-in-Done c =
     let a = c.args in
     let f = c.records_in-lists in
     list_seen (lists_in a.metadata.now a.raw.now a.unclassified.now f.result) _ c.apply-made.result.answer Metadata (Alloc a.len)
-    c.apply-made.ensures.1 c.apply-made.ensures.0 (in_own_list a.page a.len) _ c.in-Done.is
+    c.apply-made.ensures.answer c.apply-made.ensures.lists (in_own_list a.page a.len) _ c.in-Done.is
     ∙ ap (λ (r : FileLists). list_round a.page a.len (lists_in a.metadata.now a.raw.now a.unclassified.now r)) f.ensures
 
 pub returns-in-Nothing : goal.returns-in-Nothing
@@ -31,7 +31,7 @@ returns-in-Nothing c =
     let f = c.records_in-lists in
     c.in_new_page.ensures
     ∙ list_seen (lists_in a.metadata.now a.raw.now a.unclassified.now f.result) _ c.apply-made.result.answer Metadata (Alloc a.len)
-    c.apply-made.ensures.1 c.apply-made.ensures.0 (in_own_list a.page a.len) _ c.in-Nothing.is
+    c.apply-made.ensures.answer c.apply-made.ensures.lists (in_own_list a.page a.len) _ c.in-Nothing.is
     ∙ ap (λ (r : FileLists). list_round a.page a.len (lists_in a.metadata.now a.raw.now a.unclassified.now r)) f.ensures
 
 pub returns-in-Refused : goal.returns-in-Refused
@@ -39,5 +39,5 @@ returns-in-Refused c =
     let a = c.args in
     let f = c.records_in-lists in
     list_seen (lists_in a.metadata.now a.raw.now a.unclassified.now f.result) _ c.apply-made.result.answer Metadata (Alloc a.len)
-    c.apply-made.ensures.1 c.apply-made.ensures.0 (in_own_list a.page a.len) _ c.in-Refused.is
+    c.apply-made.ensures.answer c.apply-made.ensures.lists (in_own_list a.page a.len) _ c.in-Refused.is
     ∙ ap (λ (r : FileLists). list_round a.page a.len (lists_in a.metadata.now a.raw.now a.unclassified.now r)) f.ensures

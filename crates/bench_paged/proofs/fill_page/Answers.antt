@@ -10,7 +10,7 @@ pub returns : goal.returns
 unfolding lists_after
 returns c =
     let a = c.args in
-    c.apply-filled.ensures.0
-    ∙ ap (next (on Metadata (Free a.addr a.len))) (c.apply-joined.ensures.0
+    c.apply-filled.ensures.lists
+    ∙ ap (next (on Metadata (Free a.addr a.len))) (c.apply-joined.ensures.lists
     ∙ ap₂ (λ (p n : ℕ). next (on Metadata (Free p n)) (lists_in a.metadata.now a.raw.now a.unclassified.now a.lists))
     c.saturating_add.ensures c.saturating_sub.ensures)

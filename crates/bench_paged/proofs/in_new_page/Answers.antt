@@ -13,22 +13,22 @@ returns-in-At c =
     let p = c.in-At.addr in
     ap (λ (ls : Lists). with p (runs_of ls)) c.fill_and_return.ensures
     ∙ list_seen (lists_in a.metadata.now a.raw.now a.unclassified.now a.lists) _ c.apply-made.result.answer Unclassified (AllocWholeUnits a.page a.page)
-    c.apply-made.ensures.1 c.apply-made.ensures.0 (in_new_page a.page a.len) _ c.in-At.is
+    c.apply-made.ensures.answer c.apply-made.ensures.lists (in_new_page a.page a.len) _ c.in-At.is
 
 pub returns-in-Done : goal.returns-in-Done
 returns-in-Done c =
     let a = c.args in
     list_seen (lists_in a.metadata.now a.raw.now a.unclassified.now a.lists) _ c.apply-made.result.answer Unclassified (AllocWholeUnits a.page a.page)
-    c.apply-made.ensures.1 c.apply-made.ensures.0 (in_new_page a.page a.len) _ c.in-Done.is
+    c.apply-made.ensures.answer c.apply-made.ensures.lists (in_new_page a.page a.len) _ c.in-Done.is
 
 pub returns-in-Nothing : goal.returns-in-Nothing
 returns-in-Nothing c =
     let a = c.args in
     list_seen (lists_in a.metadata.now a.raw.now a.unclassified.now a.lists) _ c.apply-made.result.answer Unclassified (AllocWholeUnits a.page a.page)
-    c.apply-made.ensures.1 c.apply-made.ensures.0 (in_new_page a.page a.len) _ c.in-Nothing.is
+    c.apply-made.ensures.answer c.apply-made.ensures.lists (in_new_page a.page a.len) _ c.in-Nothing.is
 
 pub returns-in-Refused : goal.returns-in-Refused
 returns-in-Refused c =
     let a = c.args in
     list_seen (lists_in a.metadata.now a.raw.now a.unclassified.now a.lists) _ c.apply-made.result.answer Unclassified (AllocWholeUnits a.page a.page)
-    c.apply-made.ensures.1 c.apply-made.ensures.0 (in_new_page a.page a.len) _ c.in-Refused.is
+    c.apply-made.ensures.answer c.apply-made.ensures.lists (in_new_page a.page a.len) _ c.in-Refused.is

@@ -8,4 +8,4 @@ pub returns : goal.returns
 unfolding lists_after
 returns c =
     let a = c.args in
-    c.apply-given.ensures.0 ∙ ap (next (on Unclassified (Free a.addr a.page))) c.apply-taken.ensures.0
+    c.apply-given.ensures.lists ∙ ap (next (on Unclassified (Free a.addr a.page))) c.apply-taken.ensures.lists
