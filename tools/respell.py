@@ -43,28 +43,33 @@ def snake(word):
 
 
 def declared():
-    """The names that specs/ and proofs/ declare: definitions of specs/, fields and constructors, and lemmas."""
-    defined, lemmas = set(), set()
+    """The names that specs/ and proofs/ declare: definitions of specs/ with their constructors, lemmas, and fields of records; and of
+    those in specs/ the ones that stand outside a block, whose names a dash joins."""
+    defined, lemmas, fields, outer = set(), set(), set(), set()
     for path in files(".antt"):
         of_function = os.path.basename(path) in ("Proof.antt", "Answers.antt", "Invariants.antt")
         to = defined if "/specs/" in path else lemmas
+        of_record = False
         for line in read(path).split("\n"):
+            of_record = bool(re.match(r" *(?:pub )?record ", line)) or (of_record and (line.startswith(" ") or not line.strip()))
             m = re.match(r"(?:(?:abbrev|unfoldable|pub) )*(%s) :(?: (.*)|$)" % W, line)
             if m:
                 if not (of_function and (re.match(r"tie\.", m[2] or "") or re.search(r"[-_]spec$", m[1]))):
                     to.add(m[1])
+                    outer.update([m[1]] if to is defined else [])
                 continue
-            m = re.match(r" +(?:pub )?(%s) :(?: |$)" % W, line) if not of_function else None
+            m = re.match(r" +((?:(?:abbrev|unfoldable|pub) )*)(%s) :(?: |$)" % W, line) if not of_function else None
             if m:
-                to.add(m[1])
-    return defined, lemmas
+                (fields if of_record else to).add(m[2])
+                outer.update([m[2]] if to is defined and m[1] in ("", "pub ") else [])
+    return defined, lemmas, fields, outer
 
 
 def table():
-    defined, lemmas = declared()
-    names = {snake(n) for n in defined if "-" not in n} | set(STD)
+    defined, lemmas, fields, outer = declared()
+    names = {snake(n) for n in outer if "-" not in n} | set(STD)
     out = {}
-    for name in sorted(defined | lemmas):
+    for name in sorted(defined | lemmas | fields):
         if name in APART:
             out[name] = APART[name]
             continue
@@ -77,10 +82,12 @@ def table():
             left = left or bool(re.match(r"[A-Z]", parts[at - 1] or "x"))
             right = any("_".join(parts[at:k]) in names for k in range(at + 1, len(parts) + 1)) or bool(re.match(r"[A-Z]", parts[at] or "X"))
             symbol = not re.match(r"\w", parts[at] or "-") or not re.search(r"[\w'₀-₉]$", parts[at - 1] or "-")
+            if name in fields and name not in defined | lemmas:
+                left = symbol = False
             new += ("-" if (left and right) or symbol else "_") + parts[at]
         if new != name:
             out[name] = new
-    return out, together(out, defined | lemmas)
+    return out, together(out, defined | lemmas | fields)
 
 
 def together(names, every):
