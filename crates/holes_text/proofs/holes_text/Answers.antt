@@ -15,13 +15,13 @@ returns-then-out-n c =
 
 pub slice_bounds-text-end : goal.slice_bounds-text-end
 slice_bounds-text-end c =
-    let inside : (c.print-n.result ≤ length c.print-n.new.1.0) = let a = c.args in
+    let inside : (c.print-n.result ≤ length c.print-n.new.out) = let a = c.args in
     after-inside 0 (holes_text a.image.now) c.text_memory-text.result c.print-n.ensures in
     inside
 
 pub slice_bounds-write_bytes-end : goal.slice_bounds-write_bytes-end
 slice_bounds-write_bytes-end c =
-    let inside : (c.print-n.result ≤ length c.print-n.new.1.0) = let a = c.args in
+    let inside : (c.print-n.result ≤ length c.print-n.new.out) = let a = c.args in
     after-inside 0 (holes_text a.image.now) c.text_memory-text.result c.print-n.ensures in
     sym (length-take-le _ _ inside)
 

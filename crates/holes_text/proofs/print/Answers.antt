@@ -14,10 +14,10 @@ returns-in-Refused c =
     let a = c.args in
     printed_as a.out.now c.write_refusal-in-Refused.ensures
     (ap refused_text c.number-in-Refused.ensures
-    ∙ text_refused c.lent_run-run.result c.lent_run-run.ensures a.image.now c.if-image-gt-IMAGE_LIMIT.false c.read_image-read.result _ c.read_image-read.ensures.0 _ c.in-Refused.is)
+    ∙ text_refused c.lent_run-run.result c.lent_run-run.ensures a.image.now c.if-image-gt-IMAGE_LIMIT.false c.read_image-read.result _ c.read_image-read.ensures.read _ c.in-Refused.is)
 
 pub returns-in-Read : goal.returns-in-Read
 returns-in-Read c =
     let a = c.args in
     printed_as a.out.now c.write_listing.ensures
-    (text_listed c.lent_run-run.result c.lent_run-run.ensures a.image.now c.if-image-gt-IMAGE_LIMIT.false c.read_image-read.result _ c.read_image-read.ensures.0 c.in-Read.is)
+    (text_listed c.lent_run-run.result c.lent_run-run.ensures a.image.now c.if-image-gt-IMAGE_LIMIT.false c.read_image-read.result _ c.read_image-read.ensures.read c.in-Read.is)

@@ -10,7 +10,7 @@ pub loop-slot-init : goal.loop-slot-init
 loop-slot-init c =
     let w = c.write_bytes-to in
     let a = c.args in
-    (omega arith, whole-left w.result (slotsFrom a.counts.now a.run.now 0 0) w.new.0 (after-inside 0 header a.out.now w.ensures))
+    (omega arith, whole-left w.result (slotsFrom a.counts.now a.run.now 0 0) w.new.out (after-inside 0 header a.out.now w.ensures))
 
 pub write_slot-to-requires : goal.write_slot-to-requires
 write_slot-to-requires c = c.loop-slot.invariant.1.inside
@@ -31,7 +31,7 @@ shape_of-out c =
     let l = c.loop-slot in
     let a = c.args in
     let s = slotsFrom a.counts.now a.run.now in
-    printing_length c.write_bytes-to.result (s 0 0) c.write_bytes-to.new.0 l.to (s l.slot l.from) l.out l.invariant.1 ∙ c.out-1.given
+    printing_length c.write_bytes-to.result (s 0 0) c.write_bytes-to.new.out l.to (s l.slot l.from) l.out l.invariant.1 ∙ c.write_bytes-to.auto.out
 
 pub returns : goal.returns
 unfolding listing_text
