@@ -74,8 +74,8 @@ unfolding at_addr chain
 at_some a z zero i h = absurd (omega arith)
 at_some a z (suc c) zero h = let e : a + 0 * z ≡ a = omega arith in rw (e, eq-eqb a a refl) (omega arith)
 at_some a z (suc c) (suc i) h =
-    let e : a + suc i * z ≡ a + z + i * z = omega arith in
-    rw e (omega (arith, at_some (a + z) z c i (omega arith)))
+    let e : a + z + i * z ≡ a + suc i * z = omega arith in
+    subst (λ (x : ℕ). 0 < at_addr x (chain a z (suc c))) e (omega (arith, at_some (a + z) z c i (omega arith)))
 
 -- the place of an address
 pub record Index (x a z c : ℕ) : Type 0 where

@@ -7,31 +7,31 @@ use Rattle.fsm_plan.proofs.plan.plan_paged_managers.Goals as goal
 pub returns-then-not-is_width : goal.returns-then-not-is_width
 returns-then-not-is_width c =
     let a = c.args in
-    planned-width a.meta.now a.raw.now a.unclassified.now a.n a.page a.start a.offset_size a.out.now (ap not (sym c.is_width.ensures) ∙ c.if-not-is_width.true)
+    planned-width a.meta.now a.raw.now a.unclassified.now a.n a.page a.start a.offset_size a.out.now (ap not (sym c.is_width.ensures ∙ c.if-not-is_width.true))
 
 pub returns-then-page-eq0 : goal.returns-then-page-eq0
 returns-then-page-eq0 c =
     let a = c.args in
-    planned-page a.meta.now a.raw.now a.unclassified.now a.n a.page a.start a.offset_size a.out.now (ap not (sym c.is_width.ensures) ∙ c.if-not-is_width.false) c.if-page-eq0.true
+    planned-page a.meta.now a.raw.now a.unclassified.now a.n a.page a.start a.offset_size a.out.now (ap not (sym c.is_width.ensures ∙ c.if-not-is_width.false)) c.if-page-eq0.true
 
 pub returns-then-out-ne0 : goal.returns-then-out-ne0
 returns-then-out-ne0 c =
     let a = c.args in
-    planned_odd a.meta.now a.raw.now a.unclassified.now a.n a.page a.start a.offset_size a.out.now (ap not (sym c.is_width.ensures) ∙ c.if-not-is_width.false) c.if-page-eq0.false c.if-out-ne0.true
+    planned_odd a.meta.now a.raw.now a.unclassified.now a.n a.page a.start a.offset_size a.out.now (ap not (sym c.is_width.ensures ∙ c.if-not-is_width.false)) c.if-page-eq0.false c.if-out-ne0.true
 
 pub put_plan-requires : goal.put_plan-requires
 put_plan-requires c =
     let a = c.args in
-    let h = planned-accepted a.meta.now a.raw.now a.unclassified.now a.n a.page a.start a.offset_size a.out.now (ap not (sym c.is_width.ensures) ∙ c.if-not-is_width.false) c.if-page-eq0.false c.if-out-ne0.false _ c.plan_blocks-planned.ensures _ c.in-Plan.is in
-    record { given = large_given a.meta.now a.raw.now a.unclassified.now a.n a.page a.offset_size h.tested; fits = (h.tested.late-x, h.tested.late-y); counted = accepted-counted a.meta.now a.raw.now a.unclassified.now a.n a.page a.start a.offset_size _ h }
+    let h = planned-accepted a.meta.now a.raw.now a.unclassified.now a.n a.page a.start a.offset_size a.out.now (ap not (sym c.is_width.ensures ∙ c.if-not-is_width.false)) c.if-page-eq0.false c.if-out-ne0.false _ c.plan_blocks-planned.ensures _ c.in-Plan.is in
+    record { given = large_given a.meta.now a.raw.now a.unclassified.now a.n a.page a.offset_size h.tested; fits = (h.tested.late_x, h.tested.late_y); counted = accepted-counted a.meta.now a.raw.now a.unclassified.now a.n a.page a.start a.offset_size _ h }
 
 pub returns-in-Refused : goal.returns-in-Refused
 returns-in-Refused c =
     let a = c.args in
-    planned-refused a.meta.now a.raw.now a.unclassified.now a.n a.page a.start a.offset_size a.out.now (ap not (sym c.is_width.ensures) ∙ c.if-not-is_width.false) c.if-page-eq0.false c.if-out-ne0.false _ c.plan_blocks-planned.ensures _ c.in-Refused.is
+    planned-refused a.meta.now a.raw.now a.unclassified.now a.n a.page a.start a.offset_size a.out.now (ap not (sym c.is_width.ensures ∙ c.if-not-is_width.false)) c.if-page-eq0.false c.if-out-ne0.false _ c.plan_blocks-planned.ensures _ c.in-Refused.is
 
 pub returns-in-Plan : goal.returns-in-Plan
 returns-in-Plan c =
     let a = c.args in
     c.put_plan.ensures
-    ∙ planned-into a.meta.now a.raw.now a.unclassified.now a.n a.page a.start a.offset_size a.out.now (ap not (sym c.is_width.ensures) ∙ c.if-not-is_width.false) c.if-page-eq0.false c.if-out-ne0.false _ c.plan_blocks-planned.ensures _ c.in-Plan.is
+    ∙ planned-into a.meta.now a.raw.now a.unclassified.now a.n a.page a.start a.offset_size a.out.now (ap not (sym c.is_width.ensures ∙ c.if-not-is_width.false)) c.if-page-eq0.false c.if-out-ne0.false _ c.plan_blocks-planned.ensures _ c.in-Plan.is

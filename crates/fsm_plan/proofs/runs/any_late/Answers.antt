@@ -9,10 +9,8 @@ use Rattle.fsm_sections.specs.Pages.{end}
 use Rattle.fsm_sections.specs.Runs.{any_of}
 use Rattle.fsm_sections.proofs.RunStepLaws.{rest-start, ended, went, fewer}
 use Rattle.fsm_sections.proofs.AnyLaws.{ends_any, any_found, any_step, any_none}
+use Rattle.fsm_plan.proofs.runs.any_late.Invariants.{late}
 use Rattle.fsm_plan.proofs.runs.any_late.Goals as goal
-
-abbrev late : List FreeSection → Bool
-late = any_of (λ r. ltb top (end r))
 
 pub loop-t-init : goal.loop-t-init
 loop-t-init c = let a = c.args in rw c.start-at.ensures (ap late (rest-start a.n a.run.now))
