@@ -1,5 +1,5 @@
 -- What the benchmarks see of a list call: the total after it, and the run. Assumes nothing.
---   list_of       the record of a count and a total
+--   list_of      the record of a count and a total
 --   kept_total, given_total   the total after a call, all ones for a refusal or Nothing
 --   kept_left, given_left     the total and the run that a call leaves
 use Rattle.std.specs.Prelude.{ℕ, List}

@@ -1,5 +1,4 @@
-use mathlib.Core.Path.{ap, ◌∙◌}
-use Prim.Native.Nat.{ℕ}
+use Rattle.std.proofs.Common.{ℕ, ap, ◌∙◌}
 use Rattle.error.specs.Lent.{with}
 use Rattle.bench_abi.specs.Totals.{given_left}
 use Rattle.bench_abi.proofs.bench_take_trailing.Goals as goal
@@ -7,4 +6,4 @@ use Rattle.bench_abi.proofs.bench_take_trailing.Goals as goal
 pub returns : goal.returns
 returns c =
     let d = c.take_trailing in
-    ap (λ (n : ℕ). with n d.new.1.0) c.given_total.ensures ∙ ap given_left d.ensures
+    ap (λ (n : ℕ). with n d.new.run) c.given_total.ensures ∙ ap given_left d.ensures
