@@ -5,16 +5,16 @@
 --   inSlot0, inSlot2, inLarge   the sections of slots 0, 2 and 6: "metadata pieces below a page go to slot 0, raw ones to slot 2, whole pages of
 --                    either to slot 6 with unclassified sections unsplit"
 --   wideSections     an address of one of them does not fit O bytes (refusal 12: "a written address doesn't fit the offset size")
---   size_tests        refusal 4: "a sum of section sizes", or the blocks' length, exceeds 2^64 - 1
---   measure_of        the sum of the sizes of sections, their number and the length of their blocks; measured the same after size_tests
+--   size_tests       refusal 4: "a sum of section sizes", or the blocks' length, exceeds 2^64 - 1
+--   measure_of       the sum of the sizes of sections, their number and the length of their blocks; measured the same after size_tests
 --   measuresOf       of the sections of slots 0, 2 and 6; slotsMeasured the same after the tests of each
---   address_in        a block's address in a slot of n sections: the undefined one of 8 bytes where it has none, at every offset size
---   block_at          the blocks of a slot from an address on: "Non-empty slots get FSHD then FSSE", and the class of its sections
---   end_at            where the blocks of all slots end
---   managers_at       the blocks "from `start` on, in order 0, 2, 6"; "Class 1 for slots 0 and 2, class 2 for slot 6"; and the end
---   slots_by          the twelve slots of the message by a plan ("The save": "unused ones all one bits")
---   blocks_at         with the measures
---   wide_block        a slot has blocks, and one begins at an address that is not below a limit; wide_managers one of the three has
+--   address_in       a block's address in a slot of n sections: the undefined one of 8 bytes where it has none, at every offset size
+--   block_at         the blocks of a slot from an address on: "Non-empty slots get FSHD then FSSE", and the class of its sections
+--   end_at           where the blocks of all slots end
+--   managers_at      the blocks "from `start` on, in order 0, 2, 6"; "Class 1 for slots 0 and 2, class 2 for slot 6"; and the end
+--   slots_by         the twelve slots of the message by a plan ("The save": "unused ones all one bits")
+--   blocks_at        with the measures
+--   wide_block       a slot has blocks, and one begins at an address that is not below a limit; wide_managers one of the three has
 --   Placed           the blocks end within 64 bits, and those of a slot with sections have room for its FSHD: for contracts of private functions
 --   runTests         refusals 1, 2, 3, and 4 for a region that ends above top ("address plus length")
 --   plannedFrom      refusals 4 (the end: "a planned address"), 5 ("two slot 6 sections have one address"), 12 for a block that does not begin below

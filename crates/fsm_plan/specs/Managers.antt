@@ -2,12 +2,12 @@
 -- In quotes: document 01's words, from "Pages and slots" or from the heading named.
 --   Manager        a slot's sections, and the class that its entries carry
 --   manager, unused   a manager of a class and sections; a slot that is not used
---   managers_of     the twelve slots of three runs of sections: "metadata pieces below a page go to slot 0, raw ones to slot 2, whole pages of
+--   managers_of    the twelve slots of three runs of sections: "metadata pieces below a page go to slot 0, raw ones to slot 2, whole pages of
 --                  either to slot 6 with unclassified sections unsplit"; "Class 1 for slots 0 and 2, class 2 for slot 6"
 --   managerSize    how many bytes a manager's blocks occupy: FSHD, then FSSE at its allocated length; none without sections
 --   managerBytes   a manager's blocks at an address: "Non-empty slots get FSHD then FSSE"
---   size_of         how many bytes the blocks of managers occupy ("The save": "L block bytes")
---   blocks_from     the blocks of managers "from `start` on, in order 0, 2, 6"
+--   size_of        how many bytes the blocks of managers occupy ("The save": "L block bytes")
+--   blocks_from    the blocks of managers "from `start` on, in order 0, 2, 6"
 --   slotsFrom      where each manager's FSHD then stands, as O bytes hold it; one without sections has the undefined address ("The save": "unused
 --                  ones all one bits")
 use Rattle.std.specs.Prelude.{ℕ, ◌+◌, cond, List, [], ◌∷◌, ◌++◌, eqb, length, replicate}

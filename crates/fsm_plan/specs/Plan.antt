@@ -5,7 +5,7 @@
 --   Counted          the counts of a plan are theirs: for contracts of private functions
 --   plannedInto      refusal 14; the managers of a plan, and the sections in the lent run
 --   planned          `plan_paged_managers`: refusals 1, 2, 3 (also an odd output run), the others of `plan_blocks`, then plannedInto
---   planned_outcome   the outcome that an answer of the code stands for ("Language forms": "for every case of the enum")
+--   planned_outcome  the outcome that an answer of the code stands for ("Language forms": "for every case of the enum")
 use Rattle.std.specs.Prelude.{◌≡◌, ℕ, ◌+◌, ◌/◌, ◌≤◌, not, List, [], ◌∷◌, ◌++◌, ltb, eqb, length}
 use Rattle.error.specs.declared.Refusal.TheVariants.{Width, Page, NotAList, OverCapacity}
 use Rattle.error.specs.Outcome.{Outcome, answer, refused, when, first_of, and_then}

@@ -1,12 +1,8 @@
-use mathlib.Core.Path.{◌≡◌, sym, ap, ◌∙◌}
-use mathlib.Core.Bool.{Bool}
-use mathlib.Core.List.{List}
+use mathlib.Core.Path.{sym, ap, ◌∙◌}
 use lib.Dec.{ltb}
 use Rattle.fields.specs.Ranges.{top}
-use Rattle.fsm_sections.specs.declared.FreeSection.{FreeSection}
 use Rattle.fsm_sections.specs.Sections.{decode}
 use Rattle.fsm_sections.specs.Pages.{end}
-use Rattle.fsm_sections.specs.Runs.{any_of}
 use Rattle.fsm_sections.proofs.RunStepLaws.{rest-start, ended, went, fewer}
 use Rattle.fsm_sections.proofs.AnyLaws.{ends_any, any_found, any_step, any_none}
 use Rattle.fsm_plan.proofs.runs.any_late.Invariants.{late}

@@ -1,4 +1,3 @@
-use borrow.Author.Tests.{not-true, not-false}
 use mathlib.Core.Path.{◌∙◌}
 use Rattle.error.proofs.TestLaws.{and_decides, and-leaves}
 use Rattle.pairs.specs.Pairs.{is_run}
