@@ -4,7 +4,7 @@ use Prim.Native.Nat.{ℕ, ◌+◌, ◌≤◌, ◌<◌}
 use native.Mathlib.Omega.{arith}
 use mathlib.Core.Bool.{Bool, true, false, ◌&&◌, ◌||◌, not}
 use mathlib.Core.List.{List, [], ◌∷◌}
-use borrow.Author.Tests.{lt-ltb, le-ltb, eq-eqb, ne_eqb, leb-true, not-true, not-false}
+use borrow.Author.Tests.{lt-ltb, le-ltb, eq-eqb, ne_eqb, leb-true, not-false}
 use lib.Dec.{ltb, eqb}
 use lib.ListN.{length, get_or}
 use Rattle.error.specs.declared.Checked.{Checked}
@@ -76,12 +76,12 @@ module _ (rs : Regions) (start place : ℕ) (image : List ℕ) where
   bw = any_in_the_way start place rs
 
   module _ (x : Bool) (xe : x ≡ bi) where
-    pub away_outside : not x ≡ true → refused Place ≡ F
-    away_outside t = is-outside ver str bi bv bs bw (sym xe ∙ not-true x t)
+    pub away_outside : x ≡ false → refused Place ≡ F
+    away_outside t = is-outside ver str bi bv bs bw (sym xe ∙ t)
 
-    module _ (t : not x ≡ false) where
+    module _ (t : x ≡ true) where
       inside : bi ≡ true
-      inside = sym xe ∙ not-false x t
+      inside = sym xe ∙ t
 
       pub message_there : place + 125 ≤ length image
       message_there = leb-true (place + 125) (length image) inside
@@ -162,13 +162,13 @@ module _ (ls : Lists) (page start place : ℕ) (image scratch : List ℕ) where
   begin_page z = ap (leaving scratch) (sym (first_holds _ Page _ _ (eq-eqb page 0 z)))
 
   module _ (n : page ≡ 0 → ⊥) (u : Bool) (ue : u ≡ are_lists ls) where
-    pub begin_lists : not u ≡ true → left (refused NotAList) scratch ≡ leaving scratch whole
+    pub begin_lists : u ≡ false → left (refused NotAList) scratch ≡ leaving scratch whole
     unfolding begun
-    begin_lists t = ap (leaving scratch) (sym (first_passes _ Page _ _ (ne_eqb page 0 n) ∙ first_holds _ NotAList _ _ (ap not (sym ue ∙ not-true u t))))
+    begin_lists t = ap (leaving scratch) (sym (first_passes _ Page _ _ (ne_eqb page 0 n) ∙ first_holds _ NotAList _ _ (ap not (sym ue ∙ t))))
 
-    module _ (t : not u ≡ false) where
+    module _ (t : u ≡ true) where
       pub begin_asks : (0 < page) × (are_lists ls ≡ true)
-      begin_asks = (omega arith, sym ue ∙ not-false u t)
+      begin_asks = (omega arith, sym ue ∙ t)
 
       regions_only : whole ≡ begunOf rs page start place image scratch
       unfolding begun

@@ -10,7 +10,7 @@ pub in_the_way-requires : goal.in_the_way-requires
 in_the_way-requires c =
     let a = c.args in
     let pre = c.requires in
-    ((each-list a.meta.now a.raw.now a.unclassified.now a.q.lists pre.0).0, pre.1)
+    ((each-list a.meta.now a.raw.now a.unclassified.now a.q.lists pre.lists).0, pre.message)
 
 pub returns-then-in_the_way : goal.returns-then-in_the_way
 returns-then-in_the_way c =
@@ -23,7 +23,7 @@ pub in_the_way-requires-2 : goal.in_the_way-requires-2
 in_the_way-requires-2 c =
     let a = c.args in
     let pre = c.requires in
-    ((each-list a.meta.now a.raw.now a.unclassified.now a.q.lists pre.0).1, pre.1)
+    ((each-list a.meta.now a.raw.now a.unclassified.now a.q.lists pre.lists).1, pre.message)
 
 pub returns-then-in_the_way-2 : goal.returns-then-in_the_way-2
 returns-then-in_the_way-2 c =
@@ -40,7 +40,7 @@ pub in_the_way-requires-3 : goal.in_the_way-requires-3
 in_the_way-requires-3 c =
     let a = c.args in
     let pre = c.requires in
-    ((each-list a.meta.now a.raw.now a.unclassified.now a.q.lists pre.0).2, pre.1)
+    ((each-list a.meta.now a.raw.now a.unclassified.now a.q.lists pre.lists).2, pre.message)
 
 pub returns : goal.returns
 returns c =
