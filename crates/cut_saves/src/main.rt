@@ -6,10 +6,11 @@
 use end_to_end::anew::call_save_anew;
 use end_to_end::call_save_read;
 use image::{ImageAnswer, ImageRead};
-use libc::{STDIN_FILENO, STDOUT_FILENO};
 use numbers::{MAX, saturating_add};
 use save::Target;
 use save_step::{Save, Step, save_step};
+use std::io;
+use streams::read_full;
 use text::words::write_bytes;
 
 // M9: `start` 20000, end 20252, 378 stores.
@@ -150,13 +151,12 @@ fn fresh_agrees(k: u64, old: &[u8], uncut: &[u8]) -> bool {
         &mut other,
         k,
     );
-    check::same(&image, uncut)
+    image.as_slice() == uncut
 }
 
-fn print_line(words: &[u8], value: u64) {
-    io::write_all(STDOUT_FILENO, words);
-    io::print_decimal(STDOUT_FILENO, value);
-    io::write_all(STDOUT_FILENO, b"\n");
+fn print_line(rt: &impl Print, words: &[u8], value: u64) -> io::Result<()> {
+    rt.write_all(words)?;
+    println!(rt; "{value}")
 }
 
 // The count after a cut that agrees or not.
@@ -169,7 +169,7 @@ fn one_more(count: u64, agrees: bool) -> u64 {
 }
 
 // At how many cuts the readings agree, and at how many the fresh saves.
-fn print_cuts(old: &[u8], uncut: &[u8]) {
+fn print_cuts(rt: &impl Print, old: &[u8], uncut: &[u8]) -> io::Result<()> {
     let mut read = 0;
     let mut fresh = 0;
     let mut k = 0;
@@ -178,13 +178,13 @@ fn print_cuts(old: &[u8], uncut: &[u8]) {
         fresh = one_more(fresh, fresh_agrees(k, old, uncut));
         k += 1;
     }
-    print_line(b"cuts ", k);
-    print_line(b"readings that agree ", read);
-    print_line(b"fresh saves that end uncut ", fresh);
+    print_line(rt, b"cuts ", k)?;
+    print_line(rt, b"readings that agree ", read)?;
+    print_line(rt, b"fresh saves that end uncut ", fresh)
 }
 
 // What a step of M9 says when `done` stores are made.
-fn print_step(done: u64, image: &mut [u8]) {
+fn print_step(rt: &impl Print, done: u64, image: &mut [u8]) -> io::Result<()> {
     let save = Save {
         start: START as u64,
         place: 0,
@@ -193,15 +193,15 @@ fn print_step(done: u64, image: &mut [u8]) {
     };
     let step = save_step(save, image, &[0; 377]);
     match step {
-        Step::Stored(after) => print_line(b"stored ", after.done),
-        Step::Finished => print_line(b"finished after ", done),
-        Step::Refused(refusal) => print_line(b"refused ", refusal.number() as u64),
+        Step::Stored(after) => print_line(rt, b"stored ", after.done),
+        Step::Finished => print_line(rt, b"finished after ", done),
+        Step::Refused(refusal) => print_line(rt, b"refused ", refusal.number() as u64),
     }
 }
 
-fn main() {
+fn main(rt: HostRuntime) -> io::Result<()> {
     let mut m9 = [0; 377];
-    io::read_full(STDIN_FILENO, &mut m9);
+    read_full(&mut rt.reader(), &mut m9)?;
     let mut old = [0; END];
     let saved = save_old(&mut old);
     // The uncut image: M9's message and blocks, and else the old bytes.
@@ -210,9 +210,9 @@ fn main() {
     write_bytes(&mut uncut, 0, &m9[0..125]);
     write_bytes(&mut uncut, START, &m9[125..377]);
     if saved {
-        print_cuts(&old, &uncut);
+        print_cuts(&rt, &old, &uncut)?;
     }
-    print_step(STORES - 1, &mut old);
-    print_step(STORES, &mut old);
-    print_step(0, &mut old[0..END - 1]);
+    print_step(&rt, STORES - 1, &mut old)?;
+    print_step(&rt, STORES, &mut old)?;
+    print_step(&rt, 0, &mut old[0..END - 1])
 }

@@ -5,6 +5,8 @@ ghost use Rattle.std.specs.Prelude.{◌≡◌, ◌+◌, ◌≤◌, length, take}
 ghost use Rattle.holes_text.specs.Holes.{image_limit, text_limit, holes_text};
 
 use holes_text::{IMAGE_LIMIT, TEXT_LIMIT, Written, holes_text};
+use std::io;
+use streams::read_full;
 
 // Memory for the bytes of an image: one more than the limit, so that a longer one is noticed.
 fn image_buffer() -> [u8; IMAGE_LIMIT + 1]
@@ -31,10 +33,10 @@ fn write_text(image: &[u8], out: &mut [u8]) -> usize
     }
 }
 
-fn main() {
+fn main(rt: HostRuntime) -> io::Result<()> {
     let mut image = image_buffer();
-    let n = io::read_full(0, &mut image);
+    let n = read_full(&mut rt.reader(), &mut image)?;
     let mut text = text_buffer();
     let len = write_text(&image[..n], &mut text);
-    io::write_all(1, &text[..len]);
+    rt.write_all(&text[..len])
 }

@@ -2,19 +2,18 @@
 // `jenkins_lookup3`.
 #![tactic(auto)]
 
-use libc::STDOUT_FILENO;
+use std::io;
 
-fn print_line(value: u32) {
-    io::print_hex(STDOUT_FILENO, value as u64, 8);
-    io::write_all(STDOUT_FILENO, b"\n");
+fn print_line(rt: &impl Print, value: u32) -> io::Result<()> {
+    println!(rt; "{value:08x}")
 }
 
-fn main() {
+fn main(rt: HostRuntime) -> io::Result<()> {
     let text = b"Four score and seven years ago";
-    print_line(checksum::hashlittle(b"", 0));
-    print_line(checksum::hashlittle(b"", 0xdeadbeef));
-    print_line(checksum::hashlittle(text, 0));
-    print_line(checksum::hashlittle(text, 1));
-    print_line(checksum::jenkins_lookup3(b""));
-    print_line(checksum::jenkins_lookup3(text));
+    print_line(&rt, checksum::hashlittle(b"", 0))?;
+    print_line(&rt, checksum::hashlittle(b"", 0xdeadbeef))?;
+    print_line(&rt, checksum::hashlittle(text, 0))?;
+    print_line(&rt, checksum::hashlittle(text, 1))?;
+    print_line(&rt, checksum::jenkins_lookup3(b""))?;
+    print_line(&rt, checksum::jenkins_lookup3(text))
 }

@@ -12,7 +12,8 @@ use fsm_blocks::fsse::{SectionsAnswer, parse_fsse};
 use fsm_blocks::header::{FsmHeader, HeaderAnswer};
 use fsm_blocks::persisted::read_persisted_sections_strict;
 use fsm_writer::writer::{serialize_fshd, serialize_fsse};
-use libc::{STDIN_FILENO, STDOUT_FILENO};
+use std::io;
+use streams::read_full;
 use text::words::write_bytes;
 
 fn numbers() -> [u64; 1024]
@@ -21,27 +22,39 @@ fn numbers() -> [u64; 1024]
     [0; 1024]
 }
 
-fn print_line(value: u64) {
-    io::print_decimal(STDOUT_FILENO, value);
-    io::write_all(STDOUT_FILENO, b"\n");
+// Memory for the input.
+fn input_buffer() -> [u8; 65536]
+    ensures { 65536 ≡ length result }
+{
+    [0; 65536]
 }
 
-fn print_section(addr: u64, size: u64) {
-    io::print_decimal(STDOUT_FILENO, addr);
-    io::write_all(STDOUT_FILENO, b" ");
-    print_line(size);
+// Memory for a block that is written.
+fn block_buffer() -> [u8; 4096]
+    ensures { 4096 ≡ length result }
+{
+    [0; 4096]
+}
+
+fn print_line(rt: &impl Print, value: u64) -> io::Result<()> {
+    println!(rt; "{value}")
+}
+
+fn print_section(rt: &impl Print, addr: u64, size: u64) -> io::Result<()> {
+    println!(rt; "{addr} {size}")
 }
 
 // The first `count` pairs of a run, as far as it goes.
-fn print_sections(run: &[u64], count: usize) {
+fn print_sections(rt: &impl Print, run: &[u64], count: usize) -> io::Result<()> {
     let mut i = 0;
     while i < run.len() / 2 {
         if count <= i {
-            return;
+            return Ok(());
         }
-        print_section(run[2 * i], run[2 * i + 1]);
+        print_section(rt, run[2 * i], run[2 * i + 1])?;
         i += 1;
     }
+    Ok(())
 }
 
 // Whether writing the sections of the manager at the front of `bytes`, which has `used` bytes of FSSE, gives its bytes.
@@ -53,7 +66,7 @@ fn writes_back(bytes: &[u8], used: usize, run: &[u64], count: usize, fsse_addr: 
     }
     // The class byte of the first entry.
     let class = read_uint_le(bytes, 119 + width, 1);
-    let mut out = io::buffer();
+    let mut out = block_buffer();
     if 4096 < used {
         return false;
     }
@@ -61,73 +74,80 @@ fn writes_back(bytes: &[u8], used: usize, run: &[u64], count: usize, fsse_addr: 
         return false;
     }
     serialize_fshd(run, count, fsse_addr, 8, &mut out);
-    if !check::same(&out[0..82], &bytes[8..90]) {
+    if out[0..82] != bytes[8..90] {
         return false;
     }
     serialize_fsse(run, count, address, 8, (class % 256) as u8, &mut out);
-    check::same(&out[0..used], &bytes[90..90 + used])
+    out[0..used] == bytes[90..90 + used]
 }
 
 // Prints what the strict reading gives of a manager whose blocks stand at their addresses in a file of zeros.
-fn print_strictly(fshd_addr: u64, fshd: &[u8], fsse_addr: u64, fsse: &[u8]) {
+fn print_strictly(
+    rt: &impl Print,
+    fshd_addr: u64,
+    fshd: &[u8],
+    fsse_addr: u64,
+    fsse: &[u8],
+) -> io::Result<()> {
     let mut file = [0; 524288];
     write_bytes(&mut file, fshd_addr as usize, fshd);
     write_bytes(&mut file, fsse_addr as usize, fsse);
     let mut run = numbers();
     let read = read_persisted_sections_strict(&file, &[fshd_addr], BaseAddress(0), 8, &mut run);
     let SectionsAnswer::Read(count) = read else {
-        return;
+        return Ok(());
     };
-    io::write_all(STDOUT_FILENO, b"strictly\n");
-    print_sections(&run, count as usize);
+    rt.write_all(b"strictly\n")?;
+    print_sections(rt, &run, count as usize)
 }
 
 // Prints the manager at the front of `bytes` and answers how many bytes it takes, 0 where none stands there.
-fn manager(bytes: &[u8]) -> usize {
+fn manager(rt: &impl Print, bytes: &[u8]) -> io::Result<usize> {
     if bytes.len() < 90 {
-        return 0;
+        return Ok(0);
     }
     let parsed = FsmHeader::parse(&bytes[8..90], 8);
     let HeaderAnswer::Header(h) = parsed else {
-        return 0;
+        return Ok(0);
     };
     let used = h.fsse_used;
     if ((bytes.len() - 90) as u64) < used {
-        return 0;
+        return Ok(0);
     }
     let end = 90 + used as usize;
     let mut run = numbers();
     let read = parse_fsse(&bytes[90..end], h, 8, &mut run);
     let SectionsAnswer::Read(count) = read else {
-        return 0;
+        return Ok(0);
     };
     let address = read_uint_le(bytes, 0, 8);
-    io::write_all(STDOUT_FILENO, b"manager ");
-    print_line(address);
-    print_sections(&run, count as usize);
+    rt.write_all(b"manager ")?;
+    print_line(rt, address)?;
+    print_sections(rt, &run, count as usize)?;
     if writes_back(bytes, used as usize, &run, count as usize, h.fsse_addr) {
-        io::write_all(STDOUT_FILENO, b"same\n");
+        rt.write_all(b"same\n")?;
     }
-    print_strictly(address, &bytes[8..90], h.fsse_addr, &bytes[90..end]);
-    end
+    print_strictly(rt, address, &bytes[8..90], h.fsse_addr, &bytes[90..end])?;
+    Ok(end)
 }
 
-fn managers(bytes: &[u8]) {
+fn managers(rt: &impl Print, bytes: &[u8]) -> io::Result<()> {
     let mut at = 0;
     while at < bytes.len() {
-        let taken = manager(&bytes[at..]);
+        let taken = manager(rt, &bytes[at..])?;
         if taken == 0 {
-            return;
+            return Ok(());
         }
         if bytes.len() - at < taken {
-            return;
+            return Ok(());
         }
         at += taken;
     }
+    Ok(())
 }
 
-fn main() {
-    let mut input = io::large_buffer();
-    let len = io::read_full(STDIN_FILENO, &mut input);
-    managers(&input[..len]);
+fn main(rt: HostRuntime) -> io::Result<()> {
+    let mut input = input_buffer();
+    let len = read_full(&mut rt.reader(), &mut input)?;
+    managers(&rt, &input[..len])
 }

@@ -4,105 +4,126 @@
 // below `strictly`, as the strict one does.
 #![tactic(auto)]
 
+ghost use Rattle.std.specs.Prelude.{◌≡◌, length};
+
 use error::Refusal;
 use fields::address::BaseAddress;
 use fields::bytes::read_uint_le;
 use file_space_info::{FileSpaceInfo, NUM_FILE_FSM_MANAGERS, Parsed};
 use fsm_blocks::fsse::SectionsAnswer;
 use fsm_blocks::persisted::{read_persisted_sections, read_persisted_sections_strict};
-use libc::{STDIN_FILENO, STDOUT_FILENO};
+use std::io;
+use streams::read_full;
 
-fn print_line(value: u64) {
-    io::print_decimal(STDOUT_FILENO, value);
-    io::write_all(STDOUT_FILENO, b"\n");
+// Memory for the input.
+fn input_buffer() -> [u8; 65536]
+    ensures { 65536 ≡ length result }
+{
+    [0; 65536]
 }
 
-fn print_refusal(refusal: Refusal) {
-    io::write_all(STDOUT_FILENO, b"refused\n");
-    print_line(refusal.number() as u64);
+fn print_line(rt: &impl Print, value: u64) -> io::Result<()> {
+    println!(rt; "{value}")
 }
 
-fn print_section(addr: u64, size: u64) {
-    io::print_decimal(STDOUT_FILENO, addr);
-    io::write_all(STDOUT_FILENO, b" ");
-    print_line(size);
+fn print_refusal(rt: &impl Print, refusal: Refusal) -> io::Result<()> {
+    rt.write_all(b"refused\n")?;
+    print_line(rt, refusal.number() as u64)
+}
+
+fn print_section(rt: &impl Print, addr: u64, size: u64) -> io::Result<()> {
+    println!(rt; "{addr} {size}")
 }
 
 // The first `count` pairs of a run, as far as it goes.
-fn print_sections(run: &[u64], count: u64) {
+fn print_sections(rt: &impl Print, run: &[u64], count: u64) -> io::Result<()> {
     let mut i = 0;
     while i < run.len() / 2 {
         if count <= i as u64 {
-            return;
+            return Ok(());
         }
-        print_section(run[2 * i], run[2 * i + 1]);
+        print_section(rt, run[2 * i], run[2 * i + 1])?;
         i += 1;
     }
+    Ok(())
 }
 
-fn print_answer(read: SectionsAnswer, run: &[u64]) {
+fn print_answer(rt: &impl Print, read: SectionsAnswer, run: &[u64]) -> io::Result<()> {
     match read {
-        SectionsAnswer::Read(count) => print_sections(run, count),
-        SectionsAnswer::Refused(refusal) => print_refusal(refusal),
+        SectionsAnswer::Read(count) => print_sections(rt, run, count),
+        SectionsAnswer::Refused(refusal) => print_refusal(rt, refusal),
     }
 }
 
 // The sections of the manager that a slot names. The file has no user block, so its base address is 0.
-fn print_manager(file: &[u8], slot: u64, offset_size: u8) {
+fn print_manager(rt: &impl Print, file: &[u8], slot: u64, offset_size: u8) -> io::Result<()> {
     let base = BaseAddress(0);
     let mut run = [0; 64];
     let read = read_persisted_sections(file, &[slot], base, offset_size, &mut run);
-    print_answer(read, &run);
+    print_answer(rt, read, &run)?;
     let mut strict = [0; 64];
     let checked = read_persisted_sections_strict(file, &[slot], base, offset_size, &mut strict);
-    io::write_all(STDOUT_FILENO, b"strictly\n");
-    print_answer(checked, &strict);
+    rt.write_all(b"strictly\n")?;
+    print_answer(rt, checked, &strict)
 }
 
 // The first `count` slots, as far as they go.
-fn print_slots(file: &[u8], slots: &[u64], count: usize, offset_size: u8) {
+fn print_slots(
+    rt: &impl Print,
+    file: &[u8],
+    slots: &[u64],
+    count: usize,
+    offset_size: u8,
+) -> io::Result<()> {
     let mut i = 0;
     while i < slots.len() {
         if count <= i {
-            return;
+            return Ok(());
         }
-        io::write_all(STDOUT_FILENO, b"slot ");
-        print_line(i as u64);
-        print_manager(file, slots[i], offset_size);
+        rt.write_all(b"slot ")?;
+        print_line(rt, i as u64)?;
+        print_manager(rt, file, slots[i], offset_size)?;
         i += 1;
     }
+    Ok(())
 }
 
-fn print_message(file: &[u8], message: &[u8], offset_size: u8, length_size: u8) {
+fn print_message(
+    rt: &impl Print,
+    file: &[u8],
+    message: &[u8],
+    offset_size: u8,
+    length_size: u8,
+) -> io::Result<()> {
     let mut slots = [0; NUM_FILE_FSM_MANAGERS];
     let parsed = FileSpaceInfo::parse(message, offset_size, length_size, &mut slots);
     match parsed {
-        Parsed::Message { info: _, count } => print_slots(file, &slots, count, offset_size),
-        Parsed::Refused(refusal) => print_refusal(refusal),
+        Parsed::Message { info: _, count } => print_slots(rt, file, &slots, count, offset_size),
+        Parsed::Refused(refusal) => print_refusal(rt, refusal),
     }
 }
 
 // An input that is too short for its message prints nothing.
-fn print_file(input: &[u8]) {
+fn print_file(rt: &impl Print, input: &[u8]) -> io::Result<()> {
     if input.len() < 12 {
-        return;
+        return Ok(());
     }
     let place = read_uint_le(input, 2, 8);
     let len = read_uint_le(input, 10, 2);
     let file_len = (input.len() - 12) as u64;
     if file_len < len {
-        return;
+        return Ok(());
     }
     if file_len - len < place {
-        return;
+        return Ok(());
     }
     let first = 12 + place as usize;
     let end = first + len as usize;
-    print_message(&input[12..], &input[first..end], input[0], input[1]);
+    print_message(rt, &input[12..], &input[first..end], input[0], input[1])
 }
 
-fn main() {
-    let mut input = io::large_buffer();
-    let len = io::read_full(STDIN_FILENO, &mut input);
-    print_file(&input[..len]);
+fn main(rt: HostRuntime) -> io::Result<()> {
+    let mut input = input_buffer();
+    let len = read_full(&mut rt.reader(), &mut input)?;
+    print_file(&rt, &input[..len])
 }

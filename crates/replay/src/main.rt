@@ -1,6 +1,8 @@
 // Answers the calls of the protocol on standard input.
 #![tactic(auto)]
 
-fn main() {
-    replay_calls::stream::run();
+use std::io;
+
+fn main(rt: HostRuntime) -> io::Result<()> {
+    replay_calls::stream::run(&rt)
 }

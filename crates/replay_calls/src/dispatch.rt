@@ -6,7 +6,7 @@ use crate::blocks::{fshd_parse_call, fsse_parse_call, read_call, serialize_call,
 use crate::images::{image_call, image_into_call};
 use crate::lengths::{blocks_len_call, fsse_len_call};
 use crate::lists::{lists_call, lists_name};
-use crate::memory::numbers_memory;
+use crate::memory::{input_memory, numbers_memory};
 use crate::message::{managers_call, parse_message_call, serialize_message_call};
 use crate::pages::{pages_call, pages_name};
 use crate::plans::plan_call;
@@ -71,7 +71,7 @@ fn bytes_answer(call: u64, args: &[u64], bytes: &[u8], out: &mut [u8]) -> Reply 
 
 fn bytes_call(call: u64, line: &[u8], out: &mut [u8]) -> Reply {
     let mut numbers = numbers_memory();
-    let mut bytes = io::large_buffer();
+    let mut bytes = input_memory();
     let words = read_words(line, &mut numbers, &mut bytes);
     if !words.fine {
         return Reply::Bad;
@@ -86,7 +86,7 @@ fn save_line(line: &[u8], lists: &[u64], out: &mut [u8]) -> Reply
     requires { 32779 ≤ length lists.now }
 {
     let mut numbers = numbers_memory();
-    let mut image = io::large_buffer();
+    let mut image = input_memory();
     let words = read_words(line, &mut numbers, &mut image);
     if !words.fine {
         return Reply::Bad;

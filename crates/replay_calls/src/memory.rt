@@ -15,3 +15,10 @@ pub(crate) fn bytes_memory() -> [u8; 1048576]
 {
     [0; 1048576]
 }
+
+// The bytes that are read at once, or those that a line's bytes or image are.
+pub(crate) fn input_memory() -> [u8; 65536]
+    ensures { 65536 ≡ length result }
+{
+    [0; 65536]
+}

@@ -1,8 +1,8 @@
 // The answers, and standard output.
 use crate::lines::{end_line, pairs_line, put_counted};
 use error::{Number, Refusal};
-use libc::STDOUT_FILENO;
 use replay_lines::answer::{bad, done, nothing, number_line, pair_line, refused, word_line};
+use std::io;
 use text::words::write_bytes;
 
 // The answer to a call: none for a line that needs none, a short one, or how many bytes of the memory for answers a long one has.
@@ -46,16 +46,17 @@ fn reply_line(out: &mut [u8], reply: Reply) -> usize {
 }
 
 // Writes the first `len` bytes of an answer.
-fn write_out(out: &[u8], len: usize) {
+fn write_out(rt: &impl Print, out: &[u8], len: usize) -> io::Result<()> {
     if len <= out.len() {
-        io::write_all(STDOUT_FILENO, &out[0..len]);
+        rt.write_all(&out[0..len])?;
     }
+    Ok(())
 }
 
 // Writes an answer.
-pub(crate) fn say(reply: Reply, out: &mut [u8]) {
+pub(crate) fn say(rt: &impl Print, reply: Reply, out: &mut [u8]) -> io::Result<()> {
     let len = reply_line(out, reply);
-    write_out(out, len);
+    write_out(rt, out, len)
 }
 
 // A run of numbers.

@@ -3,9 +3,10 @@ ghost use Rattle.std.specs.Prelude.{◌≡◌, ◌<◌, ◌≤◌, length};
 
 use crate::dispatch::answer_line;
 use crate::lists::{SCRATCH, put_front};
-use crate::memory::bytes_memory;
+use crate::memory::{bytes_memory, input_memory};
 use crate::reply::{Reply, say};
-use libc::STDIN_FILENO;
+use std::io::{self, Read};
+use streams::read_full;
 
 // The bytes of the longest line.
 const LINE_LIMIT: usize = 65536;
@@ -37,15 +38,15 @@ struct Input {
 }
 
 // Reads the next chunk.
-fn refill(chunk: &mut [u8], have: usize) -> Input {
-    let got = io::read_full(STDIN_FILENO, chunk);
-    Input {
+fn refill<R: Read>(reader: &mut R, chunk: &mut [u8], have: usize) -> io::Result<Input> {
+    let got = read_full(reader, chunk)?;
+    Ok(Input {
         at: 0,
         end: got,
         have: have,
         whole: got == 0,
         more: 0 < got,
-    }
+    })
 }
 
 // Adds a byte to the line, of which `n` are there, unless its memory is full.
@@ -85,16 +86,21 @@ fn take_line(chunk: &[u8], at: usize, line: &mut [u8], have: usize) -> Input {
 }
 
 // Reads on: the rest of the chunk, or the next one.
-fn read_on(chunk: &mut [u8], line: &mut [u8], input: Input) -> Input {
+fn read_on<R: Read>(
+    reader: &mut R,
+    chunk: &mut [u8],
+    line: &mut [u8],
+    input: Input,
+) -> io::Result<Input> {
     let have = if input.whole { 0 } else { input.have };
     let end = input.end;
     if end <= input.at {
-        return refill(chunk, have);
+        return refill(reader, chunk, have);
     }
     if chunk.len() < end {
-        return refill(chunk, have);
+        return refill(reader, chunk, have);
     }
-    take_line(&chunk[0..end], input.at, line, have)
+    Ok(take_line(&chunk[0..end], input.at, line, have))
 }
 
 // The answer to a line that is longer than the memory for it.
@@ -119,15 +125,23 @@ fn answer(line: &[u8], n: usize, lists: &mut [u64], out: &mut [u8]) -> Reply
 }
 
 // Reads on, and answers the line if it is whole.
-fn step(chunk: &mut [u8], line: &mut [u8], lists: &mut [u64], out: &mut [u8], input: Input) -> Input
+fn step<R: Read>(
+    rt: &impl Print,
+    reader: &mut R,
+    chunk: &mut [u8],
+    line: &mut [u8],
+    lists: &mut [u64],
+    out: &mut [u8],
+    input: Input,
+) -> io::Result<Input>
     requires { 32779 ≤ length lists.old }
 {
-    let after = read_on(chunk, line, input);
+    let after = read_on(reader, chunk, line, input)?;
     if after.whole {
         let reply = answer(line, after.have, lists, out);
-        say(reply, out);
+        say(rt, reply, out)?;
     }
-    after
+    Ok(after)
 }
 
 // The iterations that are left after one, none at the end of the input.
@@ -139,7 +153,14 @@ fn iterations_left(iterations: u64, more: bool) -> u64
 }
 
 // Reads and answers up to 2^40 lines or chunks.
-fn replay(chunk: &mut [u8], line: &mut [u8], lists: &mut [u64], out: &mut [u8])
+fn replay<R: Read>(
+    rt: &impl Print,
+    reader: &mut R,
+    chunk: &mut [u8],
+    line: &mut [u8],
+    lists: &mut [u64],
+    out: &mut [u8],
+) -> io::Result<()>
     requires { 32779 ≤ length lists.old }
 {
     let mut input = Input {
@@ -151,9 +172,10 @@ fn replay(chunk: &mut [u8], line: &mut [u8], lists: &mut [u64], out: &mut [u8])
     };
     let mut iterations: u64 = 1099511627776;
     while 0 < iterations {
-        input = step(chunk, line, lists, out, input);
+        input = step(rt, reader, chunk, line, lists, out, input)?;
         iterations = iterations_left(iterations, input.more);
     }
+    Ok(())
 }
 
 // A save is lent all its scratch at first, and each list all its run: their places stand after each other.
@@ -164,11 +186,18 @@ fn lend_all(lists: &mut [u64])
 }
 
 // Answers standard input.
-pub fn run() {
-    let mut chunk = io::large_buffer();
+pub fn run(rt: &(impl io::Input + Print)) -> io::Result<()> {
+    let mut chunk = input_memory();
     let mut line = line_buffer();
     let mut lists = lists_buffer();
     let mut out = bytes_memory();
     lend_all(&mut lists);
-    replay(&mut chunk, &mut line, &mut lists, &mut out);
+    replay(
+        rt,
+        &mut rt.reader(),
+        &mut chunk,
+        &mut line,
+        &mut lists,
+        &mut out,
+    )
 }
