@@ -8,7 +8,7 @@
 --   Allocates      an allocation: which region serves, from where, and what is left
 --   TwoLeft        the one region that an allocation chooses has bytes left on both sides
 --   PartUnit       the unit is not 0, and the length is no multiple of it
---   last_of         the last region of a list
+--   last_of        the last region of a list
 --   Drops          `take_trailing`: the last region ends at the end of file, and goes
 --   FreeSays       `free`: 4 where the range ends above 2^64 - 1, 5 where a byte of it is free, 14 where it is not empty and touches no region, and the run is full
 --   TakeRangeSays  `take_range`: 4 alike, 14 where the range is not empty and lies strictly inside a region, and the run is full

@@ -1,8 +1,8 @@
 -- What a call on one of three lists that are given together comes to: refusals 3 and 5 are those of all three (document 01, refusal 5: "two lists
 -- .. given together share a byte"; document 02, P4: "A freed byte that any of the three lists holds is 5"). Assumes nothing.
---   is_held              a byte of a range is free in one of the three lists
---   freed_together       what `decide_free` decides: `free` on one of them; refusals 3, 4, 5, 14
---   allocated_together   what `decide_alloc` decides: `alloc` on one of them; refusals 3, 5
+--   is_held             a byte of a range is free in one of the three lists
+--   freed_together      what `decide_free` decides: `free` on one of them; refusals 3, 4, 5, 14
+--   allocated_together  what `decide_alloc` decides: `alloc` on one of them; refusals 3, 5
 use Rattle.std.specs.Prelude.{ℕ, Bool, not, ◌||◌, List, [], ◌∷◌}
 use Rattle.error.specs.declared.Refusal.TheVariants.{NotAList, SharedAddress}
 use Rattle.error.specs.Outcome.{Outcome, when, first_of}

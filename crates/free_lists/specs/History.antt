@@ -7,17 +7,17 @@
 --   bytes           the places from one up to another
 --   perform         a call on a list, by the definition that the contract of the call cites: acceptance and address are "those that the rules
 --                   above yield for the list as the calls before leave it"; the bytes that it goes over stand at the definition
---   given_out        the address that an accepted call gives out, where it gives one
---   answered_outcome   the outcome that an answer of the code stands for
+--   given_out       the address that an accepted call gives out, where it gives one
+--   answered_outcome  the outcome that an answer of the code stands for
 --   CallOn, on      a call, and the list that it is made on; these two together
 --   next            the lists after a call: its own as the call leaves it, the others as they were
---   lists_after      the lists after calls in a row: each call "gets its list as the last call on it left it"
---   empty_lists      "three lists, each begun empty": any lent runs, with the record of no regions
+--   lists_after     the lists after calls in a row: each call "gets its list as the last call on it left it"
+--   empty_lists     "three lists, each begun empty": any lent runs, with the record of no regions
 --   Last, later     the last accepted call over a byte, if there was one; the later of two
---   holds, goes_over   a range holds a byte; an accepted call goes over it
---   last_over        "the last accepted call over that byte made on that list"
---   was_free         that call "was a `free`"
---   free_by_history   "Free by history"
+--   holds, goes_over  a range holds a byte; an accepted call goes over it
+--   last_over       "the last accepted call over that byte made on that list"
+--   was_free        that call "was a `free`"
+--   free_by_history  "Free by history"
 --   ByHistory       what calls in a row on lists begun empty leave: lists, which hold what is free by history, and whose totals are its count
 --                   (the law `history`)
 use Rattle.std.specs.Prelude.{ℕ, ◌+◌, ◌%◌, ◌^◌, ◌≡◌, ◌↔◌, Bool, true, false, cond, ◌&&◌, ◌||◌, List, [], ◌∷◌, leb, ltb, eqb, length}

@@ -1,15 +1,15 @@
 -- The three lists of a file, and the refusals of lists that are given together. Assumes nothing.
 -- In quotes: document 01's words, from the refusal of that number or from the heading named.
 --   LentList     a list: its lent run and its record
---   regions_of    its regions
---   list_in       the list of a run and a record
+--   regions_of   its regions
+--   list_in      the list of a run and a record
 --   Lists        "The save": "Three lists (metadata, raw, unclassified)", and how each of them stands
 --   index, same  the number of a list, 0 to 2; two lists are the same one
---   lists_of      three lists from each of them
---   lists_in      the same by their runs and the three records
---   Regions, regions_in   the regions of three lists; those of lists as they stand
---   are_lists     `are_lists`: what refusal 3 tests, of all three
---   shared_byte   refusal 5: "two lists (not runs of sections) given together share a byte"
+--   lists_of     three lists from each of them
+--   lists_in     the same by their runs and the three records
+--   Regions, regions_in  the regions of three lists; those of lists as they stand
+--   are_lists    `are_lists`: what refusal 3 tests, of all three
+--   shared_byte  refusal 5: "two lists (not runs of sections) given together share a byte"
 --   apart        refusals 3 and 5, in this order
 --   together     `check_lists`: the outcome of testing for these refusals alone
 use Rattle.std.specs.Prelude.{ℕ, Bool, ◌&&◌, ◌||◌, not, List, [], ◌∷◌, eqb}

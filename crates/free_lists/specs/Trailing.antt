@@ -3,8 +3,8 @@
 --   falling      regions by falling address ("walk regions by falling address")
 --   put          a region put into such a list
 --   walk         from a start, down such regions: "stop at one that ends below the start reached, else lower the start to its address if less"
---   all_regions   the regions of three lists
---   run_start     "`trailing_run_start` over three lists: from the end of file", with refusals 3 and 5
+--   all_regions  the regions of three lists
+--   run_start    "`trailing_run_start` over three lists: from the end of file", with refusals 3 and 5
 use Rattle.std.specs.Prelude.{ℕ, min, cond, List, [], ◌∷◌, ◌++◌, leb, ltb}
 use Rattle.error.specs.Outcome.{Outcome, answer, first_of}
 use Rattle.free_regions.specs.declared.FreeRegion.{FreeRegion}

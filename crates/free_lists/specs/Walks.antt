@@ -2,10 +2,10 @@
 -- No public contract cites this file. Assumes nothing.
 --   InOrder      the first n pairs of a run are regions in order, each after the end of the one before with a gap
 --   AllInOrder   the same of three runs
---   counts_of     all regions of three lists, by their records
+--   counts_of    all regions of three lists, by their records
 --   FirstPast    the first of the regions from a place up to another that ends past a byte; the second place where none does
 --   Due          the number of the refusal that is due to three lists given together and a range of bytes; 0 where none is
---   refused_or    the refusal of a number of these, or else a decision
+--   refused_or   the refusal of a number of these, or else a decision
 --   remaining    the regions that the walk has not come to
 --   height       one above the address of the last of n regions, 0 for none
 --   Next         the walk's next region, and the cursors after it

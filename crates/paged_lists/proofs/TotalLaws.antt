@@ -1,5 +1,5 @@
 -- The total of a list counts its free bytes: lists whose free bytes differ by a range differ in it by at most the range. Assumes nothing.
---   is_free   a byte is free in a list of regions, as a test
+--   is_free  a byte is free in a list of regions, as a test
 use mathlib.Core.Path.{◌≡◌, refl, subst}
 use mathlib.Core.Bool.{Bool, true, false, cond}
 use mathlib.Core.List.{List}

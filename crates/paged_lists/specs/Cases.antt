@@ -7,7 +7,7 @@
 --   given          calls that give bytes of both kinds out
 --   used           calls that follow: more bytes, and bytes freed by the wrong kind
 --   back           calls that free, so that a page goes back to the shared list
---   after_given, after_used, after_back   lists and marks after each of these
+--   after_given, after_used, after_back  lists and marks after each of these
 --   tight          a metadata list and a shared list of one region, each in a run of one region
 --   Cases          the tables
 use Rattle.std.specs.Prelude.{ℕ, ◌≡◌, List, [], ◌∷◌}

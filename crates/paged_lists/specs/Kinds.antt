@@ -1,7 +1,7 @@
 -- The two kinds of bytes, and what of the lists and marks is a kind's. Assumes nothing.
 -- In quotes: document 02's words, from P4.
---   mark_of   the mark of a page that has bytes of a kind: "0 shared, 1 metadata, 2 raw"
---   list_of   the list of a kind: "a list for each kind". The shared list is "the unclassified one"
+--   mark_of  the mark of a page that has bytes of a kind: "0 shared, 1 metadata, 2 raw"
+--   list_of  the list of a kind: "a list for each kind". The shared list is "the unclassified one"
 use Rattle.std.specs.Prelude.{ℕ}
 use Rattle.free_lists.specs.declared.calls.Which.{Which}
 use Rattle.free_lists.specs.declared.calls.Which.TheVariants as which

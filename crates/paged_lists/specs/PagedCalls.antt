@@ -2,22 +2,22 @@
 -- accepted call is made of list calls, each decided by the definition that its own contract cites. Assumes nothing.
 -- In quotes: document 02's words, from P4.
 --   PagedLists    "a list for each kind, a list of whole shared pages (the unclassified one), and a lent mark per page"
---   paged_in       these by the lent runs and the three records
+--   paged_in      these by the lent runs and the three records
 --   Made          an accepted call: the bytes that it goes over, the list calls that it is made of, in their order, and the marks that it leaves
---   outcome_of, left_by   what a list call comes to; the list that it leaves
---   or_else        Nothing goes on to another outcome ("if it has nothing, one shared page")
+--   outcome_of, left_by  what a list call comes to; the list that it leaves
+--   or_else       Nothing goes on to another outcome ("if it has nothing, one shared page")
 --   unsound       refusal 3: one of the three is no list; "a greater mark, or a listed page without one, is 3"
---   own_bytes      "below a page, the kind's list serves"
---   new_pages      "one shared page, by `alloc_whole_units`, is marked, its front is given and its rest joins that list"; "whole pages got
+--   own_bytes     "below a page, the kind's list serves"
+--   new_pages     "one shared page, by `alloc_whole_units`, is marked, its front is given and its rest joins that list"; "whole pages got
 --                 likewise are marked and the unused end joins the kind's list"
---   paged_alloc    the call that gives bytes of a kind out; refusals 2, 3, 4, 5, 14. "Length 0 gets Nothing"
+--   paged_alloc   the call that gives bytes of a kind out; refusals 2, 3, 4, 5, 14. "Length 0 gets Nothing"
 --   joined        what is freed joins the kind's list
 --   returned      "Pages of a freed range that are then all free leave the kind's list by one `take_range` and join the shared one, mark 0"
---   paged_free     the call that frees bytes of a kind; refusals 2, 3, 4, 5 ("A freed byte that any of the three lists holds is 5"), 15, 14.
+--   paged_free    the call that frees bytes of a kind; refusals 2, 3, 4, 5 ("A freed byte that any of the three lists holds is 5"), 15, 14.
 --                 "Length 0 gets Nothing"
 --   paged         one of the two
---   given_out      the address that an accepted call gives out; freeing gives none
---   left_after     lists and marks after an accepted call: "What the door does to a list counts in the history as the list call that does it"
+--   given_out     the address that an accepted call gives out; freeing gives none
+--   left_after    lists and marks after an accepted call: "What the door does to a list counts in the history as the list call that does it"
 --   performed     the answer of a call, and lists and marks after it: "if one of these is refused, the whole call is"
 use Rattle.std.specs.Prelude.{ℕ, ◌+◌, ◌-◌, ◌*◌, ◌/◌, Bool, cond, ◌&&◌, ◌||◌, not, List, [], ◌∷◌, leb, ltb, eqb, length}
 use Rattle.error.specs.declared.Refusal.TheVariants.{Page, NotAList, Overflow, SharedAddress, OtherKind}

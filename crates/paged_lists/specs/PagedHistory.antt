@@ -1,15 +1,15 @@
 -- Paged calls in a row, and which kind each byte then is: P4's claim, `PagedByKind`, and the same of lists begun empty, `PagedBegun`. Assumes nothing.
 -- In quotes: document 02's words, from P4.
---   next_paged, paged_after   lists and marks after a call; after calls in a row "with one page size"
---   LastPaged, later_of    the last accepted call over a byte, if there was one; the later of two
---   goes_over              an accepted call goes over a byte
---   last_paged             the last accepted paged call over a byte
+--   next_paged, paged_after  lists and marks after a call; after calls in a row "with one page size"
+--   LastPaged, later_of   the last accepted call over a byte, if there was one; the later of two
+--   goes_over             an accepted call goes over a byte
+--   last_paged            the last accepted paged call over a byte
 --   InUse                 that call gave the byte out for a kind, and none has freed it since
 --   FreeIn                a byte is free in a list
 --   Of                    a byte is of a kind: free in the kind's list, or in use for it ("holds bytes of both kinds")
 --   NoneHandedOut         what the calls may begin with: "marks are 0, the kinds' lists empty", and the shared list is any
---   calls_made             the list calls that an outcome counts as; a refusal or Nothing counts as none
---   all_calls              those of paged calls in a row
+--   calls_made            the list calls that an outcome counts as; a refusal or Nothing counts as none
+--   all_calls             those of paged calls in a row
 --   Drawn                 "a call draws from the shared list less than one page beyond its length"
 --   Before                where the bytes that a call goes over were before it
 --   ByKind                what paged calls in a row leave

@@ -1,14 +1,14 @@
 -- Pages of a file and their marks. Page q has the bytes from q * page up to q * page + page. Assumes nothing.
 -- In quotes: document 02's words, from P4.
---   mark_at      the mark of a byte's page ("a lent mark per page"); 0 where the page has none
---   marks_fit    no mark is above 2 ("a greater mark .. is 3")
---   pages_fit    each region lies in pages that have a mark ("or a listed page without one")
---   last_page    the page of a range's last byte
---   all_marked   a number of pages in a row have this mark
---   other_kind   refusal 15: "a freed byte lies in a page not marked with the stated kind"
+--   mark_at     the mark of a byte's page ("a lent mark per page"); 0 where the page has none
+--   marks_fit   no mark is above 2 ("a greater mark .. is 3")
+--   pages_fit   each region lies in pages that have a mark ("or a listed page without one")
+--   last_page   the page of a range's last byte
+--   all_marked  a number of pages in a row have this mark
+--   other_kind  refusal 15: "a freed byte lies in a page not marked with the stated kind"
 --   covers      one region has all bytes of a range
---   whole_page   one region has all bytes of a page
---   whole_from, whole_up_to   the "pages of a freed range that are then all free": the first of them, and one past the last
+--   whole_page  one region has all bytes of a page
+--   whole_from, whole_up_to  the "pages of a freed range that are then all free": the first of them, and one past the last
 --   marked      marks, of which those of a number of pages in a row are set
 use Rattle.std.specs.Prelude.{ℕ, zero, suc, ◌+◌, ◌-◌, ◌*◌, ◌/◌, Bool, true, false, cond, ◌&&◌, ◌||◌, not, List, [], ◌∷◌, leb, ltb, eqb, get_or, replicate}
 use Rattle.error.specs.Lent.{over}

@@ -2,8 +2,8 @@
 -- that does it" (document 02, P4), so demand 3's calls in a row may have paged calls anywhere among them. Assumes nothing.
 --   Step          a list call, or a paged call with its page size
 --   stepped       lists and marks after it
---   calls_of       the list calls that it counts as
---   steps_after, all_calls_of   the same of steps in a row
+--   calls_of      the list calls that it counts as
+--   steps_after, all_calls_of  the same of steps in a row
 --   CountsAsCalls the lists after steps are those after these list calls
 use Rattle.std.specs.Prelude.{ℕ, ◌≡◌, List, [], ◌∷◌, ◌++◌}
 use Rattle.free_lists.specs.History.{CallOn, next, lists_after}

@@ -1,3 +1,4 @@
+use native.Mathlib.Omega.{arith}
 use borrow.Author.Tests.{ne_eqb}
 use Rattle.free_lists.proofs.decide.refused_or.Goals as goal
 
@@ -11,4 +12,5 @@ pub returns-in-5 : goal.returns-in-5
 returns-in-5 c = rw c.in-5.is
 
 pub returns-in_default : goal.returns-in_default
-returns-in_default c = let o = c.in_default.in_default-own.rest in rw (ne_eqb _ 3 o.0.0.1, ne_eqb _ 4 o.0.1, ne_eqb _ 5 o.1)
+returns-in_default c =
+    let n = c.args.number in rw (ne_eqb n 3 (omega arith), ne_eqb n 4 (omega arith), ne_eqb n 5 (omega arith))

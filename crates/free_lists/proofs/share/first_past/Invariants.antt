@@ -1,5 +1,4 @@
-use mathlib.Core.Path.{◌≡◌}
-use Prim.Native.Nat.{◌+◌, ◌-◌, ◌/◌, ◌≤◌, ◌<◌}
+use Prim.Native.Nat.{◌-◌, ◌≤◌, ◌<◌}
 use Rattle.free_regions.specs.Regions.{end}
 use Rattle.free_space.specs.Runs.{region_at}
 use Rattle.free_lists.proofs.share.first_past.Given as goal
