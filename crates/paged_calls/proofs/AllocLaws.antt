@@ -25,7 +25,7 @@ use Rattle.paged_lists.specs.Kinds.{list_of}
 use Rattle.paged_lists.specs.PagedCalls.{PagedLists, Made, unsound, paged_alloc}
 use Rattle.paged_calls.specs.Decisions.{Tells, Serves, served, AllocPast}
 use Rattle.paged_calls.proofs.NumberLaws.{each-list}
-use Rattle.paged_calls.proofs.SoundLaws.{areMarked, no_lists, not-marked, lists-marked}
+use Rattle.paged_calls.proofs.SoundLaws.{are_marked, no_lists, not-marked, lists-marked}
 
 -- ---- the ends of the call
 
@@ -98,10 +98,10 @@ module _ (page len : ℕ) (s : PagedLists) where
       pub test_lists : are_lists s.lists ≡ true
       test_lists = not-false (are_lists s.lists) lists
 
-      pub test_no_mark : areMarked page s ≡ false → (k : PageType) → paged_alloc page k len s ≡ refused NotAList
+      pub test_no_mark : are_marked page s ≡ false → (k : PageType) → paged_alloc page k len s ≡ refused NotAList
       test_no_mark m k = alloc-unsound page k len s pos (not-marked page s test_lists m)
 
-      module _ (marks : areMarked page s ≡ true) where
+      module _ (marks : are_marked page s ≡ true) where
         sound : unsound page s ≡ false
         sound = lists-marked page s test_lists marks
 

@@ -46,7 +46,7 @@ use Rattle.paged_lists.specs.Pages.{last_page, whole_page, whole_from, whole_up_
 use Rattle.paged_lists.specs.PagedCalls.{PagedLists, Made, outcome_of, left_by, joined, returned}
 use Rattle.paged_lists.proofs.PageLaws.{page-le, page-lt}
 use Rattle.paged_calls.specs.declared.free_pages.Freed.{Freed}
-use Rattle.paged_calls.specs.Decisions.{PagedDecision, Refused, Nothing, Own, Returned, carried_in, folded_in, returned_with, Ranged, GivesBack}
+use Rattle.paged_calls.specs.Decisions.{PagedDecision, Refused, Own, Returned, carried_in, folded_in, returned_with, Ranged, GivesBack}
 use Rattle.paged_calls.proofs.LeftLaws.{stands-refused, stands-made, own_call, own_twice_then_shared}
 use Rattle.paged_calls.proofs.ListDecisionLaws.{kept_as, free_comes_to, free-leaves}
 use Rattle.paged_calls.proofs.RegionLaws.{whole-at, take-full, take-room}
@@ -68,13 +68,13 @@ module _ (f : Freed) (own : LentList) (b lo hi total : ℕ) (r : FreeRegion)
   abbrev rs : List FreeRegion
   rs = spliced (regions_of own) lo hi (r ∷ [])
 
-  abbrev pub freedList : LentList
-  freedList = list_in (stored own.run own.list.count rs) (record_of rs)
+  abbrev pub freed_list : LentList
+  freed_list = list_in (stored own.run own.list.count rs) (record_of rs)
 
   says : FreeSays own.run own.list f.addr f.len (kept_by own.run own.list (list.Change b lo hi total (One r)))
   says = subst⁻¹ (FreeSays own.run own.list f.addr f.len) keeps.0 (free_law own.run own.list f.addr f.len)
 
-  left_is : left_by (Free f.addr f.len) own ≡ freedList
+  left_is : left_by (Free f.addr f.len) own ≡ freed_list
   left_is =
       sym (free-leaves own (list.Change b lo hi total (One r)) f.addr f.len keeps)
       ∙ ap (λ (w : With FreeList (List ℕ)). list_in w.memory w.value) (carried own.run own.list b lo hi total (One r) keeps.1)
@@ -82,16 +82,16 @@ module _ (f : Freed) (own : LentList) (b lo hi total : ℕ) (r : FreeRegion)
   long : length rs ≡ lo + 1 + (own.list.count - hi)
   long = let k = keeps.1 in length-spliced region_form own.run own.list.count lo hi (r ∷ []) k.0 k.1 k.2
 
-  regions_are : regions_of freedList ≡ rs
+  regions_are : regions_of freed_list ≡ rs
   regions_are = decode-stored own.run own.list.count rs (omega (arith, long, keeps.1.3))
 
-  count-is : lo + 1 + (own.list.count - hi) ≡ freedList.list.count
+  count-is : lo + 1 + (own.list.count - hi) ≡ freed_list.list.count
   count-is = sym long
 
-  room-is : capacity own.run ≡ capacity freedList.run
+  room-is : capacity own.run ≡ capacity freed_list.run
   room-is = ap (λ (n : ℕ). n / 2) (sym says.says.1.long)
 
-  pub folded : Folded freedList f r
+  pub folded : Folded freed_list f r
   folded =
       let k = keeps.1 in
       let n : length (take lo (regions_of own)) ≡ lo = length-take-le lo (regions_of own) (omega (arith, k.0, k.1, length-decode region own.list.count own.run k.2)) in
@@ -108,8 +108,8 @@ module _ (f : Freed) (own : LentList) (b lo hi total : ℕ) (r : FreeRegion)
 -- ---- the pages that are then all free
 
 module _ (page : ℕ) (f : Freed) (ranged : Ranged page f) (l : LentList) (r : FreeRegion) (folded : Folded l f r) where
-  abbrev pub wholeIn : ℕ → Bool
-  wholeIn q = leb r.addr (q * page) && leb (q * page + page) (end r)
+  abbrev pub whole_in : ℕ → Bool
+  whole_in q = leb r.addr (q * page) && leb (q * page + page) (end r)
 
   within : Within 0 top (regions_of l)
   within = (ok_prop 0 (regions_of l)).0 (listed l.run l.list folded.list).ok
@@ -117,37 +117,37 @@ module _ (page : ℕ) (f : Freed) (ranged : Ranged page f) (l : LentList) (r : F
   region-ends : end r ≤ top
   region-ends = subst (λ (q : FreeRegion). end q ≤ top) folded.is (at-within 0 top folded.place (regions_of l) (region 0 0) within folded.below).1
 
-  whole_is : (x : ℕ) → In r x → whole_page page (regions_of l) (x / page) ≡ wholeIn (x / page)
+  whole_is : (x : ℕ) → In r x → whole_page page (regions_of l) (x / page) ≡ whole_in (x / page)
   whole_is x t =
       subst (λ (q : FreeRegion). whole_page page (regions_of l) (x / page) ≡ (leb q.addr (x / page * page) && leb (x / page * page + page) (end q))) folded.is
       (whole-at page ranged.page-some (region 0 0) 0 top folded.place x (regions_of l) within folded.below (subst⁻¹ (λ (q : FreeRegion). In q x) folded.is t))
 
-  from_is : {p : ℕ} → p ≡ cond (wholeIn f.first) f.first (suc f.first) → whole_from page (regions_of l) f.addr ≡ p
+  from_is : {p : ℕ} → p ≡ cond (whole_in f.first) f.first (suc f.first) → whole_from page (regions_of l) f.addr ≡ p
   from_is e =
       ap (λ (t : Bool). cond t (f.addr / page) (suc (f.addr / page))) (whole_is f.addr (folded.from, omega (arith, folded.upto, ranged.some)))
-      ∙ ap (λ (q : ℕ). cond (wholeIn q) q (suc q)) (sym ranged.first-is) ∙ sym e
+      ∙ ap (λ (q : ℕ). cond (whole_in q) q (suc q)) (sym ranged.first-is) ∙ sym e
 
-  up_to-is : {e : ℕ} → e ≡ cond (wholeIn f.last) (suc f.last) f.last → whole_up_to page (regions_of l) f.addr f.len ≡ e
+  up_to-is : {e : ℕ} → e ≡ cond (whole_in f.last) (suc f.last) f.last → whole_up_to page (regions_of l) f.addr f.len ≡ e
   up_to-is e =
       ap (λ (t : Bool). cond t (suc (last_page page f.addr f.len)) (last_page page f.addr f.len))
       (whole_is (f.addr + f.len - 1) (omega (arith, folded.from, ranged.some), omega (arith, folded.upto, ranged.some)))
-      ∙ ap (λ (q : ℕ). cond (wholeIn q) (suc q) q) (sym ranged.last-is) ∙ sym e
+      ∙ ap (λ (q : ℕ). cond (whole_in q) (suc q) q) (sym ranged.last-is) ∙ sym e
 
   -- they lie in the region
-  from_in : {p : ℕ} → p ≡ cond (wholeIn f.first) f.first (suc f.first) → r.addr ≤ p * page
-  from_in e = subst⁻¹ (λ (p : ℕ). r.addr ≤ p * page) e (go (wholeIn f.first) refl)
+  from_in : {p : ℕ} → p ≡ cond (whole_in f.first) f.first (suc f.first) → r.addr ≤ p * page
+  from_in e = subst⁻¹ (λ (p : ℕ). r.addr ≤ p * page) e (go (whole_in f.first) refl)
     where
-      go : (t : Bool) → wholeIn f.first ≡ t → r.addr ≤ cond t f.first (suc f.first) * page
+      go : (t : Bool) → whole_in f.first ≡ t → r.addr ≤ cond t f.first (suc f.first) * page
       go true t = leb-true r.addr (f.first * page) (and_true (leb r.addr (f.first * page)) _ t).0
       go false t =
           let h = page-lt page ranged.page-some f.addr in
           let q : f.first * page ≡ f.addr / page * page = ap (λ (n : ℕ). n * page) ranged.first-is in
           omega (arith, suc-mul f.first page, folded.from)
 
-  up_to_in : {e : ℕ} → e ≡ cond (wholeIn f.last) (suc f.last) f.last → e * page ≤ end r
-  up_to_in e = subst⁻¹ (λ (p : ℕ). p * page ≤ end r) e (go (wholeIn f.last) refl)
+  up_to_in : {e : ℕ} → e ≡ cond (whole_in f.last) (suc f.last) f.last → e * page ≤ end r
+  up_to_in e = subst⁻¹ (λ (p : ℕ). p * page ≤ end r) e (go (whole_in f.last) refl)
     where
-      go : (t : Bool) → wholeIn f.last ≡ t → cond t (suc f.last) f.last * page ≤ end r
+      go : (t : Bool) → whole_in f.last ≡ t → cond t (suc f.last) f.last * page ≤ end r
       go true t =
           let h = leb-true (f.last * page + page) (end r) (and_true (leb r.addr (f.last * page)) _ t).1 in
           omega (arith, suc-mul f.last page)
@@ -287,7 +287,7 @@ module _ (page : ℕ) (f : Freed) (own shared : LentList) (ranged : Ranged page 
   folds_one = subst (Folds f.addr f.len) (is ∙ change) folds
 
   l : LentList
-  l = freedList f own b lo hi total r keeps_one folds_one
+  l = freed_list f own b lo hi total r keeps_one folds_one
 
   in_l : Folded l f r
   unfolding l

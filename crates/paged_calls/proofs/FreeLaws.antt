@@ -27,7 +27,7 @@ use Rattle.paged_lists.specs.PagedCalls.{PagedLists, Made, unsound, paged_free, 
 use Rattle.paged_lists.proofs.PageLaws.{page_mono}
 use Rattle.paged_calls.specs.declared.free_pages.Freed.{Freed}
 use Rattle.paged_calls.specs.Decisions.{effect_of, Tells, is_shared, FreePast, Ranged, Joins, rejoined}
-use Rattle.paged_calls.proofs.SoundLaws.{areMarked, no_lists, not-marked, lists-marked}
+use Rattle.paged_calls.proofs.SoundLaws.{are_marked, no_lists, not-marked, lists-marked}
 
 module _ (page a len : ℕ) (s : PagedLists) where
   -- ---- the tests, in the order of the refusals
@@ -80,10 +80,10 @@ module _ (page a len : ℕ) (s : PagedLists) where
       pub free-lists : are_lists s.lists ≡ true
       free-lists = not-false (are_lists s.lists) lists
 
-      pub free_no_mark : areMarked page s ≡ false → (k : PageType) → paged_free page k a len s ≡ refused NotAList
+      pub free_no_mark : are_marked page s ≡ false → (k : PageType) → paged_free page k a len s ≡ refused NotAList
       free_no_mark m k = is-unsound k p (not-marked page s free-lists m)
 
-      module _ (marks : areMarked page s ≡ true) where
+      module _ (marks : are_marked page s ≡ true) where
         u : unsound page s ≡ false
         u = lists-marked page s free-lists marks
 

@@ -1,5 +1,5 @@
 -- Refusal 3 of a paged call, by the lists and then by the marks. Assumes nothing.
---   areMarked   no mark is above 2, and no listed page is without one
+--   are_marked   no mark is above 2, and no listed page is without one
 use mathlib.Core.Path.{◌≡◌, sym, ◌∙◌}
 use mathlib.Core.Bool.{Bool, true, false, ◌&&◌, not}
 use Prim.Native.Nat.{ℕ, ◌<◌}
@@ -13,28 +13,28 @@ use Rattle.paged_lists.specs.PagedCalls.{PagedLists, unsound}
 use Rattle.paged_calls.specs.Decisions.{end_fits, ReachesAll}
 
 module _ (page : ℕ) (s : PagedLists) where
-  abbrev pub areMarked : Bool
-  areMarked =
+  abbrev pub are_marked : Bool
+  are_marked =
       let fit : Which → Bool = λ i. pages_fit page (length s.marks) (regions_of (s.lists i)) in
       marks_fit s.marks && (fit Metadata && (fit Raw && fit Unclassified))
 
   pub no_lists : not (are_lists s.lists) ≡ true → unsound page s ≡ true
   no_lists h = rw (not-true (are_lists s.lists) h)
 
-  pub not-marked : are_lists s.lists ≡ true → areMarked ≡ false → unsound page s ≡ true
+  pub not-marked : are_lists s.lists ≡ true → are_marked ≡ false → unsound page s ≡ true
   not-marked ok m = rw (ok, m)
 
-  pub lists-marked : are_lists s.lists ≡ true → areMarked ≡ true → unsound page s ≡ false
+  pub lists-marked : are_lists s.lists ≡ true → are_marked ≡ true → unsound page s ≡ false
   lists-marked ok m = rw (ok, m)
 
   -- by the flags of the code, of the marks and of the highest end
   module _ {b : Bool} (marks : b ≡ marks_fit s.marks) where
-    pub wrong_mark : b ≡ false → areMarked ≡ false
+    pub wrong_mark : b ≡ false → are_marked ≡ false
     wrong_mark h = rw (sym marks ∙ h)
 
     module _ (fine : b ≡ true) {t : Bool} (e : ℕ) (reaches : ReachesAll e s.lists) (pos : 0 < page) (pages : t ≡ end_fits page (length s.marks) e) where
-      pub no_mark : t ≡ false → areMarked ≡ false
+      pub no_mark : t ≡ false → are_marked ≡ false
       no_mark h = rw (sym marks ∙ fine) (sym (reaches page (length s.marks) pos) ∙ sym pages ∙ h)
 
-      pub all-marks : t ≡ true → areMarked ≡ true
+      pub all-marks : t ≡ true → are_marked ≡ true
       all-marks h = rw (sym marks ∙ fine) (sym (reaches page (length s.marks) pos) ∙ sym pages ∙ h)
