@@ -9,7 +9,7 @@
 --                    into any lent run with room
 -- That numbers fit their fields is no premise, it follows from acceptance: no refusal 12, so each address fits; no refusal 4, so the sizes and
 -- their sum do; no refusal 14, so count and length do, since memory has less than 2^64 bytes.
---   fields_of    the six fields: sum of sizes, count, address bits, greatest size, the list's address and its length
+--   fields_of   the six fields: sum of sizes, count, address bits, greatest size, the list's address and its length
 --   Standing    header and list stand whole in bytes, each at its address plus the base; neither address is the undefined one of the offset size,
 --               which a reading skips (document 02, P2)
 --   ReadBack    all this of one pair of blocks

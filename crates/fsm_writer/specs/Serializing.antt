@@ -1,11 +1,11 @@
 -- The writer's public entries over a run of sections. Assumes nothing.
 -- In quotes: document 01's words, from "Blocks on file", from the refusal of that number or from the heading named.
---   written_outcome   the outcome that an answer of the code stands for ("Language forms": "for every case of the enum")
---   of_run            a run of sections and its count: refusals 1, 3 ("Runs of sections are tested for odd length and count alone"), 4 ("a sum of
+--   written_outcome  the outcome that an answer of the code stands for ("Language forms": "for every case of the enum")
+--   of_run           a run of sections and its count: refusals 1, 3 ("Runs of sections are tested for odd length and count alone"), 4 ("a sum of
 --                    section sizes")
---   blocks_len        "`file_fsm_blocks_len` is 0 without sections, else both lengths added"
---   written_fshd      `serialize_fshd`: the header at the front of the lent bytes; refusals of of_run, 12, 14
---   written_fsse      `serialize_fsse`: the section list at the front of the lent bytes ("Size 0 and duplicates are written"); the same refusals
+--   blocks_len       "`file_fsm_blocks_len` is 0 without sections, else both lengths added"
+--   written_fshd     `serialize_fshd`: the header at the front of the lent bytes; refusals of of_run, 12, 14
+--   written_fsse     `serialize_fsse`: the section list at the front of the lent bytes ("Size 0 and duplicates are written"); the same refusals
 use Rattle.std.specs.Prelude.{ℕ, ◌/◌, ◌%◌, not, ◌||◌, List, [], ◌∷◌, ltb, eqb, length}
 use Rattle.error.specs.declared.Refusal.TheVariants.{Width, NotAList, Overflow, WideAddress, OverCapacity}
 use Rattle.error.specs.Outcome.{Outcome, answer, refused, when, first_of, and_then}

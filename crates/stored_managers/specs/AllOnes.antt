@@ -1,7 +1,7 @@
 -- DOCUMENT 02's P2, "All ones at narrow sizes", one claim about reading and plan at every offset size. Assumes nothing.
 -- In quotes: P2's words.
 --   Begins        where a slot has blocks, both begin below the undefined address
---   begins_at      a slot has blocks, and one begins at an address; any_begins_at one of the three of a plan has
+--   begins_at     a slot has blocks, and one begins at an address; any_begins_at one of the three of a plan has
 --   blocks, sections   the bytes of a plan's blocks; the sections of all its slots, in reading order
 --   StoredPlan    what holds of an accepted plan: its blocks begin below 2^(8O)−1. Stored in O bytes its slots are where its headers stand, and all
 --                 ones where it has none. In any bytes in which its blocks stand at their addresses plus any base, these slots read as each slot's

@@ -1,7 +1,7 @@
 -- `store_managers`: the blocks of a plan in the bytes of a file, and its slots as the file holds them. Assumes nothing.
 -- In quotes: document 01's words, from the heading named, or those of document 02's request that is named.
---   stored_in         what O bytes hold of a number ("Fourteen ways to say no": "stored numbers are unsigned, least byte first")
---   stored_slots      the twelve slots of a plan as O bytes hold them. A plan has 2^64 - 1 for an unused slot at every offset size; in O bytes this is
+--   stored_in        what O bytes hold of a number ("Fourteen ways to say no": "stored numbers are unsigned, least byte first")
+--   stored_slots     the twelve slots of a plan as O bytes hold them. A plan has 2^64 - 1 for an unused slot at every offset size; in O bytes this is
 --                    the address "when all bits of its stored width are one" (P2)
 --   sectionsBySlot   each slot's sections by size and then address: what its manager reads as
 --   storedManagers   the refusals of `serialize_paged_managers`, 14 by what the bytes have from the place of the first block on; the plan, and the

@@ -7,4 +7,4 @@ use Rattle.bench_blocks.proofs.bench_read_sections_strict.Goals as goal
 pub returns : goal.returns
 returns c =
     let d = c.read_persisted_sections_strict in
-    ap (λ (n : ℕ). with n d.new.1.1.1.1.0) c.read_count.ensures ∙ ap left_or_top d.ensures
+    ap (λ (n : ℕ). with n d.new.out) c.read_count.ensures ∙ ap left_or_top d.ensures

@@ -7,4 +7,4 @@ use Rattle.bench_blocks.proofs.bench_serialize_fsse.Goals as goal
 pub returns : goal.returns
 returns c =
     let d = c.serialize_fsse in
-    ap (λ (n : ℕ). with n d.new.1.1.1.1.1.0) c.byte_count.ensures ∙ ap left_or_top d.ensures
+    ap (λ (n : ℕ). with n d.new.out) c.byte_count.ensures ∙ ap left_or_top d.ensures

@@ -7,4 +7,4 @@ use Rattle.bench_blocks.proofs.bench_split_at_pages.Goals as goal
 pub returns : goal.returns
 returns c =
     let d = c.split_at_pages in
-    ap (λ (n : ℕ). with n d.new.1.1.1.0) c.piece_count.ensures ∙ ap left_or_top d.ensures
+    ap (λ (n : ℕ). with n d.new.out) c.piece_count.ensures ∙ ap left_or_top d.ensures
