@@ -1,7 +1,7 @@
 -- the pages before i have the mark
 -- of the mark that was read off the kind
-use Prim.Native.Nat.{◌+◌, ◌-◌, ◌≤◌}
-use mathlib.Core.Path.{◌≡◌, ◌∙◌}
+use Prim.Native.Nat.{◌-◌, ◌≤◌}
+use mathlib.Core.Path.{◌≡◌}
 use lib.ListN.{length}
 use Rattle.paged_lists.specs.Pages.{all_marked}
 use Rattle.paged_lists.proofs.marks.all_marked.Given as goal

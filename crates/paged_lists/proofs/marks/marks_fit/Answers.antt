@@ -1,5 +1,4 @@
-use Prim.Native.Nat.{◌-◌, ◌≤◌}
-use mathlib.Core.Path.{◌≡◌, refl, sym, ◌∙◌}
+use mathlib.Core.Path.{refl, sym, ◌∙◌}
 use native.Mathlib.Omega.{arith}
 use Rattle.paged_lists.proofs.MarkLaws.{fit_fails, fit-goes_on, fit-ends}
 use Rattle.paged_lists.proofs.marks.marks_fit.Goals as goal

@@ -1,6 +1,6 @@
 -- the marks before i fit
 use Prim.Native.Nat.{◌-◌, ◌≤◌}
-use mathlib.Core.Path.{◌≡◌, ◌∙◌}
+use mathlib.Core.Path.{◌≡◌}
 use lib.ListN.{length, drop}
 use Rattle.paged_lists.specs.Pages.{marks_fit}
 use Rattle.paged_lists.proofs.marks.marks_fit.Given as goal

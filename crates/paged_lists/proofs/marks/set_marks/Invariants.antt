@@ -1,6 +1,6 @@
 -- the marks before i are set
 use Prim.Native.Nat.{◌+◌, ◌-◌, ◌≤◌, min}
-use mathlib.Core.Path.{◌≡◌, ◌∙◌}
+use mathlib.Core.Path.{◌≡◌}
 use lib.ListN.{length}
 use Rattle.paged_lists.specs.Pages.{marked}
 use Rattle.paged_lists.proofs.marks.set_marks.Given as goal
