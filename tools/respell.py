@@ -16,7 +16,7 @@ TOKEN = re.compile(W)
 MADE = re.compile(r"(?:Goals|Given|Tie|Lts|tie|goal|Statement|Met)$")
 # Lemmas and fields that would take the name of a function: a lemma gets `_lem`.
 APART = {n: re.sub("-", "_", n) + "_lem" for n in "runs_after no_room part-unit how-many in_one goes_on by-addr by-size-then-addr of_one".split()}
-APART.update({n: re.sub("-", "_", n) + "_lem" for n in "refused-text empty-lists gave-as kept-as and-then or-else by-kind is_free in_list".split()})
+APART.update({n: re.sub("-", "_", n) + "_lem" for n in "refused-text empty-lists gave-as kept-as and-then or-else by-kind is_free in_list all-groups used-by".split()})
 APART.update({"message-len": "message_long", "of_size": "part_size"})
 STD = """length take drop map get_or set append reverse sum max min filter concat zip replicate count_by add sub mul div mod pow suc zero
 le lt eq ltb leb eqb and or not cons nil repeat""".split()
