@@ -7,4 +7,4 @@ use Rattle.bench_save.proofs.bench_plan_paged_managers.Goals as goal
 pub returns : goal.returns
 returns c =
     let d = c.plan_paged_managers in
-    ap (λ (n : ℕ). with n d.new.1.1.1.1.1.1.1.0) c.end_of.ensures ∙ ap plan_left d.ensures
+    ap (λ (n : ℕ). with n d.new.out) c.end_of.ensures ∙ ap plan_left d.ensures

@@ -11,7 +11,7 @@ pub returns : goal.returns
 returns c =
     let d = c.save_begin in
     let a = c.args in
-    ap (λ (n : ℕ). with n d.new.1.1.1.1.1.1.0) c.len_of.ensures
+    ap (λ (n : ℕ). with n d.new.scratch) c.len_of.ensures
     ∙ ap save_left d.ensures
     ∙ ap (λ (f : FileLists). save_left (leaving a.scratch.now
     (begun (lists_in a.meta.now a.raw.now a.unclassified.now f) a.page a.start 0 a.image.now a.scratch.now))) c.lists_of-lists.ensures

@@ -14,6 +14,6 @@ returns-in-Begun c =
     let steps = c.save_steps-after in
     record {
       cut = cut-stepped a.k a.place a.image.now a.scratch.now a.out.now a.begin _
-          c.in-Begun.is _ _ _ read.result steps.ensures read.ensures.0;
-      counted = read.ensures.1;
+          c.in-Begun.is _ _ _ read.result steps.ensures read.ensures.read;
+      counted = read.ensures.counted;
     }

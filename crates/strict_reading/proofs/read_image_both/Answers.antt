@@ -8,4 +8,4 @@ returns c =
     let a = c.args in
     let s = c.read_image_strict-first.ensures in
     let l = c.read_image-second.ensures in
-    record { strict = s.0; loose = l.0; counted = (s.1, l.1); alike = alike (image_into Strict a.place a.image.now) (image_into Loose a.place a.image.now) (image-alike a.place a.image.now) _ _ _ _ _ _ s.0 l.0 }
+    record { strict = s.read; loose = l.read; counted = (s.counted, l.counted); alike = alike (image_into Strict a.place a.image.now) (image_into Loose a.place a.image.now) (image-alike a.place a.image.now) _ _ _ _ _ _ s.read l.read }

@@ -24,7 +24,7 @@ loop-at-preserved c =
     let l = c.loop-at in (
       search rules,
       (search rules, search rules, search rules),
-      l.invariant.2 ∙ after_step _ l.at _ _ _ _ c.which_of-which.ensures c.call_of-call.ensures (omega arith) c.apply-applied.ensures.0,
+      l.invariant.2 ∙ after_step _ l.at _ _ _ _ c.which_of-which.ensures c.call_of-call.ensures (omega arith) c.apply-applied.ensures.lists,
     )
 
 pub returns : goal.returns
