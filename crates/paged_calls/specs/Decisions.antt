@@ -2,34 +2,34 @@
 --   PagedDecision   what a paged call decides before anything changes
 --   carried_in   a list after a decision is carried out on it
 --   own_after, shared_after, marks_after   the kind's list, the shared list and the marks after a paged decision is carried out
---   CarriedTo   these are what is left after it
+--   CarriedTo    these are what is left after it
 --   kind_of      the kind of a call
 --   first_byte   what an accepted call answers, by the first byte that it goes over: an allocation gives it out
 --   answer_of    the answer of a decision
---   replaced    three lists, one of which is replaced
+--   replaced     three lists, one of which is replaced
 --   left_in      lists and marks after a decision is carried out
 --   stands_for   the answer of a decision, and lists and marks after it
 --   effect_of    the answer of an outcome, and lists and marks after it
 --   drawn_with   a decision to draw pages, by that on what is not used of them: its refusal ends the call
---   Draws       a decision that stands for `new_pages`, whatever the kind, where the kind's list and the shared one are these
---   served      what `paged_alloc` comes to past its tests
---   ServedBy    a paged decision that stands for it
---   Serves      a decision on the kind's list, which is one: from a page up it is asked for no bytes
---   Freed       (of the code) a range to be freed, its first page and its last one
---   Ranged      these belong together, and the range has bytes and ends within 64 bits
+--   Draws        a decision that stands for `new_pages`, whatever the kind, where the kind's list and the shared one are these
+--   served       what `paged_alloc` comes to past its tests
+--   ServedBy     a paged decision that stands for it
+--   Serves       a decision on the kind's list, which is one: from a page up it is asked for no bytes
+--   Freed        (of the code) a range to be freed, its first page and its last one
+--   Ranged       these belong together, and the range has bytes and ends within 64 bits
 --   folded_in    the one region that a freed range folds into
 --   returned_with   a decision to give pages back, by that on the shared list: its refusal ends the call
---   TakesOwn    bytes of the kind's list are given out, with what the code answers and leaves
---   DrawsTo     pages are drawn, with what the code answers and leaves
---   GivesBack   a decision that stands for freeing the range, where the kind's list and the shared one are these
+--   TakesOwn     bytes of the kind's list are given out, with what the code answers and leaves
+--   DrawsTo      pages are drawn, with what the code answers and leaves
+--   GivesBack    a decision that stands for freeing the range, where the kind's list and the shared one are these
 --   ReturnsTo, BacksTo   the same with what the code answers and leaves
 --   end_fits     the byte before an end lies in a page that has a mark; there is none before 0
 --   Reaches, ReachesAll   an end tells so of all regions of a list, of three lists: no listed page is without a mark
---   Tells       what the number of a refusal tells: 3, or else 4, or else 5, each by its condition
+--   Tells        what the number of a refusal tells: 3, or else 4, or else 5, each by its condition
 --   is_shared    two lists share a byte, or one holds a byte of the range
 --   AllocPast, AllocTested, FreePast, FreeTested   what the tests of `alloc` and `free` tell
---   Joins       a decision on the kind's list, which a freed range joins
---   rejoined    what `paged_free` comes to past its tests
+--   Joins        a decision on the kind's list, which a freed range joins
+--   rejoined     what `paged_free` comes to past its tests
 use Rattle.std.specs.Prelude.{ℕ, ◌+◌, ◌-◌, ◌*◌, ◌/◌, ◌≤◌, ◌<◌, ◌≡◌, Bool, true, false, cond, ◌&&◌, ◌||◌, List, [], ◌∷◌, ltb, eqb}
 use Rattle.error.specs.declared.Refusal.{Refusal}
 use Rattle.error.specs.declared.Number.{Number}

@@ -1,19 +1,19 @@
 -- Frees and paged calls as numbers in lent runs: two to a free, address and length; four to a paged call, the call, the kind, two arguments.
 -- Every row of frees and every row of paged calls has such numbers, so what is proved of the numbers is proved of rows with any arguments.
 -- Assumes nothing.
---   frees_of        the frees of a run, in order; a number left over at its end is none
---   type_of         the kind of a number: 0 metadata, any other raw
+--   frees_of         the frees of a run, in order; a number left over at its end is none
+--   type_of          the kind of a number: 0 metadata, any other raw
 --   paged_call_of    the call of a number, a kind and two arguments: 0 `alloc`, any other `free`; `alloc` has one argument and leaves the second out
 --   paged_calls_of   the paged calls of a run, in order; fewer than four numbers at its end are none
---   runs_of         three lent runs by list
---   freeing        a `free` for each range. The numbers of the ranges are the run that `flat` makes of them
---   number_of       the number of a kind
---   encoded        the numbers of paged calls in a row
---   InWord         all numbers are below 2^64, as those of a lent run are
---   RangesFit      all addresses and lengths are below 2^64
---   Fits, AllFit   all arguments of a paged call, of paged calls, are below 2^64
---   Encodes        ranges and paged calls have an encoding: its frees and calls are these again, and its numbers are below 2^64 where the
---                  arguments are
+--   runs_of          three lent runs by list
+--   freeing          a `free` for each range. The numbers of the ranges are the run that `flat` makes of them
+--   number_of        the number of a kind
+--   encoded          the numbers of paged calls in a row
+--   InWord           all numbers are below 2^64, as those of a lent run are
+--   RangesFit        all addresses and lengths are below 2^64
+--   Fits, AllFit     all arguments of a paged call, of paged calls, are below 2^64
+--   Encodes          ranges and paged calls have an encoding: its frees and calls are these again, and its numbers are below 2^64 where the
+--                    arguments are
 use Rattle.std.specs.Prelude.{ℕ, ◌^◌, ◌<◌, ◌≡◌, cond, List, [], ◌∷◌, eqb}
 use Rattle.free_regions.specs.declared.FreeRegion.{FreeRegion}
 use Rattle.free_space.specs.Runs.{flat}

@@ -1,4 +1,3 @@
--- a range of bytes changes the list
 use mathlib.Core.Path.{◌≡◌, refl, subst}
 use Prim.Native.Nat.{ℕ, ◌+◌, ◌-◌, ◌/◌}
 use native.Mathlib.Omega.{arith}
@@ -13,6 +12,7 @@ use Rattle.paged_calls.proofs.BackLaws.{back-refused, can, ends, first-low, last
 use Rattle.paged_calls.proofs.ReturnLaws.{back_no, back-own, back-pages}
 use Rattle.paged_calls.proofs.free_pages.give_back.Goals as goal
 
+-- a range of bytes changes the list
 none : {page : ℕ} {f : Freed} → Ranged page f → f.len ≡ 0 → ⊥
 none r e = let h = r.some in omega arith
 

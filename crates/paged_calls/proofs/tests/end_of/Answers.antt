@@ -1,4 +1,4 @@
--- the pair that the code reads is the last region
+-- `is_last`: the pair that the code reads is the last region
 use mathlib.Core.Path.{◌≡◌, ap}
 use Prim.Native.Nat.{◌-◌}
 use native.Mathlib.Omega.{arith}
