@@ -1,6 +1,5 @@
 -- the entries do not pass the end
-use Prim.Native.Nat.{◌+◌, ◌*◌, ◌-◌, ◌≤◌}
-use mathlib.Core.Path.{◌∙◌}
+use Prim.Native.Nat.{◌-◌}
 use lib.ListN.{length}
 use Rattle.fsm_blocks.specs.Parts.{widths_in}
 use Rattle.fsm_blocks.proofs.CountLaws.{Scan}

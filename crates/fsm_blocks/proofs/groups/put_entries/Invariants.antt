@@ -1,5 +1,4 @@
 -- the entry lies within the groups
-use Prim.Native.Nat.{◌+◌, ◌≤◌}
 use Rattle.fsm_blocks.proofs.PutLaws.{Filling}
 use Rattle.fsm_blocks.proofs.groups.put_entries.Given as goal
 

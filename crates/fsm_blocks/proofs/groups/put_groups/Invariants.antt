@@ -1,5 +1,5 @@
 -- the group lies within the groups
-use Prim.Native.Nat.{◌+◌, ◌*◌, ◌-◌, ◌≤◌}
+use Prim.Native.Nat.{◌-◌}
 use lib.ListN.{length}
 use Rattle.fsm_blocks.specs.Parts.{widths_in}
 use Rattle.fsm_blocks.proofs.PutLaws.{Putting}

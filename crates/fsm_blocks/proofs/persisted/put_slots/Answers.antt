@@ -1,4 +1,3 @@
-use Prim.Native.Nat.{◌-◌}
 use Rattle.fsm_blocks.specs.declared.checks.Reading.TheVariants.{Loose}
 use Rattle.fsm_blocks.proofs.SlotsLaws.{store-start, store_step, store-end, slot-accepted, slot-room}
 use Rattle.fsm_blocks.proofs.persisted.put_slots.Goals as goal

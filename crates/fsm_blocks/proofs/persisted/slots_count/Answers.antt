@@ -1,4 +1,3 @@
-use Prim.Native.Nat.{◌-◌}
 use Rattle.fsm_blocks.proofs.SlotsLaws.{sum-start, sum-refused, sum_step, sum-end}
 use Rattle.fsm_blocks.proofs.persisted.slots_count.Goals as goal
 
