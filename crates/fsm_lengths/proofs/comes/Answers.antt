@@ -1,5 +1,4 @@
-use mathlib.Core.Path.{◌≡◌, refl}
-use Prim.Native.Nat.{◌-◌, ◌≤◌}
+use mathlib.Core.Path.{refl}
 use native.Mathlib.Omega.{arith}
 use Rattle.fsm_lengths.proofs.LengthLaws.{comes_here, comes_later, comes_never}
 use Rattle.fsm_lengths.proofs.comes.Goals as goal

@@ -19,4 +19,4 @@ returns c =
     let a = c.args in
     c.fsse_used.ensures ∙ len_is a.offset_size a.sizes.now
     (ap not (sym c.is_width.ensures ∙ c.if-not-is_width.false))
-    (sym c.if-sum_overflows.false ∙ c.sum_overflows.ensures) (omega arith) c.size_count.result c.size_count.ensures
+    (sym c.if-sum_overflows.false ∙ c.sum_overflows.ensures) (omega arith) _ (omega arith)

@@ -1,5 +1,3 @@
-use mathlib.Core.Path.{◌≡◌}
-use Prim.Native.Nat.{◌+◌, ◌-◌, ◌≤◌}
 use native.Mathlib.Omega.{arith}
 use Rattle.fsm_lengths.proofs.LengthLaws.{counted, all-counted, one_at_most}
 use Rattle.fsm_lengths.proofs.size_count.Goals as goal

@@ -1,5 +1,3 @@
-use mathlib.Core.Path.{◌≡◌}
-use Prim.Native.Nat.{◌+◌, ◌-◌, ◌≤◌}
 use native.Mathlib.Omega.{arith}
 use Rattle.fsm_lengths.proofs.LengthLaws.{added, too_great, all_added}
 use Rattle.fsm_lengths.proofs.sum_overflows.Goals as goal

@@ -1,6 +1,6 @@
 -- the section ends at a number
-use mathlib.Core.Path.{◌≡◌, ◌∙◌}
-use Prim.Native.Nat.{◌-◌, ◌^◌, ◌<◌, ◌+◌}
+use mathlib.Core.Path.{◌≡◌}
+use Prim.Native.Nat.{◌-◌, ◌<◌}
 use Rattle.split_records.specs.Records.{pieces_left}
 use Rattle.split_records.proofs.next_piece.Given as goal
 

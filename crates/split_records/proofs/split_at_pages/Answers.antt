@@ -1,15 +1,13 @@
 use mathlib.Core.Path.{◌≡◌, refl, sym, ap, ◌∙◌}
 use mathlib.Core.List.{List}
-use Prim.Native.Nat.{◌+◌, ◌≤◌}
 use native.Mathlib.Numerals.{add-one}
 use native.Mathlib.Omega.{arith}
-use lib.ListN.{length, set, drop}
+use lib.ListN.{length, set}
 use Rattle.error.specs.Lent.{left}
 use Rattle.fsm_sections.specs.declared.FreeSection.{FreeSection}
 use Rattle.fsm_pages.specs.Split.{split_outcome}
-use Rattle.split_records.specs.Records.{pieces_left}
 use Rattle.split_records.proofs.CutLaws.{all_left}
-use Rattle.split_records.proofs.RecordLaws.{all, shown, Ready, ready, left-some, next_here, store-piece, records_are}
+use Rattle.split_records.proofs.RecordLaws.{shown, ready, left-some, next_here, store-piece, records_are}
 use Rattle.split_records.proofs.split_at_pages.Goals as goal
 
 pub loop-k-init : goal.loop-k-init

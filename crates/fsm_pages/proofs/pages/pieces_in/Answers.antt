@@ -1,5 +1,4 @@
 use mathlib.Core.Path.{◌≡◌, ◌∙◌}
-use mathlib.Core.Logic.{⊎_elim}
 use Prim.Native.Nat.{◌+◌, ◌-◌, min}
 use native.Mathlib.Nat.{div-le_self}
 use native.Mathlib.Omega.{arith}
@@ -50,8 +49,8 @@ loop-t-preserved c =
     let l = c.loop-t in
     let e = went a.count a.sections.now _ _ c.next_in-t.ensures c.if-t.false in
     elim c.if-room-size.branch [
-      then-room-size w ↦ count-more a.page a.count a.sections.now _ l.some l.more l.invariant _ _ e c.requires.page _ c.room_in-room.ensures w.if-room-size.true _ _ w.quotient.ensures (w.more-is ∙ w.saturating_add-more.ensures)
-    | else-room-size w ↦ count_same a.page a.count a.sections.now _ l.some l.more l.invariant _ _ e c.requires.page _ c.room_in-room.ensures w.if-room-size.false _ w.more-is
+      | then-room-size w ↦ count-more a.page a.count a.sections.now _ l.some l.more l.invariant _ _ e c.requires.page _ c.room_in-room.ensures w.if-room-size.true _ _ w.quotient.ensures (w.more-is ∙ w.saturating_add-more.ensures)
+      | else-room-size w ↦ count_same a.page a.count a.sections.now _ l.some l.more l.invariant _ _ e c.requires.page _ c.room_in-room.ensures w.if-room-size.false _ w.more-is
     ] in
     let some_is : (c.if-size-ne0.some ≡ c.loop-t.some + min c.next_in-t.result.region.size 1) = elim c.if-size-ne0.branch [ then-size-ne0 w ↦ omega arith | else-size-ne0 w ↦ omega arith ] in
     let a = c.args in

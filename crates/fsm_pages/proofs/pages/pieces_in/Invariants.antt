@@ -1,6 +1,4 @@
 -- the pieces after the first of the section
-use mathlib.Core.Path.{◌≡◌, ◌∙◌}
-use Prim.Native.Nat.{◌+◌, ◌-◌}
 use lib.ListN.{length}
 use Rattle.fsm_sections.specs.RunSteps.{rest_in}
 use Rattle.fsm_pages.proofs.SplitLaws.{Counting}
