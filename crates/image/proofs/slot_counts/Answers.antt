@@ -1,4 +1,3 @@
-use Prim.Native.Nat.{◌-◌}
 use Rattle.image.proofs.CountLaws.{counts_start, counts_step, counts_end}
 use Rattle.image.proofs.slot_counts.Goals as goal
 

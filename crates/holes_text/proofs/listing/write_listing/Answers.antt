@@ -1,5 +1,4 @@
 use mathlib.Core.Path.{◌∙◌}
-use Prim.Native.Nat.{◌-◌, ◌≤◌}
 use native.Mathlib.Omega.{arith}
 use Rattle.holes_text.specs.Listing.{header, listing_text}
 use Rattle.text.proofs.TextLaws.{whole-left, after-inside, printing_length, then}

@@ -1,4 +1,3 @@
-use Prim.Native.Nat.{◌-◌, ◌≤◌}
 use native.Mathlib.Omega.{arith}
 use Rattle.fsm_sections.specs.Sections.{decode}
 use Rattle.holes_text.specs.Listing.{slot_text}
