@@ -52,6 +52,10 @@ def declared():
         of_record = False
         for line in read(path).split("\n"):
             of_record = bool(re.match(r" *(?:pub )?record ", line)) or (of_record and (line.startswith(" ") or not line.strip()))
+            m = re.match(r"use \S+ as ([a-z]\w*[A-Z]\w*)$", line)
+            if m:
+                lemmas.add(m[1])
+                continue
             m = re.match(r"(?:(?:abbrev|unfoldable|pub) )*(%s) :(?: (.*)|$)" % W, line)
             if m:
                 if not (of_function and (re.match(r"tie\.", m[2] or "") or re.search(r"[-_]spec$", m[1]))):
