@@ -1,6 +1,6 @@
 -- Laws of a refusal's line. Assumes nothing.
 use mathlib.Core.Path.{◌≡◌, refl, sym, ap, ap₂, ◌∙◌}
-use mathlib.Core.List.{List, [], ◌∷◌, ◌++◌}
+use mathlib.Core.List.{List, [], ◌++◌}
 use Prim.Native.Nat.{ℕ}
 use Rattle.error.specs.Lent.{With}
 use Rattle.error.specs.declared.Refusal.{Refusal}

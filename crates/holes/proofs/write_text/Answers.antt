@@ -9,11 +9,11 @@ pub returns-in-Bytes : goal.returns-in-Bytes
 returns-in-Bytes c =
     let a = c.args in
     always_written a.image.now a.out.now c.requires
-    (sym (ap (λ (r : Written). left (written_outcome r) c.holes_text.new.1.0) c.in-Bytes.is) ∙ c.holes_text.ensures)
+    (sym (ap (λ (r : Written). left (written_outcome r) c.holes_text.new.out) c.in-Bytes.is) ∙ c.holes_text.ensures)
 
 pub returns-in-Refused : goal.returns-in-Refused
 returns-in-Refused c =
     let a = c.args in
     absurd
     (never-refused a.image.now a.out.now c.requires c.in-Refused.field-0
-    (sym (ap (λ (r : Written). left (written_outcome r) c.holes_text.new.1.0) c.in-Refused.is) ∙ c.holes_text.ensures))
+    (sym (ap (λ (r : Written). left (written_outcome r) c.holes_text.new.out) c.in-Refused.is) ∙ c.holes_text.ensures))

@@ -1,4 +1,3 @@
-use Prim.Native.Nat.{◌-◌}
 use borrow.Author.Rules.{rules}
 use Rattle.replay_lines.proofs.CallLaws.{agree_start, agree_short, agree_no, agree_step, agree_whole, agree_last}
 use Rattle.replay_lines.proofs.call.is_call.Goals as goal
