@@ -1,18 +1,18 @@
 -- The Free-space Manager Header, FSHD, by the offset size O: its fields, bytes and reading. From the HDF5 File Format Specification,
 -- section III.H, with lengths of 8 bytes as document 01 has them. Assumes nothing.
 -- In quotes: document 01's words, from "Blocks on file".
---   Header       all that stands in a header but its signature and its checksum
---   signature    four letters as a row of fields: the specification's ASCII `FSHD` and `FSSE`
+--   Header        all that stands in a header but its signature and its checksum
+--   signature     four letters as a row of fields: the specification's ASCII `FSHD` and `FSSE`
 --   fshd_row      the header as a row of fields; their widths give the offsets listed ("signature at 0; version 0 at 4; client 1 at 5", and so on)
---   sealed       bytes with their checksum after them, over everything before it; `sum` is the checksum of bytes ("checksum at 70+O")
+--   sealed        bytes with their checksum after them, over everything before it; `sum` is the checksum of bytes ("checksum at 70+O")
 --   fshd_bytes    a header's bytes
 --   fshd_size     their number: "FSHD, length 74+O"
---   signed       bytes begin with a signature of four
---   beginning    "length, then signature": fewer bytes than a block of some size has are 7, four that are not F, S and two letters 10
+--   signed        bytes begin with a signature of four
+--   beginning     "length, then signature": fewer bytes than a block of some size has are 7, four that are not F, S and two letters 10
 --   header_at     the header that stands in bytes, signature and checksum aside ("FSSE address at 54 (O); used and allocated length at 54+O and
---                62+O")
---   taken        the six fields that the Rust keeps of a header, its `FsmHeader`
---   kept         these of a header that is read, or its refusal
+--                 62+O")
+--   taken         the six fields that the Rust keeps of a header, its `FsmHeader`
+--   kept          these of a header that is read, or its refusal
 --   parse_fshd    the reading after the test of the offset size: "Parsing FSHD tests length, then signature"
 --   parsed_fshd   `FsmHeader::parse`: refusals 1, 7, 10
 use Rattle.std.specs.Prelude.{ℕ, ◌+◌, Bool, ◌&&◌, not, List, [], ◌∷◌, ◌++◌, ltb, eqb, length}

@@ -1,14 +1,14 @@
 -- The Free-space Section List, FSSE: its bytes, its length and its reading. From the HDF5 File Format Specification, section III.H.
 -- Assumes nothing.
 -- In quotes: document 01's words, from "Blocks on file".
---   bits_width    address bits rounded up to bytes
---   widths_of     the widths that a number of sections, a greatest size and address bits give: `enc_size` of the first two ("`enc_size` of the total
+--   bits_width   address bits rounded up to bytes
+--   widths_of    the widths that a number of sections, a greatest size and address bits give: `enc_size` of the first two ("`enc_size` of the total
 --                count"), and bits_width
---   fsse_head     "signature, version 0, FSHD address (O)"
---   fsse_bytes    a section list's bytes: head, groups by size then address, checksum
---   size_by       how many bytes n sections of d sizes take: "9+O + distinct sizes × (count width+8) + sections × (O+1)"
---   fsse_size     the number of these bytes
---   parse_fsse    n sections by address bits and greatest size: "Parsing FSSE tests length 9+O, signature, then address bits 0 or above 64 (10),
+--   fsse_head    "signature, version 0, FSHD address (O)"
+--   fsse_bytes   a section list's bytes: head, groups by size then address, checksum
+--   size_by      how many bytes n sections of d sizes take: "9+O + distinct sizes × (count width+8) + sections × (O+1)"
+--   fsse_size    the number of these bytes
+--   parse_fsse   n sections by address bits and greatest size: "Parsing FSSE tests length 9+O, signature, then address bits 0 or above 64 (10),
 --                then groups"
 use Rattle.std.specs.Prelude.{ℕ, ◌+◌, ◌-◌, ◌*◌, ◌/◌, ◌||◌, List, [], ◌∷◌, ◌++◌, ltb, eqb, length}
 use Rattle.error.specs.declared.Refusal.TheVariants.{InvalidManager}

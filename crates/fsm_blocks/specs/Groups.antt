@@ -7,7 +7,7 @@
 --   groupBytes    groups: count, size, entries ("A group is a count", "a size (8), then address (O) and class byte for each")
 --   entrySize, head_size   how many bytes an entry takes; a count with its size
 --   Entries       the addresses of some entries, how many sections are still to come, and the bytes left
---   after        an entry's address before those of the entries after it
+--   after         an entry's address before those of the entries after it
 --   readEntries   c entries where `left` sections are still to come: "A group head or entry that passes the payload, or an entry beyond the
 --                 total, is 10"
 --   readMore      the sections of a group before those read after it

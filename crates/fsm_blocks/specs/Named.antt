@@ -1,8 +1,8 @@
 -- Where a manager's section list stands, as the reader finds it. Assumes nothing.
 -- In quotes: document 01's words, from "Blocks on file". The first four serve contracts of private functions.
---   full           a header of which only the six fields are known, the others 0
+--   full            a header of which only the six fields are known, the others 0
 --   named_outcome   the sections of a section list that was found
---   Inside         the list that was found lies within the bytes
+--   Inside          the list that was found lies within the bytes
 --   refusal_in      the refusal of a header's answer that is one
 --   manager_count   `manager_count`: refusal 1, then the manager's own; how many sections it has ("Each manager's answer is taken apart")
 --   slots_count     how many sections all slots have, at most 2^64 - 1 ("the needed count covering all managers")

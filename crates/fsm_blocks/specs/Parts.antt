@@ -1,11 +1,11 @@
 -- What the functions within the reader take and answer, for the contracts of private functions. Assumes nothing.
---   got          the list that an outcome answers; none where it is a refusal
---   Accepted     the outcome is an answer
---   counted      how many sections an outcome answers
---   addresses    the addresses of c entries, each w bytes and a class byte
+--   got           the list that an outcome answers; none where it is a refusal
+--   Accepted      the outcome is an answer
+--   counted       how many sections an outcome answers
+--   addresses     the addresses of c entries, each w bytes and a class byte
 --   widths_in     the widths that the code holds
---   Narrow       they are at most 8, and a count takes a byte at least
---   WidthsOf     they are those of a header
+--   Narrow        they are at most 8, and a count takes a byte at least
+--   WidthsOf      they are those of a header
 --   sections_by   the sections of a section list, by its header: `parse_fsse` by the fields of an `FsmHeader`
 use Rattle.std.specs.Prelude.{ℕ, zero, suc, ◌≤◌, ◌≡◌, List, [], ◌∷◌, length, drop}
 use Rattle.error.specs.Outcome.{Outcome, answer, nothing, refuse, and_then}

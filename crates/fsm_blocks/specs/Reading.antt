@@ -2,19 +2,19 @@
 -- Assumes nothing.
 -- In quotes: document 01's words, from "Blocks on file", or those of document 02's request that is named. A strict reading makes its checks
 -- (Checks.antt) of each block where the loose one parses it (P5: "The loose tests of place stay"); a loose one has no checks.
---   listAt         the section list where a header's FSSE field points: "Adding the base past 2^64−1", "or an FSSE outside the data is 10"; then the
---                  checks of its used bytes by the slot that named the header, and what it parses as
---   readNamed      the same, but for the undefined address no sections (P2: "The reader skips 2^(8O)−1 at offset size O, and no other address, in a
---                  slot and in the FSSE field"). It is the number as it stands there, to which the base is not added yet
---   managerAt      the sections of the manager whose header is where a slot points: "a header start past the data" is 10; then the header's checks
---   readManager    the same, but for the undefined address no sections (P2)
---   read_slots      each slot's sections: "slots in order"; "the first refusal ends the read"
---   joined         the sections of all slots, in order
---   into_run        the sections in the lent run, or refusal 14 with their number (at most 2^64 - 1) and its capacity: "Only after all succeed is 14
---                  considered, the needed count covering all managers"
---   parsed_fsse     `parse_fsse`: refusals 1, 3 (an odd run), then those of the list, 14 last
---   persisted      "`read_persisted_sections`, the wrapper that refuses more": refusals 1, 3, then slot by slot, 14 last; strictly the same of
---                  `read_persisted_sections_strict`
+--   listAt        the section list where a header's FSSE field points: "Adding the base past 2^64−1", "or an FSSE outside the data is 10"; then the
+--                 checks of its used bytes by the slot that named the header, and what it parses as
+--   readNamed     the same, but for the undefined address no sections (P2: "The reader skips 2^(8O)−1 at offset size O, and no other address, in a
+--                 slot and in the FSSE field"). It is the number as it stands there, to which the base is not added yet
+--   managerAt     the sections of the manager whose header is where a slot points: "a header start past the data" is 10; then the header's checks
+--   readManager   the same, but for the undefined address no sections (P2)
+--   read_slots    each slot's sections: "slots in order"; "the first refusal ends the read"
+--   joined        the sections of all slots, in order
+--   into_run      the sections in the lent run, or refusal 14 with their number (at most 2^64 - 1) and its capacity: "Only after all succeed is 14
+--                 considered, the needed count covering all managers"
+--   parsed_fsse   `parse_fsse`: refusals 1, 3 (an odd run), then those of the list, 14 last
+--   persisted     "`read_persisted_sections`, the wrapper that refuses more": refusals 1, 3, then slot by slot, 14 last; strictly the same of
+--                 `read_persisted_sections_strict`
 use Rattle.std.specs.Prelude.{ℕ, ◌+◌, ◌/◌, ◌%◌, cond, not, List, [], ◌∷◌, ◌++◌, ltb, eqb, length, drop}
 use Rattle.error.specs.declared.Refusal.TheVariants.{Width, NotAList, InvalidManager, OverCapacity}
 use Rattle.error.specs.Outcome.{Outcome, answer, when, first_of, and_then, sat}

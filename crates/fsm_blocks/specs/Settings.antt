@@ -1,12 +1,12 @@
 -- The two blocks of one manager, by the writer's settings. Assumes nothing.
 -- In quotes: document 01's words, from "Blocks on file".
---   Settings      what a writer may choose: address bits, greatest section size, shrink, expand, surplus of allocated over used length
+--   Settings       what a writer may choose: address bits, greatest section size, shrink, expand, surplus of allocated over used length
 --   starting_set   the settings at an offset size: "shrink 80, expand 120, client 1 and greatest size 2^63−1. Address bits are 8O−1";
---                 "allocated equals used", so surplus 0
---   widthsFor     the widths that the settings give to a number of sections
+--                  "allocated equals used", so surplus 0
+--   widthsFor      the widths that the settings give to a number of sections
 --   header_of, headerFor   the header of sections whose list stands at an address: "three classes"; "Serialized equals total, ghost is 0"
---   fsseFor       the section list whose header stands at an address
---   fsseUsed      its length; usedBy the same by how many sections and sizes there are
+--   fsseFor        the section list whose header stands at an address
+--   fsseUsed       its length; usedBy the same by how many sections and sizes there are
 --   blocks_size    both blocks' lengths with the starting settings, 0 without sections
 use Rattle.std.specs.Prelude.{ℕ, ◌+◌, ◌-◌, ◌*◌, ◌^◌, cond, List, eqb, length}
 use Rattle.fsm_sections.specs.declared.FreeSection.{FreeSection}

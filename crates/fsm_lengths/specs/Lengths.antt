@@ -1,6 +1,6 @@
 -- The length of a section list by the sizes of its sections. Assumes nothing.
 --   unplaced   sections of these sizes; the length does not depend on their addresses, so they stand at 0
---   fsse_len    `fsse_len`: the length of their section list by the starting settings (document 01, "Blocks on file": "Length: 9+O + distinct
+--   fsse_len   `fsse_len`: the length of their section list by the starting settings (document 01, "Blocks on file": "Length: 9+O + distinct
 --              sizes × (count width+8) + sections × (O+1)"); refusals 1, 4 ("a sum of section sizes")
 use Rattle.std.specs.Prelude.{ℕ, not, List, [], ◌∷◌, map, ltb}
 use Rattle.error.specs.declared.Refusal.TheVariants.{Width, Overflow}

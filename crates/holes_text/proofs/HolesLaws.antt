@@ -90,11 +90,11 @@ module _ (run : List ℕ) (size : 2 * section_limit ≡ length run) where
 
   -- ---- the two answers of the reading
 
-  refused_text_lem : (q : Outcome (List (List FreeSection))) (x : Refusal) → refused x ≡ (leaving run (and_then q filled)).outcome → refused_text (number_of x) ≡ text_of q
+  text_of-refused : (q : Outcome (List (List FreeSection))) (x : Refusal) → refused x ≡ (leaving run (and_then q filled)).outcome → refused_text (number_of x) ≡ text_of q
   unfolding and_then
-  refused_text_lem (answer ls) x e = let z : ◌≡◌ {A = ℕ} 0 1 = cc in absurd (omega arith)
-  refused_text_lem nothing x e = let z : ◌≡◌ {A = ℕ} 0 1 = cc in absurd (omega arith)
-  refused_text_lem (refuse n vs) x e = let p : number_of x ≡ n = cc in ap refused_text p
+  text_of-refused (answer ls) x e = let z : ◌≡◌ {A = ℕ} 0 1 = cc in absurd (omega arith)
+  text_of-refused nothing x e = let z : ◌≡◌ {A = ℕ} 0 1 = cc in absurd (omega arith)
+  text_of-refused (refuse n vs) x e = let p : number_of x ≡ n = cc in ap refused_text p
 
   listed_text : (q : Outcome (List (List FreeSection))) (counts run' : List ℕ) → Holds Few q → answer counts ≡ (leaving run (and_then q filled)).outcome
       → run' ≡ (leaving run (and_then q filled)).memory → listing_text (slots_of counts run') ≡ text_of q
@@ -121,7 +121,7 @@ module _ (run : List ℕ) (size : 2 * section_limit ≡ length run) where
     text_is = ap text_of (passes _ (OverCapacity (length image) image_limit) _ (le-ltb image_limit (length image) short))
 
     pub text_refused : (x : Refusal) → r.answer ≡ Refused x → refused_text (number_of x) ≡ holes_text image
-    text_refused x q = refused_text_lem listed x (answered (Refused x) q) ∙ text_is
+    text_refused x q = text_of-refused listed x (answered (Refused x) q) ∙ text_is
 
     pub text_listed : r.answer ≡ Read → listing_text (slots_of r.counts run') ≡ holes_text image
     text_listed q =

@@ -1,6 +1,6 @@
 -- The text that lists sections, and that of a refusal: numbers in decimal, single spaces, a newline at the end of every line. Assumes nothing.
 -- In quotes: document 01's words, from "Checked by hand".
---   header        "A line of names": slot address size
+--   header         "A line of names": slot address size
 --   row_text       the line of a section in a slot: "values, single spaces, decimal"
 --   slot_text      the lines of a slot's sections
 --   slots_text     the lines of slots, the first of which has number i

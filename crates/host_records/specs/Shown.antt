@@ -1,5 +1,5 @@
 -- What the C function of the host test shows of an outcome. Assumes nothing.
---   shown       the number of an answer, or all ones less the refusal's number; Nothing, which `split_at_pages` cannot answer, is all ones
+--   shown        the number of an answer, or all ones less the refusal's number; Nothing, which `split_at_pages` cannot answer, is all ones
 --   left_shown   that number, and the lent memory
 use Rattle.std.specs.Prelude.{ℕ, ◌-◌}
 use Rattle.error.specs.Outcome.{Outcome, answer, nothing, refuse}

@@ -2,7 +2,7 @@
 --   outcome_with    of an answer and the counts beside it
 --   image_outcome   of both together: the twelve counts of slots, or the refusal
 --   counts_in       the counts that stand beside it: all 0 where it is a refusal ("Fourteen ways to say no": "Each promise covers answer and lent
---                  memory, refusals too")
+--                   memory, refusals too")
 --   refused_read    a refused reading with its counts
 use Rattle.std.specs.Prelude.{ℕ, List, replicate}
 use Rattle.error.specs.declared.Refusal.{Refusal}

@@ -1,18 +1,18 @@
 -- The reading of an image at a place: its message, at most 125 bytes of it, then its slots; offset and length size 8, base 0 (document 01,
 -- "The save": "An image reads by this message, then its slots, with capacity for all"). The slots are read loosely or strictly (document 02,
 -- P5). Assumes nothing.
---   message_at      the at most 125 bytes of message at a place ("Checked by hand": "message first (up to 125 bytes), sizes 8, base 0")
---   addresses_in    the addresses that stand in a message whose fixed part was read
---   read_image      each slot's sections, in slot order: refusals 7, 8, 9 of the message, then those of the slots
+--   message_at     the at most 125 bytes of message at a place ("Checked by hand": "message first (up to 125 bytes), sizes 8, base 0")
+--   addresses_in   the addresses that stand in a message whose fixed part was read
+--   read_image     each slot's sections, in slot order: refusals 7, 8, 9 of the message, then those of the slots
 --   Listed         a section and the slot that it stands in
---   in_slot         the sections of one slot
+--   in_slot        the sections of one slot
 --   listed         the sections of all slots from one on, in reading order
---   read_listed     the sections of an image with their slots
---   counts_of       how many sections each of the twelve slots has
---   read_into       the sections of slots in a lent run: refusal 3 for an odd run first, then the slots' own, 14 last; they fill the run from its
+--   read_listed    the sections of an image with their slots
+--   counts_of      how many sections each of the twelve slots has
+--   read_into      the sections of slots in a lent run: refusal 3 for an odd run first, then the slots' own, 14 last; they fill the run from its
 --                  front, and the counts are answered
---   image_into      `read_image` and `read_image_strict`: those of an image, so 3 comes before all others
---   sections_in     how many sections the manager has that a slot names, read loosely; 0 where it is refused: for a private function's contract
+--   image_into     `read_image` and `read_image_strict`: those of an image, so 3 comes before all others
+--   sections_in    how many sections the manager has that a slot names, read loosely; 0 where it is refused: for a private function's contract
 use Rattle.std.specs.Prelude.{ℕ, suc, ◌-◌, ◌%◌, not, List, [], ◌∷◌, ◌++◌, map, eqb, length, drop, replicate}
 use Rattle.error.specs.declared.Refusal.TheVariants.{NotAList}
 use Rattle.error.specs.Outcome.{Outcome, answer, when, first_of, and_then}

@@ -1,9 +1,9 @@
 -- `split_at_pages` over a lent run of records (document 01, "Eight files": "`split_at_pages` also fills a lent run of FreeSection records").
 -- Assumes nothing.
 --   at_front        records at the front of a run, the rest of it unchanged
---   refusals       2, 3 and 4 as over pairs (a run of records has no odd length), then 14 with the exact number of pieces (at most 2^64 - 1)
+--   refusals        2, 3 and 4 as over pairs (a run of records has no odd length), then 14 with the exact number of pieces (at most 2^64 - 1)
 --   split_records   `split_at_pages`: the pieces in input order at the front of the lent run, or the first refusal ("Language forms": "one thin
---                  function over &mut [FreeSection]")
+--                   function over &mut [FreeSection]")
 --   split_answer    the same without the run: how many pieces there are, where a run of `room` records holds them
 --   pieces_in       how many pieces an outcome announces; a refusal none. This and the next two serve contracts of private functions
 --   cut_off         sections with the first bytes of the first one cut off

@@ -1,4 +1,4 @@
--- the text is inside its memory
+-- `inside`: the text is inside its memory
 use mathlib.Core.Path.{sym}
 use Prim.Native.Nat.{◌≤◌}
 use lib.ListN.{length}

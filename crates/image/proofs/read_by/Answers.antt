@@ -1,4 +1,4 @@
--- the message was read into the slots
+-- `message`: the message was read into the slots
 use mathlib.Core.Path.{sym, ◌∙◌}
 use lib.Seq.{length-take-le}
 use Rattle.image.specs.Reading.{message_at}

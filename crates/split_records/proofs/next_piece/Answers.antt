@@ -1,3 +1,4 @@
+-- `ends`: the section ends at a number
 use mathlib.Core.Path.{refl, ap, ◌∙◌}
 use Prim.Native.Nat.{◌^◌, ◌<◌, ◌+◌}
 use native.Mathlib.Nat.{mod-lt, le_of_lt}

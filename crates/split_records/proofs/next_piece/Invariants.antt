@@ -1,4 +1,3 @@
--- the section ends at a number
 use mathlib.Core.Path.{◌≡◌}
 use Prim.Native.Nat.{◌-◌, ◌<◌}
 use Rattle.split_records.specs.Records.{pieces_left}

@@ -1,4 +1,4 @@
--- what the count tells where it gives a number
+-- `told`: what the count tells where it gives a number
 use mathlib.Core.Path.{sym, ap, ◌∙◌}
 use Rattle.error.specs.Answers.{number_outcome}
 use Rattle.fsm_pages.proofs.SplitLaws.{Splits, split_told}

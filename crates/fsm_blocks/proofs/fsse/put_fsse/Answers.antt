@@ -1,4 +1,4 @@
--- an accepted list is long enough
+-- `long`: an accepted list is long enough
 use mathlib.Core.Path.{sym, ap, ◌∙◌, subst}
 use mathlib.Core.List.{List}
 use Prim.Native.Nat.{◌+◌, ◌≤◌}

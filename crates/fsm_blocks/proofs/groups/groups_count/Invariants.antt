@@ -1,4 +1,3 @@
--- the entries do not pass the end
 use Prim.Native.Nat.{◌-◌}
 use lib.ListN.{length}
 use Rattle.fsm_blocks.specs.Parts.{widths_in}

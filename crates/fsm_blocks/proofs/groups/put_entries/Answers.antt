@@ -1,3 +1,4 @@
+-- `entry`: the entry lies within the groups
 use Prim.Native.Nat.{◌+◌, ◌≤◌}
 use native.Mathlib.Omega.{arith}
 use lib.ListN.{length}

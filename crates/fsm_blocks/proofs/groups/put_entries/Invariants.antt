@@ -1,4 +1,3 @@
--- the entry lies within the groups
 use Rattle.fsm_blocks.proofs.PutLaws.{Filling}
 use Rattle.fsm_blocks.proofs.groups.put_entries.Given as goal
 

@@ -1,3 +1,4 @@
+-- `head`, `few` and `entries`: the group lies within the groups
 use Prim.Native.Nat.{◌+◌, ◌*◌, ◌-◌, ◌≤◌}
 use native.Mathlib.Omega.{arith}
 use lib.ListN.{length}

@@ -1,4 +1,3 @@
--- the group lies within the groups
 use Prim.Native.Nat.{◌-◌}
 use lib.ListN.{length}
 use Rattle.fsm_blocks.specs.Parts.{widths_in}

@@ -1,5 +1,4 @@
--- the address is not the undefined one
--- the list lies within the bytes
+-- `defined`: the address is not the undefined one; `within`: the list lies within the bytes
 use mathlib.Core.Path.{◌≡◌, sym, ◌∙◌}
 use Prim.Native.Nat.{◌+◌, ◌≤◌}
 use native.Mathlib.Omega.{arith}

@@ -1,4 +1,4 @@
--- the slot is not the undefined address
+-- `defined`: the slot is not the undefined address
 use mathlib.Core.Path.{◌≡◌, sym, ◌∙◌}
 use Rattle.fields.specs.Ranges.{undefined_addr}
 use Rattle.fields.proofs.RangeLaws.{ones_are}

@@ -1,4 +1,4 @@
--- the list that was found lies within the bytes
+-- `inside`: the list that was found lies within the bytes
 use mathlib.Core.Path.{sym, ap, ◌∙◌}
 use mathlib.Core.Bool.{not}
 use Prim.Native.Nat.{◌+◌, ◌≤◌}

@@ -1,4 +1,4 @@
--- the list that was found lies within the bytes, and its sections are the manager's
+-- `inside`, `sections` and `total`: the list that was found lies within the bytes, and its sections are the manager's
 use mathlib.Core.Path.{◌≡◌, sym, ap, ◌∙◌, subst}
 use mathlib.Core.List.{List}
 use Prim.Native.Nat.{◌+◌, ◌-◌, ◌≤◌}

@@ -1,3 +1,4 @@
+-- `more-is`: the pieces after the first of the section
 use mathlib.Core.Path.{◌≡◌, ◌∙◌}
 use Prim.Native.Nat.{◌+◌, ◌-◌, min}
 use native.Mathlib.Nat.{div-le_self}

@@ -1,4 +1,3 @@
--- the pieces after the first of the section
 use lib.ListN.{length}
 use Rattle.fsm_sections.specs.RunSteps.{rest_in}
 use Rattle.fsm_pages.proofs.SplitLaws.{Counting}

@@ -1,3 +1,4 @@
+-- `step_room` and `last-room`: the run has room for the piece that an iteration puts, and for the last one
 use mathlib.Core.Path.{◌∙◌}
 use Prim.Native.Nat.{◌+◌, ◌≤◌}
 use native.Mathlib.Omega.{arith}

@@ -1,4 +1,3 @@
--- the run has room for the piece that an iteration puts, and for the last one
 use Prim.Native.Nat.{◌+◌}
 use Rattle.fsm_pages.proofs.PieceLaws.{Walking}
 use Rattle.fsm_pages.proofs.pages.put_pieces.Given as goal

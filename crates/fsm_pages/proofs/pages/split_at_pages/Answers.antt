@@ -1,4 +1,4 @@
--- what the count tells where it gives a number
+-- `told`: what the count tells where it gives a number
 use mathlib.Core.Path.{sym, ap, ◌∙◌}
 use Prim.Native.Nat.{◌<◌}
 use native.Mathlib.Omega.{arith}

@@ -18,7 +18,7 @@ returns-then-not-is_signed c =
 
 pub overflow_cast-result : goal.overflow_cast-result
 overflow_cast-result c =
-    record { fits = subst (λ (n : ℕ). n < 2 ^ 16) (sym c.read_uint_le-3.ensures) (le_at-lt 44 2 c.args.bytes.now (λ i. (c.shared_slice_known-1.given i).fits)) }
+    record { fits = subst (λ (n : ℕ). n < 2 ^ 16) (sym c.read_uint_le-3.ensures) (le_at-lt 44 2 c.args.bytes.now (λ i. (c.type_inv.bytes i).fits)) }
 
 pub returns : goal.returns
 returns c =
