@@ -1,6 +1,6 @@
 -- What the benchmarks see of bytes that are given out and freed again: the address, and the lent memory. Assumes nothing.
 --   records_in    the records of three lists from six numbers: count and total of each; a number that is not given is 0
---   Runs, runs_of     the three runs; those of lists as they stand
+--   Runs, runs_of the three runs; those of lists as they stand
 --   Memory, memory_of   these and the marks
 --   freed_again   after a paged `alloc` of metadata the paged `free` of its bytes; the address, all ones where none was given out
 --   paged_round   both calls in a row

@@ -1,6 +1,6 @@
 -- What the benchmarks see of a plan and of a save's beginning: one number, and the lent memory. Assumes nothing.
 --   whole_lists  the records of three runs that are full, with three totals; whole_counts their counts
---   end_or_top    the end of the managers, all ones for a refusal; len_or_top the length of the blocks
+--   end_or_top   the end of the managers, all ones for a refusal; len_or_top the length of the blocks
 --   plan_left    that number and the run of sections; save_left and the scratch
 use Rattle.std.specs.Prelude.{ℕ, ◌/◌, List, length, get_or}
 use Rattle.error.specs.Outcome.{Outcome, answer, nothing, refuse}

@@ -5,15 +5,15 @@
 --   rotl32         rot(x, k): "a left rotation of 32 bits"
 --   mixed          mix(a, b, c), a line for each statement
 --   finished       final(a, b, c), a line for each statement
---   block_added     a block of hashlittle(): a, b and c each gain the next four bytes, a word with its least byte first
+--   block_added    a block of hashlittle(): a, b and c each gain the next four bytes, a word with its least byte first
 --   gained         one word gains a number: a (word 0), b (word 1) or c
---   byte_added      one case of the last switch of hashlittle(): byte j, shifted left by 8 * (j mod 4), is added to a (j < 4), b (j < 8) or c
---   tail_added      the last switch: entered at the last byte, it falls through to byte j, the first of those given
+--   byte_added     one case of the last switch of hashlittle(): byte j, shifted left by 8 * (j mod 4), is added to a (j < 4), b (j < 8) or c
+--   tail_added     the last switch: entered at the last byte, it falls through to byte j, the first of those given
 --   ending         the answer for the last bytes: with none, c as it is ("Empty input gives 0xdeadbeef"); else c after the switch and final()
---   hash_from       the answer for the bytes and words at hand: blocks while more than 12 bytes are left, then the ending; n bounds the number
+--   hash_from      the answer for the bytes and words at hand: blocks while more than 12 bytes are left, then the ending; n bounds the number
 --                  of blocks
 --   seed           a, b and c as they start, all equal
---   hash_of         hashlittle(key, length, initval): "starts from 0xdeadbeef plus the length, modulo 2^32"
+--   hash_of        hashlittle(key, length, initval): "starts from 0xdeadbeef plus the length, modulo 2^32"
 --   lookup3        the checksum of bytes: hashlittle() with initval 0 (HDF5 File Format Specification, III.H, the checksum fields)
 use Rattle.std.specs.Prelude.{ℕ, zero, suc, ◌+◌, ◌-◌, ◌*◌, ◌/◌, ◌%◌, ◌^◌, cond, List, [], ◌∷◌, length, take, drop, bit_xor, nat_lt}
 use Rattle.fields.specs.Le.{le_value}

@@ -1,7 +1,7 @@
 -- The checksum at the end of a block. Assumes nothing.
 --   body       a block without its last four bytes, over which its checksum is taken (HDF5 File Format Specification, III.H)
 --   stored     the checksum that the last four bytes spell
---   wrong_sum   the stored checksum is not the computed one: refusal 11 with both
+--   wrong_sum  the stored checksum is not the computed one: refusal 11 with both
 --   trailing   `verify_trailing`: refusal 7 (expected 4), then refusal 11 (document 01, "Blocks on file": "`verify_trailing` is the separate test: 7 (expected
 --              4), then 11")
 use Rattle.std.specs.Prelude.{ℕ, ◌-◌, not, List, [], ◌∷◌, length, take, drop, ◌==◌, nat_lt}

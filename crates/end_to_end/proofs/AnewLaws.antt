@@ -22,7 +22,7 @@ use Rattle.save_step.specs.Steps.{all_made, stepped, Saving, saving, step_on, st
 use Rattle.save.specs.declared.Begin.{Begin}
 use Rattle.save.specs.declared.Begin.TheVariants.{Begun, Refused}
 use Rattle.save.specs.Saving.{begun, begin_outcome}
-use Rattle.save.specs.EveryCut.{OneSave, one_save, blocks, storeCount, afterSteps, imageAfter, recordAt, EveryCut}
+use Rattle.save.specs.EveryCut.{OneSave, one_save, blocks, store_count, after_steps, image_after, record_at, EveryCut}
 use Rattle.save.proofs.AfterCallsLaws.{every-cut-after-calls}
 use Rattle.end_to_end.specs.Cuts.{begun_with}
 use Rattle.end_to_end.specs.Anew.{Stepped, stepped_with, steps_of, stepped_after, stepped_by, Anew, anew_with, anew_over, anew_after, EndsUncut}
@@ -68,46 +68,46 @@ no_more t (suc n) scratch x e =
 module _ (s : OneSave) (free : ℕ → Bool) (beginning : List ℕ → List ℕ → Outcome (With Save (List ℕ))) (d : EveryCut s free beginning) (k : ℕ) (other : List ℕ)
     (room : length (blocks s) + message_len ≤ length other) (low : length other < top) where
   -- the image that a cut leaves is one after at most all steps
-  at_most : imageAfter s k ≡ imageAfter s (min k (storeCount s))
+  at_most : image_after s k ≡ image_after s (min k (store_count s))
   at_most = ⊎_elim
-      (λ (h : k ≤ storeCount s). let e : k ≡ min k (storeCount s) = omega arith in ap (imageAfter s) e)
-      (λ (h : storeCount s < k).
-      let e : storeCount s ≡ min k (storeCount s) = omega arith in
-      ap (λ (x : Saving). x.image) (same_after s free beginning d k (omega arith)) ∙ ap (imageAfter s) e)
-      (le-or-lt k (storeCount s))
+      (λ (h : k ≤ store_count s). let e : k ≡ min k (store_count s) = omega arith in ap (image_after s) e)
+      (λ (h : store_count s < k).
+      let e : store_count s ≡ min k (store_count s) = omega arith in
+      ap (λ (x : Saving). x.image) (same_after s free beginning d k (omega arith)) ∙ ap (image_after s) e)
+      (le-or-lt k (store_count s))
 
   abbrev left-image : List ℕ
-  left-image = imageAfter s (min k (storeCount s))
+  left-image = image_after s (min k (store_count s))
 
   again : (lent : List ℕ)
       × (beginning left-image other ≡ answer (with s.save lent))
-      × (steps (storeCount s) lent (saving s.save left-image) ≡ afterSteps s (storeCount s))
-  again = d.fresh-ends (min k (storeCount s)) (omega arith) other room
+      × (steps (store_count s) lent (saving s.save left-image) ≡ after_steps s (store_count s))
+  again = d.fresh_ends (min k (store_count s)) (omega arith) other room
 
-  last_record : afterSteps s (storeCount s) ≡ saving (recordAt s (storeCount s)) (imageAfter s (storeCount s))
-  last_record = ap (λ (x : Saving). saving x.save (imageAfter s (storeCount s))) (d.bookkeeping.made (storeCount s) (le_refl (storeCount s)))
+  last_record : after_steps s (store_count s) ≡ saving (record_at s (store_count s)) (image_after s (store_count s))
+  last_record = ap (λ (x : Saving). saving x.save (image_after s (store_count s))) (d.bookkeeping.made (store_count s) (le_refl (store_count s)))
 
-  all-steps : (lent : List ℕ) → steps (storeCount s) lent (saving s.save left-image) ≡ afterSteps s (storeCount s)
-      → steps top lent (saving s.save left-image) ≡ saving (recordAt s (storeCount s)) (imageAfter s (storeCount s))
+  all-steps : (lent : List ℕ) → steps (store_count s) lent (saving s.save left-image) ≡ after_steps s (store_count s)
+      → steps top lent (saving s.save left-image) ≡ saving (record_at s (store_count s)) (image_after s (store_count s))
   all-steps lent e =
-      let t : top ≡ storeCount s + (top - storeCount s) = omega (arith, room, low) in
+      let t : top ≡ store_count s + (top - store_count s) = omega (arith, room, low) in
       ap (λ (n : ℕ). steps n lent (saving s.save left-image)) t
-      ∙ no_more (storeCount s) (top - storeCount s) lent (saving s.save left-image)
-      (ap (λ (x : Saving). all_made x.save) (e ∙ last_record) ∙ le-leb (storeCount s) (storeCount s) (le_refl (storeCount s)))
+      ∙ no_more (store_count s) (top - store_count s) lent (saving s.save left-image)
+      (ap (λ (x : Saving). all_made x.save) (e ∙ last_record) ∙ le-leb (store_count s) (store_count s) (le_refl (store_count s)))
       ∙ e
       ∙ last_record
 
-  second_is : stepped_after top beginning (imageAfter s k) other ≡ stepped_with (answer (recordAt s (storeCount s))) (imageAfter s (storeCount s)) again.0
+  second_is : stepped_after top beginning (image_after s k) other ≡ stepped_with (answer (record_at s (store_count s))) (image_after s (store_count s)) again.0
   second_is =
       ap (λ (i : List ℕ). stepped_after top beginning i other) at_most
       ∙ ap (steps_of top left-image other) again.1
       ∙ ap (λ (x : Saving). stepped_with (answer x.save) x.image again.0) (all-steps again.0 again.2)
 
-  both_are : anew_over beginning other (answer (afterSteps s k).save) (imageAfter s k) s.lent
-      ≡ anew_with (answer (recordAt s (min k (storeCount s)))) (answer (recordAt s (storeCount s))) (imageAfter s (storeCount s)) s.lent again.0
+  both_are : anew_over beginning other (answer (after_steps s k).save) (image_after s k) s.lent
+      ≡ anew_with (answer (record_at s (min k (store_count s)))) (answer (record_at s (store_count s))) (image_after s (store_count s)) s.lent again.0
   both_are =
-      ap (λ (r : Save). anew_over beginning other (answer r) (imageAfter s k) s.lent) (counted s free beginning d k)
-      ∙ ap (λ (x : Stepped). anew_with (answer (recordAt s (min k (storeCount s)))) x.outcome x.image s.lent x.scratch) second_is
+      ap (λ (r : Save). anew_over beginning other (answer r) (image_after s k) s.lent) (counted s free beginning d k)
+      ∙ ap (λ (x : Stepped). anew_with (answer (record_at s (min k (store_count s)))) x.outcome x.image s.lent x.scratch) second_is
 
 module _ (runs : Which → List ℕ) (calls : List CallOn) (page start place k : ℕ) (image scratch other : List ℕ) (x : Anew) where
   abbrev beginning : List ℕ → List ℕ → Outcome (With Save (List ℕ))

@@ -21,7 +21,7 @@ use Rattle.fsm_sections.proofs.SectionsLaws.{section_form}
 use Rattle.save_step.specs.declared.Save.{Save}
 use Rattle.save_step.specs.Steps.{Saving, saving, steps, go_on}
 use Rattle.save.specs.Saving.{begun}
-use Rattle.save.specs.EveryCut.{OneSave, one_save, storeCount, afterSteps, recordAt, metadataSlot, rawSlot, largeSlot, plannedInSlots, plannedSections, plannedCounts, Room, EveryCut}
+use Rattle.save.specs.EveryCut.{OneSave, one_save, store_count, after_steps, record_at, metadata_slot, raw_slot, large_slot, planned_in_slots, planned_sections, planned_counts, Room, EveryCut}
 use Rattle.save.proofs.AfterCallsLaws.{every-cut-after-calls}
 use Rattle.fsm_blocks.specs.declared.checks.Reading.TheVariants.{Loose}
 use Rattle.image.specs.Reading.{Listed, in_slot, image_into}
@@ -42,10 +42,10 @@ read_is x o e = (ap (λ (q : Left (List ℕ) (List ℕ)). q.outcome) e, ap (λ (
 
 module _ (s : OneSave) (free : ℕ → Bool) (beginning : List ℕ → List ℕ → Outcome (With Save (List ℕ))) (d : EveryCut s free beginning) where
   abbrev t : ℕ
-  t = storeCount s
+  t = store_count s
 
   abbrev at : ℕ → Saving
-  at = afterSteps s
+  at = after_steps s
 
   unchanged_image : (at 0).image ≡ s.image
   unfolding steps
@@ -65,21 +65,21 @@ module _ (s : OneSave) (free : ℕ → Bool) (beginning : List ℕ → List ℕ 
   same_after k h = let e : k ≡ t + (k - t) = omega arith in ap at e ∙ later (k - t)
 
   -- the record after k steps
-  pub counted : (k : ℕ) → (at k).save ≡ recordAt s (min k t)
+  pub counted : (k : ℕ) → (at k).save ≡ record_at s (min k t)
   counted k = ⊎_elim
-      (λ (h : k ≤ t). let e : k ≡ min k t = omega arith in ap (λ (q : Saving). q.save) (d.bookkeeping.made k h) ∙ ap (recordAt s) e)
+      (λ (h : k ≤ t). let e : k ≡ min k t = omega arith in ap (λ (q : Saving). q.save) (d.bookkeeping.made k h) ∙ ap (record_at s) e)
       (λ (h : t < k).
       let e : t ≡ min k t = omega arith in
-      ap (λ (q : Saving). q.save) (same_after k (omega arith) ∙ d.bookkeeping.made t (le_refl t)) ∙ ap (recordAt s) e)
+      ap (λ (q : Saving). q.save) (same_after k (omega arith) ∙ d.bookkeeping.made t (le_refl t)) ∙ ap (record_at s) e)
       (le-or-lt k t)
 
-  held : (b : ℕ) → holding b (plannedSections s) ≡ cond (free b) 1 0
+  held : (b : ℕ) → holding b (planned_sections s) ≡ cond (free b) 1 0
   held b =
-      let e : map (λ x. x.found) (plannedInSlots s) ≡ plannedSections s =
-      found-slot 0 (metadataSlot s) (in_slot 2 (rawSlot s) ++ in_slot 6 (largeSlot s))
-      ∙ ap (λ (q : List FreeSection). metadataSlot s ++ q)
-      (found-slot 2 (rawSlot s) (in_slot 6 (largeSlot s)) ∙ ap (λ (q : List FreeSection). rawSlot s ++ q) (found-last 6 (largeSlot s))) in
-      ap (holding b) (sym e) ∙ d.each-once b
+      let e : map (λ x. x.found) (planned_in_slots s) ≡ planned_sections s =
+      found-slot 0 (metadata_slot s) (in_slot 2 (raw_slot s) ++ in_slot 6 (large_slot s))
+      ∙ ap (λ (q : List FreeSection). metadata_slot s ++ q)
+      (found-slot 2 (raw_slot s) (in_slot 6 (large_slot s)) ∙ ap (λ (q : List FreeSection). raw_slot s ++ q) (found-last 6 (large_slot s))) in
+      ap (holding b) (sym e) ∙ d.each_once b
 
   module _ (k : ℕ) (out : List ℕ) where
     abbrev x : Cut
@@ -88,9 +88,9 @@ module _ (s : OneSave) (free : ℕ → Bool) (beginning : List ℕ → List ℕ 
     reading : (o : Outcome (With (List ℕ) (List ℕ))) → image_into Loose s.place (at k).image out ≡ o → (x.read ≡ (leaving out o).outcome) × (x.out ≡ (leaving out o).memory)
     reading o e = read_is x (leaving out o) (ap (leaving out) e)
 
-    last-read : t ≤ k → Room s out → (x.read ≡ answer (plannedCounts s)) × (x.out ≡ over 0 (flat (plannedSections s)) out)
+    last-read : t ≤ k → Room s out → (x.read ≡ answer (planned_counts s)) × (x.out ≡ over 0 (flat (planned_sections s)) out)
     last-read h room =
-        reading (answer (with (plannedCounts s) (over 0 (flat (plannedSections s)) out)))
+        reading (answer (with (planned_counts s) (over 0 (flat (planned_sections s)) out)))
         (ap (λ (q : Saving). image_into Loose s.place q.image out) (same_after k h) ∙ d.into.after_last Loose out room)
 
     shown : Shown s free beginning k out x
@@ -98,7 +98,7 @@ module _ (s : OneSave) (free : ℕ → Bool) (beginning : List ℕ → List ℕ 
       demand = d;
       record_is = ap answer (counted k);
       image-is = refl;
-      scratch-is = refl;
+      scratch_is = refl;
       reading_is = refl;
       nothing_stored = λ z. (
         ap (λ (n : ℕ). (at n).image) z ∙ unchanged_image,
@@ -106,9 +106,9 @@ module _ (s : OneSave) (free : ℕ → Bool) (beginning : List ℕ → List ℕ 
       );
       in_between = λ l h e. reading (answer (with (replicate 12 0) out)) (d.into.in_between Loose k l h out e);
       after_last = last-read;
-      each-once = λ h room b.
-          ap (λ (o : List ℕ). holding b (decode (length (plannedSections s)) o)) (last-read h room).1
-          ∙ ap (holding b) (decode-put section_form (plannedSections s) out (omega (arith, room.1)))
+      each_once = λ h room b.
+          ap (λ (o : List ℕ). holding b (decode (length (planned_sections s)) o)) (last-read h room).1
+          ∙ ap (holding b) (decode-put section_form (planned_sections s) out (omega (arith, room.1)))
           ∙ held b;
     }
 

@@ -1,7 +1,7 @@
 -- DEMAND 3 with paged calls anywhere among the list calls, each counted as the list calls that it is made of (document 02, P4: "What the door
 -- does to a list counts in the history as the list call that does it"). Assumes nothing.
 --   begun_empty           three lists begun empty, with any marks
---   EveryCutAfterSteps   what demand 3 says (save, specs/EveryCut.antt, `EveryCutAfterCalls`), of the lists that such calls leave
+--   EveryCutAfterSteps    what demand 3 says (save, specs/EveryCut.antt, `EveryCutAfterCalls`), of the lists that such calls leave
 use Rattle.std.specs.Prelude.{ℕ, ◌^◌, ◌<◌, ◌≡◌, List}
 use Rattle.error.specs.Outcome.{answer}
 use Rattle.error.specs.Lent.{with}

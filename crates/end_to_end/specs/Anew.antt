@@ -1,18 +1,18 @@
 -- A save cut after k steps, and a fresh save of the same lists over what the cut left, with another scratch. Assumes nothing.
 -- In quotes: the user's words for demand 3. `beginning` says how a save of the lists begins, by image and scratch.
---   Stepped       what a beginning and steps come to: the record after the steps or the beginning's refusal, and image and scratch as they are left
+--   Stepped        what a beginning and steps come to: the record after the steps or the beginning's refusal, and image and scratch as they are left
 --   stepped_with   these together
 --   steps_of       k steps of what a beginning gave; where it was refused, image and scratch are as they were
 --   stepped_after  a beginning and k steps of it
 --   stepped_by     the code's answer, with the memory that it leaves
---   Anew          what both saves come to: the records after their steps or their refusals, and image and both scratches as they are left
+--   Anew           what both saves come to: the records after their steps or their refusals, and image and both scratches as they are left
 --   anew_with      these together
 --   anew_over      the second save, with all its steps, over what the first left; where the first was refused, none is begun, and it has that
 --                 refusal
 --   anew_after     `call_save_anew`, of the lists that its calls leave: the first save cut after k steps, and the second. Of this 2^64 - 1 steps
 --                 are made; those after its last store change nothing
 --   anew_by        the code's answer, with the memory that it leaves
---   EndsUncut     of calls, a save of what they leave, and k steps of it:
+--   EndsUncut      of calls, a save of what they leave, and k steps of it:
 --     uncut         "A fresh save over any remainder ends in the uncut image": where the first beginning is accepted and the other scratch has
 --                   room, the image at the end is the one that all steps of the first save would leave, and so is the second record; the first
 --                   record is that after k steps
@@ -29,7 +29,7 @@ use Rattle.save_step.specs.declared.Save.{Save}
 use Rattle.save_step.specs.Steps.{saving, steps}
 use Rattle.save.specs.declared.Begin.{Begin}
 use Rattle.save.specs.Saving.{begun, begin_outcome}
-use Rattle.save.specs.EveryCut.{one_save, blocks, storeCount, imageAfter, recordAt}
+use Rattle.save.specs.EveryCut.{one_save, blocks, store_count, image_after, record_at}
 use Rattle.end_to_end.specs.declared.anew.SavedAnew.{SavedAnew}
 use Rattle.end_to_end.specs.Demanded.{lists}
 
@@ -87,6 +87,6 @@ pub record EndsUncut (runs : Which → List ℕ) (calls : List CallOn) (page sta
   pub uncut : (save : Save) (lent : List ℕ) → begun (lists runs calls) page start place image scratch ≡ answer (with save lent)
       → let s = one_save (regions_in (lists runs calls)) page start place image save lent in
       length (blocks s) + message_len ≤ length other
-      → (x.image ≡ imageAfter s (storeCount s)) × (x.second ≡ answer (recordAt s (storeCount s))) × (x.first ≡ answer (recordAt s (min k (storeCount s))))
+      → (x.image ≡ image_after s (store_count s)) × (x.second ≡ answer (record_at s (store_count s))) × (x.first ≡ answer (record_at s (min k (store_count s))))
   pub refused : (n : ℕ) (vs : List ℕ) → begun (lists runs calls) page start place image scratch ≡ refuse n vs
       → x ≡ anew_with (refuse n vs) (refuse n vs) image scratch other

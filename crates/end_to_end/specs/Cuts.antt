@@ -1,6 +1,6 @@
 -- A save cut after k steps, and the reading of the image that the cut leaves (document 01, "The save": "A cut leaves the first k stores").
 -- Assumes nothing.
---   Cut        what a save that was begun, cut and read comes to: the record after its steps or the beginning's refusal, the reading's counts or
+--   Cut         what a save that was begun, cut and read comes to: the record after its steps or the beginning's refusal, the reading's counts or
 --              its refusal, and image, scratch and the run of sections as they are left
 --   cut_with    these together
 --   cut_after   what a beginning comes to: where it was accepted, k steps and then a loose reading at a place; where it was refused, its refusal for

@@ -2,11 +2,11 @@
 -- In quotes: document 01's words, from "The save".
 --   Shown      of a save that was begun, with what is free and how it begins again as in save, specs/EveryCut.antt, and of k steps of it:
 --     demand       demand 3 holds of this save
---     record_is, image-is, scratch-is, reading_is   what the code answers and leaves is what demand 3 speaks of, after k steps
+--     record_is, image-is, scratch_is, reading_is   what the code answers and leaves is what demand 3 speaks of, after k steps
 --     nothing_stored   no step: the image is as it was, and reads as before, refusals too
 --     in_between   from the first store to the last but one: no sections
 --     after_last   from the last store on: exactly the plan's sections stand in the lent run, and their counts are answered
---     each-once    of the sections that then stand in the lent run, exactly one holds each free byte, and none any other byte
+--     each_once    of the sections that then stand in the lent run, exactly one holds each free byte, and none any other byte
 --   lists      the lists that calls leave
 --   Demanded   of calls, a save of what they leave, and k steps of it:
 --     accepted     if the code answers a record, the beginning was accepted ("not the program's word")
@@ -22,21 +22,21 @@ use Rattle.fsm_sections.specs.Sections.{decode, flat}
 use Rattle.fsm_sections.specs.Pages.{holding}
 use Rattle.save_step.specs.declared.Save.{Save}
 use Rattle.save.specs.Saving.{begun}
-use Rattle.save.specs.EveryCut.{OneSave, one_save, storeCount, imageAfter, recordAt, plannedSections, plannedCounts, Room, EveryCut}
+use Rattle.save.specs.EveryCut.{OneSave, one_save, store_count, image_after, record_at, planned_sections, planned_counts, Room, EveryCut}
 use Rattle.fsm_blocks.specs.declared.checks.Reading.TheVariants.{Loose}
 use Rattle.image.specs.Reading.{image_into}
 use Rattle.end_to_end.specs.Cuts.{Cut, cut_with}
 
 pub record Shown (s : OneSave) (free : ℕ → Bool) (beginning : List ℕ → List ℕ → Outcome (With Save (List ℕ))) (k : ℕ) (out : List ℕ) (x : Cut) : Type 0 where
   pub demand : EveryCut s free beginning
-  pub record_is : x.outcome ≡ answer (recordAt s (min k (storeCount s)))
-  pub image-is : x.image ≡ imageAfter s k
-  pub scratch-is : x.scratch ≡ s.lent
-  pub reading_is : left x.read x.out ≡ leaving out (image_into Loose s.place (imageAfter s k) out)
+  pub record_is : x.outcome ≡ answer (record_at s (min k (store_count s)))
+  pub image-is : x.image ≡ image_after s k
+  pub scratch_is : x.scratch ≡ s.lent
+  pub reading_is : left x.read x.out ≡ leaving out (image_into Loose s.place (image_after s k) out)
   pub nothing_stored : k ≡ 0 → (x.image ≡ s.image) × (left x.read x.out ≡ leaving out (image_into Loose s.place s.image out))
-  pub in_between : 0 < k → k < storeCount s → length out % 2 ≡ 0 → (x.read ≡ answer (replicate 12 0)) × (x.out ≡ out)
-  pub after_last : storeCount s ≤ k → Room s out → (x.read ≡ answer (plannedCounts s)) × (x.out ≡ over 0 (flat (plannedSections s)) out)
-  pub each-once : storeCount s ≤ k → Room s out → (b : ℕ) → holding b (decode (length (plannedSections s)) x.out) ≡ cond (free b) 1 0
+  pub in_between : 0 < k → k < store_count s → length out % 2 ≡ 0 → (x.read ≡ answer (replicate 12 0)) × (x.out ≡ out)
+  pub after_last : store_count s ≤ k → Room s out → (x.read ≡ answer (planned_counts s)) × (x.out ≡ over 0 (flat (planned_sections s)) out)
+  pub each_once : store_count s ≤ k → Room s out → (b : ℕ) → holding b (decode (length (planned_sections s)) x.out) ≡ cond (free b) 1 0
 
 module _ (runs : Which → List ℕ) (calls : List CallOn) where
   abbrev pub lists : Lists

@@ -1,15 +1,15 @@
 -- List calls as numbers in a lent run, four to a call: the list, the call, two arguments. Every row of calls has such numbers, so what is
 -- proved of the numbers is proved of calls "with any arguments" (document 01, "The save"). Assumes nothing.
---   which_of        the list of a number: 0 metadata, 1 raw, any other unclassified
---   call_of         the call of a number and two arguments: 0 `free`, 1 `alloc`, 2 `alloc_whole_units`, 3 `take_range`, any other `take_trailing`;
+--   which_of       the list of a number: 0 metadata, 1 raw, any other unclassified
+--   call_of        the call of a number and two arguments: 0 `free`, 1 `alloc`, 2 `alloc_whole_units`, 3 `take_range`, any other `take_trailing`;
 --                  `alloc` and `take_trailing` have one argument and leave the second out
---   call_on_of       the call that four numbers are, with its list
---   calls_of        the calls of a run, in order; fewer than four numbers at its end are none
---   runs_of         three lent runs by list
---   after_calls     `make_calls`: "three lists, each begun empty", after the calls of a run, each of which "gets its list as the last call on it
+--   call_on_of     the call that four numbers are, with its list
+--   calls_of       the calls of a run, in order; fewer than four numbers at its end are none
+--   runs_of        three lent runs by list
+--   after_calls    `make_calls`: "three lists, each begun empty", after the calls of a run, each of which "gets its list as the last call on it
 --                  left it"
---   runs_after      the runs of the three lists then
---   numbers_of      the numbers of a call and its arguments, in front of others
+--   runs_after     the runs of the three lists then
+--   numbers_of     the numbers of a call and its arguments, in front of others
 --   encoded        the numbers of calls in a row
 --   InWord         all numbers are below 2^64, as those of a lent run are
 --   Fits, AllFit   all arguments of a call, of calls, are below 2^64

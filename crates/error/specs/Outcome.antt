@@ -4,9 +4,9 @@
 --   refused     the outcome that a refusal of the code stands for ("Language forms in the code": "for every case of the enum")
 --   Condition   a test, and the refusal that is due where it holds ("each condition is exact")
 --   when        the condition of a test and a refusal
---   first_of     the refusal of the first condition that holds, or else what comes after all of them: refusals are given in the order of the
+--   first_of    the refusal of the first condition that holds, or else what comes after all of them: refusals are given in the order of the
 --               conditions ("Where several apply, the lowest number is given, unless a sequence of tests is stated")
---   and_then     what follows on an answer; a refusal or Nothing ends it ("Blocks on file": "the first refusal ends the read")
+--   and_then    what follows on an answer; a refusal or Nothing ends it ("Blocks on file": "the first refusal ends the read")
 --   sat         a count or a sum as a refusal carries it: what exceeds 2^64 - 1 stands as 2^64 - 1 ("Eight files": "on overflow, expected
 --               saturates"; a needed count of refusal 14 is cut alike, docs/DECISIONS.md)
 use Rattle.std.specs.Prelude.{ℕ, ◌-◌, ◌^◌, min, Bool, cond, List, [], ◌∷◌}

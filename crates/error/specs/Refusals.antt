@@ -1,7 +1,7 @@
 -- Each refusal's number and values, by cases. Assumes nothing.
---   number_of   the number under which a refusal is listed: 1 to 14 by document 01 ("Fourteen ways to say no"), 15 to 17 by document 02 (P4:
+--   number_of  the number under which a refusal is listed: 1 to 14 by document 01 ("Fourteen ways to say no"), 15 to 17 by document 02 (P4:
 --              "15, after 6"; P5: "16, wrong version or client, with the byte; 17, back address differs")
---   values_of   the values that it names, in its order ("A refusal carries its number and the values named"): "expected and available" of 7,
+--   values_of  the values that it names, in its order ("A refusal carries its number and the values named"): "expected and available" of 7,
 --              "the byte" of 8, 9 and 16, "stored and computed" of 11, "needed and given" of 14; the others have none
 use Rattle.std.specs.Prelude.{ℕ, List, [], ◌∷◌}
 use Rattle.error.specs.declared.Refusal.{Refusal}

@@ -8,8 +8,8 @@
 --   FieldFits   the number fits its bytes: for the proofs that a row reads back
 --   AllFit      so does every number of a row
 --   window      the n bytes from place p on
---   le_at        the number that the w bytes at place p spell
---   field_at     the number that stands in field i of fields of these widths; its place is the span of those before it
+--   le_at       the number that the w bytes at place p spell
+--   field_at    the number that stands in field i of fields of these widths; its place is the span of those before it
 use Rattle.std.specs.Prelude.{ℕ, ◌+◌, ◌^◌, ◌<◌, List, [], ◌∷◌, ◌++◌, take, drop, get_or}
 use Rattle.fields.specs.Le.{le_bytes, le_value}
 

@@ -6,13 +6,13 @@
 --   sum               `absolute`: the sum of two numbers (refusal 4: "address plus length or base")
 --   Range             the places from start up to end
 --   range             `slice_range` (refusal 4: "address plus length")
---   undefined_addr     the address of which all bits of O bytes are one: the undefined address of the HDF5 File Format Specification
---   undefined_at       `is_undefined_addr`: as the Rust's table, all ones at offset sizes 2, 4 and 8, no address at the other sizes
+--   undefined_addr    the address of which all bits of O bytes are one: the undefined address of the HDF5 File Format Specification
+--   undefined_at      `is_undefined_addr`: as the Rust's table, all ones at offset sizes 2, 4 and 8, no address at the other sizes
 --                     (refusal 1: "outside 1 to 8")
---   first_multiple     the first multiple of a page at or after a number ("The list": "the first multiple of the unit at or after the address")
---   aligned_up         `align_up`: that multiple (refusal 2: "a page size to cut or round by is 0"; refusal 4: "a rounded-up value")
---   or_top             the number that an outcome has, all ones for a refusal or Nothing: what a C interface shows of it
---   left_or_top         that number, and the lent memory
+--   first_multiple    the first multiple of a page at or after a number ("The list": "the first multiple of the unit at or after the address")
+--   aligned_up        `align_up`: that multiple (refusal 2: "a page size to cut or round by is 0"; refusal 4: "a rounded-up value")
+--   or_top            the number that an outcome has, all ones for a refusal or Nothing: what a C interface shows of it
+--   left_or_top       that number, and the lent memory
 --   range_outcome, undefined_outcome   the outcome that an answer of the code stands for ("Language forms": "for every case of the enum")
 use Rattle.std.specs.Prelude.{ℕ, ◌+◌, ◌-◌, ◌*◌, ◌/◌, ◌^◌, Bool, ◌&&◌, ◌||◌, not, [], ◌∷◌, ltb, eqb}
 use Rattle.error.specs.declared.Refusal.TheVariants.{Width, Page, Overflow, Short}

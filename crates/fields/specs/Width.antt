@@ -3,7 +3,7 @@
 --   valid_width   an offset size or length size that refusal 1 lets pass ("outside 1 to 8" is refused)
 --   least_from    the first of the widths w, w + 1, .. whose bytes hold a number, w + n at the most
 --   enc_size      "`enc_size` is the least number of bytes, at least 1", that hold a 64-bit number
---   Least        what that means: at least 1, enough, and no more than any other width that is both ("Language forms": "tied to least byte count")
+--   Least         what that means: at least 1, enough, and no more than any other width that is both ("Language forms": "tied to least byte count")
 --   fshd_len      `fshd_len`: "FSHD, length 74+O"; refusal 1 outside 1 to 8
 use Rattle.std.specs.Prelude.{ℕ, zero, suc, ◌+◌, ◌^◌, ◌≤◌, ◌<◌, Bool, cond, ◌&&◌, not, [], ◌∷◌, ltb, leb}
 use Rattle.error.specs.declared.Refusal.TheVariants.{Width}

@@ -111,7 +111,7 @@ addresses-fit (a ∷ addrs) h = (h 0, addresses-fit addrs (λ i. h (suc i)))
 
 message_fits : (m : FileSpaceInfo) (addrs : List ℕ) → Stored m addrs → AllFit (message_row 8 8 m addrs)
 message_fits m addrs s =
-    (lit< tt, (omega (arith, code_le m.strategy), (flag m.persist, (s.threshold, (s.page-size, (s.page-end, (s.end_before, tail m.persist)))))))
+    (lit< tt, (omega (arith, code_le m.strategy), (flag m.persist, (s.threshold, (s.page_size, (s.page_end, (s.end_before, tail m.persist)))))))
   where
     flag : (b : Bool) → bit b < 256
     flag true = lit< tt

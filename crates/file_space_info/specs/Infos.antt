@@ -1,12 +1,12 @@
 -- The messages that the library makes, those of the four constructors of `file_space_info.rs`. Assumes nothing.
---   slot_count                 how many slots a persisting message has (document 01, "The message": "twelve slots"; HDF5 File Format
+--   slot_count                how many slots a persisting message has (document 01, "The message": "twelve slots"; HDF5 File Format
 --                             Specification, IV.A.2, File Space Info: twelve manager addresses)
---   made                      a message with page-end threshold 0 and the given other values
---   non_persistent             `non_persistent`: no manager, and the undefined address as the end before managers
---   persistent_managers        `persistent_managers`: the given slots and end before managers
---   persistent_empty           `persistent_empty`: the same with every slot and that end undefined (document 01, "The save": "unused ones all
+--   made                      a message with page_end threshold 0 and the given other values
+--   non_persistent            `non_persistent`: no manager, and the undefined address as the end before managers
+--   persistent_managers       `persistent_managers`: the given slots and end before managers
+--   persistent_empty          `persistent_empty`: the same with every slot and that end undefined (document 01, "The save": "unused ones all
 --                             one bits")
---   persistent_single_manager   `persistent_single_manager`: the same with one address in slot 0 and the others undefined
+--   persistent_single_manager `persistent_single_manager`: the same with one address in slot 0 and the others undefined
 use Rattle.std.specs.Prelude.{ℕ, ◌-◌, Bool, true, false, List, ◌∷◌, replicate}
 use Rattle.fields.specs.Ranges.{undefined_addr}
 use Rattle.file_space_info.specs.declared.FileSpaceStrategy.{FileSpaceStrategy}

@@ -1,23 +1,23 @@
 -- The File Space Info message, version 1: its bytes, and its reading (HDF5 File Format Specification, IV.A.2, File Space Info).
 -- O is the offset size, L the length size. Assumes nothing.
 -- In quotes: document 01's words, from "The message", from the refusal of that number or from the heading named.
---   shape           the widths of the fixed part's fields: "Version 1, strategy", "persist, threshold, page size, 2-byte page-end threshold,
+--   shape           the widths of the fixed part's fields: "Version 1, strategy", "persist, threshold, page size, 2-byte page_end threshold,
 --                   end before managers"
---   fixed_len        the length of the fixed part
---   message_len      the bytes of a written message with its twelve slots: "125 with twelve slots"
+--   fixed_len       the length of the fixed part
+--   message_len     the bytes of a written message with its twelve slots: "125 with twelve slots"
 --   bit             persist as it is written, 1 or 0
---   numbers_of       a message's numbers in the fields of the fixed part
---   address_row      addresses, O bytes each
---   message_row      the message as a row of fields: the fixed part, "then addresses if persist"
---   message_bytes    the message's bytes
+--   numbers_of      a message's numbers in the fields of the fixed part
+--   address_row     addresses, O bytes each
+--   message_row     the message as a row of fields: the fixed part, "then addresses if persist"
+--   message_bytes   the message's bytes
 --   serialized      `serialize`: the message, and its length: "Written fields are 8 bytes: 29 bytes, or 125 with twelve slots" (refusal 14:
 --                   "needed and given", in bytes)
---   info_with        the fixed part as it is read, with a strategy: "any nonzero persist as yes"
---   info_of          the same, with the strategy of the code that stands there
+--   info_with       the fixed part as it is read, with a strategy: "any nonzero persist as yes"
+--   info_of         the same, with the strategy of the code that stands there
 --   present         how many addresses n bytes have after the fixed part, if persist: "all whole addresses present; a partial one is ignored"
---   numbers_at       the numbers of the first n fields of w bytes each
---   fixed_tests      the refusals of the fixed part, in this order: 1, 7, 8 ("with the byte: it isn't 1"), 9
---   fixed_read       the fixed part, where they pass
+--   numbers_at      the numbers of the first n fields of w bytes each
+--   fixed_tests     the refusals of the fixed part, in this order: 1, 7, 8 ("with the byte: it isn't 1"), 9
+--   fixed_read      the fixed part, where they pass
 --   Read            what a reading answers: the fixed part, and how many addresses there are
 --   parsed          `parse`: "Reading takes the stated sizes"; the refusals of the fixed part, then 14, with the addresses present and the
 --                   places given; the addresses fill the lent memory from its front
@@ -31,9 +31,9 @@ use Rattle.fields.specs.Layout.{Field, field, row, span, layout, le_at, field_at
 use Rattle.file_space_info.specs.declared.FileSpaceInfo.{FileSpaceInfo}
 use Rattle.file_space_info.specs.declared.FileSpaceStrategy.{FileSpaceStrategy}
 use Rattle.file_space_info.specs.declared.FixedPart.{FixedPart}
-use Rattle.file_space_info.specs.declared.FixedPart.TheVariants as fixedPart
+use Rattle.file_space_info.specs.declared.FixedPart.TheVariants as fixed_part
 use Rattle.file_space_info.specs.declared.Parsed.{Parsed}
-use Rattle.file_space_info.specs.declared.Parsed.TheVariants as parsedAnswer
+use Rattle.file_space_info.specs.declared.Parsed.TheVariants as parsed_answer
 use Rattle.file_space_info.specs.Strategies.{code_of, strategy_of, code_test}
 
 -- ---- the row
@@ -109,8 +109,8 @@ unfoldable pub fixed_read : ℕ → ℕ → List ℕ → Outcome FileSpaceInfo
 fixed_read O L bs = first_of (fixed_tests O L bs) (answer (info_of O L bs))
 
 abbrev pub fixed_outcome : FixedPart → Outcome FileSpaceInfo
-fixed_outcome (fixedPart.Is m) = answer m
-fixed_outcome (fixedPart.Refused r) = refused r
+fixed_outcome (fixed_part.Is m) = answer m
+fixed_outcome (fixed_part.Refused r) = refused r
 
 pub record Read : Type 0 where
   pub info : FileSpaceInfo
@@ -124,5 +124,5 @@ parsed bs O L addrs =
     (answer (with (record { info = m; count = n }) (over 0 (numbers_at O n (drop (fixed_len O L) bs)) addrs)))
 
 abbrev pub parsed_outcome : Parsed → Outcome Read
-parsed_outcome (parsedAnswer.Message m n) = answer (record { info = m; count = n })
-parsed_outcome (parsedAnswer.Refused r) = refused r
+parsed_outcome (parsed_answer.Message m n) = answer (record { info = m; count = n })
+parsed_outcome (parsed_answer.Refused r) = refused r

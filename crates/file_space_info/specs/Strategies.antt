@@ -11,7 +11,7 @@ use Rattle.error.specs.Outcome.{Outcome, answer, refused, Condition, when, first
 use Rattle.file_space_info.specs.declared.FileSpaceStrategy.{FileSpaceStrategy}
 use Rattle.file_space_info.specs.declared.FileSpaceStrategy.TheVariants.{FsmAggr, Page, Aggr, None}
 use Rattle.file_space_info.specs.declared.StrategyAnswer.{StrategyAnswer}
-use Rattle.file_space_info.specs.declared.StrategyAnswer.TheVariants as strategyAnswer
+use Rattle.file_space_info.specs.declared.StrategyAnswer.TheVariants as strategy_answer
 
 abbrev pub code_of : FileSpaceStrategy → ℕ
 code_of FsmAggr = 0
@@ -32,5 +32,5 @@ unfoldable pub from_code : ℕ → Outcome FileSpaceStrategy
 from_code c = first_of (code_test c ∷ []) (answer (strategy_of c))
 
 abbrev pub strategy_outcome : StrategyAnswer → Outcome FileSpaceStrategy
-strategy_outcome (strategyAnswer.Is s) = answer s
-strategy_outcome (strategyAnswer.Refused r) = refused r
+strategy_outcome (strategy_answer.Is s) = answer s
+strategy_outcome (strategy_answer.Refused r) = refused r

@@ -21,7 +21,7 @@ use Rattle.free_regions.specs.Sets.{Shared, Adds, Removes, nth, FirstMultiple}
 use Rattle.free_regions.proofs.OkLaws.{Within, ok_prop}
 use Rattle.free_regions.proofs.SetLaws.{insert-within, insert-free, taken-within, taken_free, were-free, dropped_within, dropped_free}
 use Rattle.free_regions.proofs.CutSets.{Grows, cut-all-within, cut-all-free, cut-all-long, insert-long, taken-long, dropped_long}
-use Rattle.free_regions.proofs.BestLaws.{best_none, best-at}
+use Rattle.free_regions.proofs.BestLaws.{best_none, best_at}
 use Rattle.free_regions.proofs.InteriorLaws.{first-multiple, interior-inside}
 use Rattle.free_regions.proofs.ShareLaws.{shares_byte}
 use Rattle.free_space.specs.declared.list.FreeList.{FreeList}
@@ -185,7 +185,7 @@ module _ (xs : List ℕ) (l : FreeList) (span start : FreeRegion → ℕ) (Addre
       by_found : (len ≡ 0 → ⊥) → (f : Found) → best span len 0 (regions xs l) ≡ f → ServeSays xs l span Address len part full (serve start xs l len f)
       by_found z none e = says_nothing (p, inr (best_none span len rs e))
       by_found z (at i s) e =
-          let b = best-at span len rs i s e in
+          let b = best_at span len rs i s e in
           let r = nth rs i in
           let from = start r in
           let some : 0 < len = omega arith in

@@ -22,15 +22,15 @@ module _ (xs : List ℕ) (l : FreeList) where
     pub order : Within 0 top (regions xs l)
     pub total : free_bytes l ≡ sum_of_lengths (regions xs l)
 
-  pub adds-up : is_list xs l ≡ true → AddsUp
-  adds-up ok = let q = listed xs l ok in record { order = (ok_prop 0 (regions xs l)).0 q.ok; total = q.total }
+  pub adds_up : is_list xs l ≡ true → AddsUp
+  adds_up ok = let q = listed xs l ok in record { order = (ok_prop 0 (regions xs l)).0 q.ok; total = q.total }
 
   -- every free byte lies below 2^64 - 1
   pub counts : AddsUp → (free : ℕ → Bool) → ((b : ℕ) → Free (regions xs l) b ↔ (free b ≡ true)) → free_bytes l ≡ how_many (2 ^ 64) free
   counts q free f = q.total ∙ sym (how_many_lem free top (2 ^ 64) (regions xs l) q.order (omega arith) f)
 
-  pub free-bytes_say : FreeBytesSay xs l
-  free-bytes_say = record { sum = λ ok. (adds-up ok).total; bytes = λ ok. counts (adds-up ok) }
+  pub free_bytes_say : FreeBytesSay xs l
+  free_bytes_say = record { sum = λ ok. (adds_up ok).total; bytes = λ ok. counts (adds_up ok) }
 
 -- the premise can be met: the regions (5, 3) and (10, 2) with the total 5, over a run with room for more
 abbrev two : List ℕ
@@ -41,4 +41,4 @@ unfolding is_list
 passes = refl
 
 met : free_bytes (record { count = 2; total = 5 }) ≡ sum_of_lengths (regions two (record { count = 2; total = 5 }))
-met = (free-bytes_say two (record { count = 2; total = 5 })).sum passes
+met = (free_bytes_say two (record { count = 2; total = 5 })).sum passes

@@ -28,7 +28,7 @@ use Rattle.free_lists.specs.declared.calls.ListCall.TheVariants as call
 use Rattle.free_lists.specs.Lists.{LentList, list_in, regions_of, same, Lists}
 use Rattle.free_lists.specs.History.{Effect, effect, bytes, perform, CallOn, next, lists_after, empty_lists, Last, never, was, holds, goes_over, later, last_over, was_free, ByHistory}
 use Rattle.free_lists.specs.CallsSay.{Leaves}
-use Rattle.free_lists.proofs.FreeBytesLaws.{AddsUp, adds-up, counts}
+use Rattle.free_lists.proofs.FreeBytesLaws.{AddsUp, adds_up, counts}
 use Rattle.free_lists.proofs.CallLaws.{free_law, take_law, alloc_law, units_law, trailing_law}
 
 -- whether a byte is free after the last call over it, where F tells whether it was before all of them
@@ -55,7 +55,7 @@ holds-or s e b =
 module _ (c : ListCall) (l : LentList) (s e : ℕ) (ys : List ℕ) (m : FreeList) where
   adds : was_free (was c) ≡ true → Leaves (Adds s e) l.run l.list ys m → Good c l (record { outcome = answer (bytes s e); left = list_in ys m })
   adds y p = record {
-    sum = λ q. adds-up ys m p.left;
+    sum = λ q. adds_up ys m p.left;
     list = p.left ∙ sym p.given;
     free = λ b.
         let q = p.bytes b in
@@ -67,7 +67,7 @@ module _ (c : ListCall) (l : LentList) (s e : ℕ) (ys : List ℕ) (m : FreeList
 
   removes : was_free (was c) ≡ false → Leaves (Removes s e) l.run l.list ys m → Good c l (record { outcome = answer (bytes s e); left = list_in ys m })
   removes y p = record {
-    sum = λ q. adds-up ys m p.left;
+    sum = λ q. adds_up ys m p.left;
     list = p.left ∙ sym p.given;
     free = λ b.
         let q = p.bytes b in
@@ -130,10 +130,10 @@ module _ (i : Which) where
   after_list [] ls = refl
   after_list (c ∷ cs) ls = after_list cs (next c ls) ∙ (iteration c ls).list
 
-  after-sum : (cs : List CallOn) (ls : Lists) → Sums (ls i) → Sums (lists_after cs ls i)
+  after_sum : (cs : List CallOn) (ls : Lists) → Sums (ls i) → Sums (lists_after cs ls i)
   unfolding lists_after
-  after-sum [] ls q = q
-  after-sum (c ∷ cs) ls q = after-sum cs (next c ls) ((iteration c ls).sum q)
+  after_sum [] ls q = q
+  after_sum (c ∷ cs) ls q = after_sum cs (next c ls) ((iteration c ls).sum q)
 
   after_free : (cs : List CallOn) (ls : Lists) (b : ℕ) → Free (regions_of (lists_after cs ls i)) b ↔ Now (last_over i b cs ls) (Free (regions_of (ls i)) b)
   unfolding lists_after last_over
@@ -195,7 +195,7 @@ module _ (runs : Which → List ℕ) (cs : List CallOn) where
       (λ f. q.0 (r.0 f), λ f. r.1 (q.1 f))
 
   sums : (i : Which) → Sums (lists_after cs (empty_lists runs) i)
-  sums i = after-sum i cs (empty_lists runs) (record { order = tt; total = refl })
+  sums i = after_sum i cs (empty_lists runs) (record { order = tt; total = refl })
 
   pub history : ByHistory runs cs
   history = record {

@@ -155,8 +155,8 @@ module _ (ls : Lists) where
     either_no true t e = true_not_false true refl e
     either_no false t e = (refl, e)
 
-    abbrev rest-no : (share_bytes (of Metadata) (of Unclassified) ≡ false) × (share_bytes (of Raw) (of Unclassified) ≡ false)
-    rest-no = either_no (share_bytes (of Metadata) (of Unclassified)) (share_bytes (of Raw) (of Unclassified))
+    abbrev rest_no : (share_bytes (of Metadata) (of Unclassified) ≡ false) × (share_bytes (of Raw) (of Unclassified) ≡ false)
+    rest_no = either_no (share_bytes (of Metadata) (of Unclassified)) (share_bytes (of Raw) (of Unclassified))
         (either_no (share_bytes (of Metadata) (of Raw)) (share_bytes (of Metadata) (of Unclassified) || share_bytes (of Raw) (of Unclassified)) no).1
 
     not_common : (i j : Which) → share_bytes (of i) (of j) ≡ false → Common (Free (of i)) (Free (of j)) → ⊥
@@ -166,10 +166,10 @@ module _ (ls : Lists) where
     meta-raw = not_common Metadata Raw (either_no (share_bytes (of Metadata) (of Raw)) (share_bytes (of Metadata) (of Unclassified) || share_bytes (of Raw) (of Unclassified)) no).0
 
     meta-unclassified : Common (Free (of Metadata)) (Free (of Unclassified)) → ⊥
-    meta-unclassified = not_common Metadata Unclassified rest-no.0
+    meta-unclassified = not_common Metadata Unclassified rest_no.0
 
     raw-unclassified : Common (Free (of Raw)) (Free (of Unclassified)) → ⊥
-    raw-unclassified = not_common Raw Unclassified rest-no.1
+    raw-unclassified = not_common Raw Unclassified rest_no.1
 
     pub none-shared : TwoShare ls → ⊥
     none-shared (Metadata, Metadata, e, q) = true_not_false true refl e

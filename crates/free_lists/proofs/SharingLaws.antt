@@ -120,27 +120,27 @@ module _ (xs ys zs : List ℕ) (f : FileLists) where
       let q = and_true (is_list ys f.raw) (is_list zs f.unclassified) p.1 in
       record { meta = in_order xs f.metadata p.0; raw = in_order ys f.raw q.0; unclassified = in_order zs f.unclassified q.1 }
 
-  pub apart-not : {b : Bool} → b ≡ are_lists ls → b ≡ false → refused NotAList ≡ together ls
-  apart-not e h = sym (first_holds _ _ _ _ (ap not (sym e ∙ h)))
+  pub apart_not : {b : Bool} → b ≡ are_lists ls → b ≡ false → refused NotAList ≡ together ls
+  apart_not e h = sym (first_holds _ _ _ _ (ap not (sym e ∙ h)))
 
-  pub apart-shared : {b s : Bool} → b ≡ are_lists ls → b ≡ true → s ≡ shared_byte (regions_in ls) → s ≡ true → refused SharedAddress ≡ together ls
-  apart-shared e h f g = sym (first_passes _ _ _ _ (ap not (sym e ∙ h)) ∙ first_holds _ _ _ _ (sym f ∙ g))
+  pub apart_shared : {b s : Bool} → b ≡ are_lists ls → b ≡ true → s ≡ shared_byte (regions_in ls) → s ≡ true → refused SharedAddress ≡ together ls
+  apart_shared e h f g = sym (first_passes _ _ _ _ (ap not (sym e ∙ h)) ∙ first_holds _ _ _ _ (sym f ∙ g))
 
-  pub apart-fine : {b s : Bool} → b ≡ are_lists ls → b ≡ true → s ≡ shared_byte (regions_in ls) → s ≡ false → answer tt ≡ together ls
-  apart-fine e h f g = sym (first_pass (apart ls) (answer tt) (ap not (sym e ∙ h), (sym f ∙ g, tt)))
+  pub apart_fine : {b s : Bool} → b ≡ are_lists ls → b ≡ true → s ≡ shared_byte (regions_in ls) → s ≡ false → answer tt ≡ together ls
+  apart_fine e h f g = sym (first_pass (apart ls) (answer tt) (ap not (sym e ∙ h), (sym f ∙ g, tt)))
 
   -- what the answer of the test tells
   module _ {o : Checked} (a : checked_outcome o ≡ together ls) where
     none : o ≡ checked.Passed → NoneHolds (apart ls)
     none h = (first_answers (apart ls) tt tt (sym a ∙ ap checked_outcome h)).0
 
-    pub fine-order : o ≡ checked.Passed → AllInOrder xs ys zs (counts_of f)
-    fine-order h = lists-order refl (not-false (are_lists ls) (none h).0)
+    pub fine_order : o ≡ checked.Passed → AllInOrder xs ys zs (counts_of f)
+    fine_order h = lists-order refl (not-false (are_lists ls) (none h).0)
 
     pub start_is : (eof n : ℕ) → o ≡ checked.Passed → n ≡ walk eof (falling (remaining xs ys zs (counts_of f))) → answer n ≡ run_start ls eof
     unfolding run_start
     start_is eof n h e = ap answer e ∙ sym (first_pass (apart ls) _ (none h))
 
-    pub start-refused : (eof : ℕ) (x : Refusal) → o ≡ checked.Refused x → refused x ≡ run_start ls eof
+    pub start_refused : (eof : ℕ) (x : Refusal) → o ≡ checked.Refused x → refused x ≡ run_start ls eof
     unfolding run_start
-    start-refused eof x h = first_refuses (apart ls) tt x _ (sym (ap checked_outcome h) ∙ a)
+    start_refused eof x h = first_refuses (apart ls) tt x _ (sym (ap checked_outcome h) ∙ a)

@@ -17,7 +17,7 @@
 --   holds, goes_over  a range holds a byte; an accepted call goes over it
 --   last_over       "the last accepted call over that byte made on that list"
 --   was_free        that call "was a `free`"
---   free_by_history  "Free by history"
+--   free_by_history "Free by history"
 --   ByHistory       what calls in a row on lists begun empty leave: lists, which hold what is free by history, and whose totals are its count
 --                   (the law `history`)
 use Rattle.std.specs.Prelude.{ℕ, ◌+◌, ◌%◌, ◌^◌, ◌≡◌, ◌↔◌, Bool, true, false, cond, ◌&&◌, ◌||◌, List, [], ◌∷◌, leb, ltb, eqb, length}

@@ -79,8 +79,8 @@ module _ (span : FreeRegion → ℕ) (len : ℕ) where
   pub best_none : (rs : List FreeRegion) → best span len 0 rs ≡ none → NoneSuffices span len rs
   best_none rs e = subst (Finds 0 rs) e (finds 0 rs)
 
-  pub best-at : (rs : List FreeRegion) (i s : ℕ) → best span len 0 rs ≡ at i s → Best span len rs i
-  best-at rs i s e =
+  pub best_at : (rs : List FreeRegion) (i s : ℕ) → best span len 0 rs ≡ at i s → Best span len rs i
+  best_at rs i s e =
       let q : FoundAt 0 rs i s = subst (Finds 0 rs) e (finds 0 rs) in
       let o : q.off ≡ i = omega (arith, q.place) in
       subst (Best span len rs) o q.is

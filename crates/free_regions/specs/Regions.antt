@@ -4,8 +4,8 @@
 --   end        one past a region's last byte ("FreeRegion answers its end")
 --   In, Free   a byte lies in a region; in some region of a list: the free bytes
 --   sum_of_lengths   what the lengths of a list of regions add up to (document 02, P1: "what adding all lengths would give")
---   fits_from   a region that begins at a place or later, is not empty and ends within 64 bits (refusal 3: "length 0 or ends above 2^64−1")
---   ok_from     regions in order, each after the end of the one before (refusal 3: "with a gap of at least one byte")
+--   fits_from  a region that begins at a place or later, is not empty and ends within 64 bits (refusal 3: "length 0 or ends above 2^64−1")
+--   ok_from    regions in order, each after the end of the one before (refusal 3: "with a gap of at least one byte")
 --   meets      two regions share a byte (refusal 13: "meets the message")
 --   shares     a region shares a byte with one of a list (refusal 5: "freed bytes are already free")
 --   share_bytes   two lists share a byte (refusal 5: "given together share a byte")
@@ -14,12 +14,12 @@
 --   insert     a list with a region put in (`free`: "touching regions fold into one")
 --   cut        what is left of a region outside a range
 --   absorb     a region with those that it reaches folded into it
---   cut_all     a list without the bytes of a range (`take_range`: "removes the free bytes within the range")
+--   cut_all    a list without the bytes of a range (`take_range`: "removes the free bytes within the range")
 --   around     what is left of a region on either side of a range within it (an allocation: "served from its front", or "its leftovers")
 --   spliced    a list with the regions from a place up to another replaced ("Eight files": "`splice` a shift within them")
 --   Found, best   the place of the region of which the fewest bytes suffice ("smallest region that is long enough, lowest on a tie"; "The least
 --              interior that suffices serves, lowest on a tie")
---   one_at      what the region at a place finds by itself: nothing where it does not suffice
+--   one_at     what the region at a place finds by itself: nothing where it does not suffice
 --   lower      the better of what is found at a lower place and what is found above it ("lowest on a tie")
 use Rattle.std.specs.Prelude.{ℕ, suc, ◌+◌, ◌-◌, ◌≤◌, ◌<◌, min, max, Bool, true, false, cond, ◌&&◌, ◌||◌, List, [], ◌∷◌, ◌++◌, ◌⊎◌, leb, ltb, eqb, take, drop}
 use Rattle.fields.specs.Ranges.{top}

@@ -1,5 +1,5 @@
 -- Free bytes, ranges and multiples as facts: what the laws of the list calls are stated in. Assumes nothing.
---   how_many          the number of places below a bound for which a test holds
+--   how_many         the number of places below a bound for which a test holds
 --   Between          a byte lies from a place up to another
 --   Common           some byte is one of two sets
 --   Shared           some byte from a place up to another is free

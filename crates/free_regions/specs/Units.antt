@@ -3,8 +3,8 @@
 --   last_multiple      the last multiple of a unit at or before a number
 --   interior_start     "the first multiple of the unit at or after the address"
 --   interior_span      the bytes from there "to the last at or before the end"; 0 where there is no interior
---   Whole             an interior's start and span
---   interior          `aligned_interior`: refusal 4 where the region ends above 2^64 - 1; Nothing where there is none ("An aligned start beyond
+--   Whole              an interior's start and span
+--   interior           `aligned_interior`: refusal 4 where the region ends above 2^64 - 1; Nothing where there is none ("An aligned start beyond
 --                     2^64−1, or unit 0, means no interior")
 --   interior_outcome   the outcome that an answer of the code stands for ("Language forms": "interior answered as an enum")
 use Rattle.std.specs.Prelude.{ℕ, ◌-◌, ◌*◌, ◌/◌, cond, [], ◌∷◌, ltb, eqb}

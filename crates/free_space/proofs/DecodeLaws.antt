@@ -15,7 +15,7 @@ region_form = record {
   first = λ r. r.addr;
   second = λ r. r.len;
   first_made = λ a b. refl;
-  second-made = λ a b. refl;
+  second_made = λ a b. refl;
   made = λ r. refl;
 }
 

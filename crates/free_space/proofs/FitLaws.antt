@@ -6,7 +6,7 @@ use Rattle.error.proofs.TestLaws.{le-or-lt}
 use Rattle.free_regions.specs.declared.FreeRegion.{FreeRegion}
 use Rattle.free_regions.specs.Regions.{region, Found, none, at, one_at, lower, best}
 use Rattle.free_regions.specs.Sets.{nth}
-use Rattle.free_regions.proofs.BestLaws.{best-at}
+use Rattle.free_regions.proofs.BestLaws.{best_at}
 use Rattle.pairs.proofs.PairLaws.{length-decode, decode-at, decode-drop, decode-end}
 use Rattle.free_space.specs.declared.list.FreeList.{FreeList}
 use Rattle.free_space.specs.declared.fit.Search.{Search}
@@ -134,7 +134,7 @@ finds measure xs l len b s ok e is = ⊎_elim none_left served (le-or-lt (2 ^ 64
         let i = b.index in
         let room = (listed xs l ok).room in
         let found = e ∙ so_far-at len b h in
-        let t = best-at measure len (decode n xs) i (b.slack + len) found in
+        let t = best_at measure len (decode n xs) i (b.slack + len) found in
         let below : i < n = omega (arith, t.there, length-decode region n xs room) in
         let g : nth (decode n xs) i ≡ region_at xs i = decode-at region n i xs (region 0 0) below room in
         subst⁻¹ (Finds measure xs l len) (is ∙ sym (found_at len b h))

@@ -12,7 +12,7 @@
 --   placed        the same with its refusal 14, which is given only where they do not fit ("a 14 while unused pairs suffice" is wrong)
 --   keeping, giving   the record alone; the record with an address given out
 --   freed_regions, left_regions   the regions after `free`; after `take_range`
---   without         the regions after an allocation from the region at a place
+--   without       the regions after an allocation from the region at a place
 --   serve         the outcome of an allocation, by the region that was found: "If its leftovers make a 14, no other region is tried"
 --   last_ends_at  the last region "ends exactly at the given end of file"
 --   freed         `free`: "length 0 changes nothing. Otherwise touching regions fold into one"; refusals 3, 4, 5, 14

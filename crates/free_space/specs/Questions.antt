@@ -3,7 +3,7 @@
 --   free_bytes       `free_bytes`: the total that the record carries (document 02, P1: "The question reads only that number and never refuses")
 --   greatest         the greatest that a measure gives on the regions of a list, 0 on none
 --   largest_of       `largest`: the longest region's length; refusal 3
---   largest_units_of   `largest_whole_units`: the longest aligned interior; refusal 3
+--   largest_units_of `largest_whole_units`: the longest aligned interior; refusal 3
 use Rattle.std.specs.Prelude.{ℕ, max, List, [], ◌∷◌}
 use Rattle.error.specs.Outcome.{Outcome, answer, first_of}
 use Rattle.free_regions.specs.declared.FreeRegion.{FreeRegion}

@@ -20,7 +20,7 @@ use Rattle.fields.proofs.WidthLaws.{enc_size-least}
 use Rattle.fsm_sections.specs.declared.FreeSection.{FreeSection}
 use Rattle.fsm_sections.specs.Sections.{with_size}
 use Rattle.fsm_sections.proofs.SectionsLaws.{length-with_size}
-use Rattle.fsm_blocks.specs.Groups.{Widths, entrySize, head_size, readMore, parseGroups}
+use Rattle.fsm_blocks.specs.Groups.{Widths, entry_size, head_size, read_more, parse_groups}
 use Rattle.fsm_blocks.specs.declared.header.FsmHeader.{FsmHeader}
 use Rattle.fsm_blocks.specs.declared.groups.GroupWidths.{GroupWidths}
 use Rattle.fsm_blocks.specs.Parts.{counted, addresses, widths_in, Narrow, WidthsOf}
@@ -47,7 +47,7 @@ length-addresses w zero bs = refl
 length-addresses w (suc c) bs = ap suc (length-addresses w c (drop (suc w) bs))
 
 module _ (s : List ℕ) (w : Widths) (some : 0 < head_size w) (at left : ℕ) (p : 0 < left) where
-  pub short-at : length s - at < head_size w → parseGroups w left (drop at s) ≡ refused InvalidManager
+  pub short-at : length s - at < head_size w → parse_groups w left (drop at s) ≡ refused InvalidManager
   short-at h = scan_short w some left (drop at s) p (rw length-drop h)
 
   module _ (f : head_size w ≤ length s - at) (count : ℕ) (read : count ≡ le_at at w.counts s) where
@@ -57,19 +57,19 @@ module _ (s : List ℕ) (w : Widths) (some : 0 < head_size w) (at left : ℕ) (p
     is-count : le_at 0 w.counts (drop at s) ≡ count
     is-count = le_at-drop at 0 w.counts s ∙ ap (λ (n : ℕ). le_at n w.counts s) (add-zero at) ∙ sym read
 
-    pub refused-at : (left < count) ⊎ (length s - at - head_size w < count * entrySize w) → parseGroups w left (drop at s) ≡ refused InvalidManager
+    pub refused-at : (left < count) ⊎ (length s - at - head_size w < count * entry_size w) → parse_groups w left (drop at s) ≡ refused InvalidManager
     refused-at (inl c) = scan_refused w some left (drop at s) p long (inl (rw is-count c))
     refused-at (inr c) = scan_refused w some left (drop at s) p long (inr (rw (is-count, length-drop at s) c))
 
-    pub group_at : count ≤ left → count * entrySize w ≤ length s - at - head_size w
-        → parseGroups w left (drop at s)
-        ≡ readMore w (le_at (at + w.counts) w.sizes s) (addresses w.addresses count (drop (at + head_size w) s))
-        (parseGroups w (left - count) (drop (at + head_size w + count * entrySize w) s))
+    pub group_at : count ≤ left → count * entry_size w ≤ length s - at - head_size w
+        → parse_groups w left (drop at s)
+        ≡ read_more w (le_at (at + w.counts) w.sizes s) (addresses w.addresses count (drop (at + head_size w) s))
+        (parse_groups w (left - count) (drop (at + head_size w + count * entry_size w) s))
     group_at c e =
         let step = rw is-count at (scan_step w some left (drop at s) p long (rw is-count c) (rw (is-count, length-drop at s) e)) in
-        let far : at + (head_size w + count * entrySize w) ≡ at + head_size w + count * entrySize w = omega arith in
+        let far : at + (head_size w + count * entry_size w) ≡ at + head_size w + count * entry_size w = omega arith in
         step
-        ∙ rw (le_at-drop at w.counts w.sizes s, drop-drop (head_size w) at s, drop-drop (head_size w + count * entrySize w) at s, far)
+        ∙ rw (le_at-drop at w.counts w.sizes s, drop-drop (head_size w) at s, drop-drop (head_size w + count * entry_size w) at s, far)
 
 -- ---- the loop
 
@@ -77,7 +77,7 @@ module _ (s : List ℕ) (w : Widths) (some : 0 < head_size w) (at left : ℕ) (p
 abbrev after : ℕ → Outcome (List FreeSection) → Outcome ℕ
 after n o = and_then o (λ l. answer (n + length l))
 
-after_more : (w : Widths) (m n size : ℕ) (found : List ℕ) (o : Outcome (List FreeSection)) → m + length found ≡ n → after m (readMore w size found o) ≡ after n o
+after_more : (w : Widths) (m n size : ℕ) (found : List ℕ) (o : Outcome (List FreeSection)) → m + length found ≡ n → after m (read_more w size found o) ≡ after n o
 unfolding and_then
 after_more w m n size found o h =
     then_then o _ _
@@ -90,41 +90,41 @@ after_more w m n size found o h =
 pub record Scan (s : List ℕ) (w : Widths) (total at left : ℕ) : Type 0 where
   pub within : at ≤ length s
   pub few : left ≤ total
-  pub same : counted (parseGroups w total s) ≡ after (total - left) (parseGroups w left (drop at s))
+  pub same : counted (parse_groups w total s) ≡ after (total - left) (parse_groups w left (drop at s))
 
 module _ (s : List ℕ) (w : Widths) (total : ℕ) where
   pub scan_start : Scan s w total 0 total
   scan_start = record {
     within = omega arith;
     few = le_refl total;
-    same = then_same (parseGroups w total s) _ _ (λ l. let e : length l ≡ total - total + length l = omega arith in ap answer e);
+    same = then_same (parse_groups w total s) _ _ (λ l. let e : length l ≡ total - total + length l = omega arith in ap answer e);
   }
 
   module _ (at left : ℕ) (now : Scan s w total at left) where
-    pub scan_end : left ≤ 0 → answer total ≡ counted (parseGroups w total s)
+    pub scan_end : left ≤ 0 → answer total ≡ counted (parse_groups w total s)
     unfolding and_then
     scan_end h =
         let z : left ≡ 0 = omega arith in
         let e : total - 0 + 0 ≡ total = omega arith in
         sym
         (now.same
-        ∙ ap (λ (n : ℕ). after (total - n) (parseGroups w n (drop at s))) z
+        ∙ ap (λ (n : ℕ). after (total - n) (parse_groups w n (drop at s))) z
         ∙ ap (after (total - 0)) (read_groups_zero w (length (drop at s)) (drop at s))
         ∙ ap answer e)
 
-    refuses : parseGroups w left (drop at s) ≡ refused InvalidManager → refused InvalidManager ≡ counted (parseGroups w total s)
+    refuses : parse_groups w left (drop at s) ≡ refused InvalidManager → refused InvalidManager ≡ counted (parse_groups w total s)
     unfolding and_then
     refuses e = sym (now.same ∙ ap (after (total - left)) e)
 
     module _ (some : 0 < head_size w) (p : 0 < left) where
-      pub no_head : length s - at < head_size w → refused InvalidManager ≡ counted (parseGroups w total s)
+      pub no_head : length s - at < head_size w → refused InvalidManager ≡ counted (parse_groups w total s)
       no_head h = refuses (short-at s w some at left p h)
 
       module _ (f : head_size w ≤ length s - at) (count : ℕ) (read : count ≡ le_at at w.counts s) where
-        pub beyond : left < count → refused InvalidManager ≡ counted (parseGroups w total s)
+        pub beyond : left < count → refused InvalidManager ≡ counted (parse_groups w total s)
         beyond c = refuses (refused-at s w some at left p f count read (inl c))
 
-        pub past : length s - at - head_size w < count * (w.addresses + 1) → refused InvalidManager ≡ counted (parseGroups w total s)
+        pub past : length s - at - head_size w < count * (w.addresses + 1) → refused InvalidManager ≡ counted (parse_groups w total s)
         past c = refuses (refused-at s w some at left p f count read (inr (rw add-one at c)))
 
         pub iteration : count ≤ left → count * (w.addresses + 1) ≤ length s - at - head_size w
@@ -158,8 +158,8 @@ module _ (h : FsmHeader) (few : h.addr_space_bits ≤ 64) (total : h.total_secti
     same = λ i. record { counts = p i; sizes = q i; addresses = (h.addr_space_bits + 7) / 8 };
     narrow = record {
       some = rw p (enc_some h.total_sections total);
-      counts-few = rw p (enc_few h.total_sections total);
-      sizes-few = rw q (enc_few h.max_section_size greatest);
-      addresses-few = omega arith;
+      counts_few = rw p (enc_few h.total_sections total);
+      sizes_few = rw q (enc_few h.max_section_size greatest);
+      addresses_few = omega arith;
     };
   }

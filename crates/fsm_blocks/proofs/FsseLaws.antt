@@ -14,7 +14,7 @@ use Rattle.error.specs.Outcome.{Outcome, refused, first_of, and_then}
 use Rattle.error.proofs.TestLaws.{le-or-lt, or_false}
 use Rattle.fields.specs.Layout.{window}
 use Rattle.fsm_sections.specs.declared.FreeSection.{FreeSection}
-use Rattle.fsm_blocks.specs.Groups.{Widths, parseGroups}
+use Rattle.fsm_blocks.specs.Groups.{Widths, parse_groups}
 use Rattle.fsm_blocks.specs.Fshd.{signed}
 use Rattle.fsm_blocks.specs.Fsse.{widths_of, parse_fsse}
 use Rattle.fsm_blocks.specs.declared.header.FsmHeader.{FsmHeader}
@@ -48,7 +48,7 @@ module _ (O bits greatest n : ℕ) (bs : List ℕ) where
       fsse-bits h = rw (le-ltb (length bs) (9 + O) long, sign, h)
 
       pub fsse_groups : (eqb bits 0 || ltb 64 bits) ≡ false
-          → parse_fsse O bits greatest n bs ≡ parseGroups (widths_of n greatest bits) n (window (5 + O) (length bs - (9 + O)) bs)
+          → parse_fsse O bits greatest n bs ≡ parse_groups (widths_of n greatest bits) n (window (5 + O) (length bs - (9 + O)) bs)
       unfolding parse_fsse first_of
       fsse_groups h = rw (le-ltb (length bs) (9 + O) long, sign, h)
 
@@ -74,7 +74,7 @@ module _ (O bits greatest n : ℕ) (bs : List ℕ) where
     pub bits-few : bits ≤ 64
     bits-few = few_bits bits some_bits
 
-    pub groups_of : parse_fsse O bits greatest n bs ≡ parseGroups (widths_of n greatest bits) n (window (5 + O) (length bs - (9 + O)) bs)
+    pub groups_of : parse_fsse O bits greatest n bs ≡ parse_groups (widths_of n greatest bits) n (window (5 + O) (length bs - (9 + O)) bs)
     groups_of = fsse_groups long_of signed_of some_bits
 
     -- it has as many sections as were asked for
@@ -87,15 +87,15 @@ module _ (O bits greatest n : ℕ) (bs : List ℕ) where
 -- ---- `fsse_count` and `put_fsse`: the groups as the code takes them
 
 module _ (h : FsmHeader) (O : ℕ) (bs : List ℕ) (w : Widths) (e : w ≡ widths_of h.total_sections h.max_section_size h.addr_space_bits) where
-  taken_groups : parseGroups w h.total_sections (window (5 + O) (length bs - 4 - (5 + O)) bs)
-      ≡ parseGroups (widths_of h.total_sections h.max_section_size h.addr_space_bits) h.total_sections (window (5 + O) (length bs - (9 + O)) bs)
+  taken_groups : parse_groups w h.total_sections (window (5 + O) (length bs - 4 - (5 + O)) bs)
+      ≡ parse_groups (widths_of h.total_sections h.max_section_size h.addr_space_bits) h.total_sections (window (5 + O) (length bs - (9 + O)) bs)
   taken_groups =
       let n : length bs - 4 - (5 + O) ≡ length bs - (9 + O) = omega arith in
       rw (e, n)
 
   pub groups_counted : 9 + O ≤ length bs → not (signed 70 83 83 69 bs) ≡ false → (eqb h.addr_space_bits 0 || ltb 64 h.addr_space_bits) ≡ false
-      → (r : Outcome ℕ) → r ≡ counted (parseGroups w h.total_sections (window (5 + O) (length bs - 4 - (5 + O)) bs)) → r ≡ counted (sections_by h O bs)
+      → (r : Outcome ℕ) → r ≡ counted (parse_groups w h.total_sections (window (5 + O) (length bs - 4 - (5 + O)) bs)) → r ≡ counted (sections_by h O bs)
   groups_counted long sign some r k = k ∙ ap counted (taken_groups ∙ sym (fsse_groups O _ _ _ bs long sign some))
 
-  pub groups_put : Accepted (sections_by h O bs) → parseGroups w h.total_sections (window (5 + O) (length bs - 4 - (5 + O)) bs) ≡ sections_by h O bs
+  pub groups_put : Accepted (sections_by h O bs) → parse_groups w h.total_sections (window (5 + O) (length bs - 4 - (5 + O)) bs) ≡ sections_by h O bs
   groups_put ok = taken_groups ∙ sym (groups_of O _ _ _ bs ok)

@@ -15,7 +15,7 @@ use Rattle.fields.proofs.LeLaws.{length-le}
 use Rattle.fsm_sections.specs.declared.FreeSection.{FreeSection}
 use Rattle.fsm_sections.specs.Sections.{by_size_then_addr, Group, addrs, count, push, groups_of, with_size, ungroup, All}
 use Rattle.fsm_sections.proofs.SectionsLaws.{all-sorted, length-sorted, ungroup-groups_of, length-with_size}
-use Rattle.fsm_blocks.specs.Groups.{Widths, SectionFits, entryBytes, groupBytes, entrySize, head_size, inFront, readEntries, readMore, readGroups, parseGroups}
+use Rattle.fsm_blocks.specs.Groups.{Widths, SectionFits, entry_bytes, group_bytes, entry_size, head_size, in_front, read_entries, read_more, read_groups, parse_groups}
 use Rattle.fields.proofs.LayoutLaws.{le_at-le}
 use Rattle.fsm_blocks.proofs.ScanLaws.{read_groups_zero, read_groups_suc}
 
@@ -40,31 +40,31 @@ module _ (w : Widths) where
   record GroupFits (g : Group) : Type 0 where
     pub count_fits : count g < 256 ^ w.counts
     pub size_fits : g.size < 256 ^ w.sizes
-    pub addrs-fit : All (λ a. a < 256 ^ w.addresses) (addrs g)
+    pub addrs_fit : All (λ a. a < 256 ^ w.addresses) (addrs g)
 
   -- ---- reading back
 
   entry_read : (class a c left : ℕ) (rest : List ℕ) → a < 256 ^ w.addresses
-      → readEntries w (suc c) (suc left) (le_bytes w.addresses a ++ class ∷ rest) ≡ and_then (readEntries w c left rest) (inFront w a)
-  unfolding readEntries first_of
+      → read_entries w (suc c) (suc left) (le_bytes w.addresses a ++ class ∷ rest) ≡ and_then (read_entries w c left rest) (in_front w a)
+  unfolding read_entries first_of
   entry_read class a c left rest h =
-      let fits : entrySize w ≤ length (le_bytes w.addresses a ++ class ∷ rest) = simp (length-append, length-le) (omega arith) in
+      let fits : entry_size w ≤ length (le_bytes w.addresses a ++ class ∷ rest) = simp (length-append, length-le) (omega arith) in
       rw (le-ltb _ _ fits, drop_past w.addresses (le_bytes w.addresses a) class rest (length-le w.addresses a), le_at-le 0 w.addresses a [] (class ∷ rest) refl h)
 
   entries_read : (class : ℕ) (l : List ℕ) (n : ℕ) (rest : List ℕ) → All (λ a. a < 256 ^ w.addresses) l
-      → readEntries w (length l) (length l + n) (entryBytes w class l ++ rest) ≡ answer (record { found = l; left = n; rest = rest })
-  unfolding readEntries entryBytes and_then
+      → read_entries w (length l) (length l + n) (entry_bytes w class l ++ rest) ≡ answer (record { found = l; left = n; rest = rest })
+  unfolding read_entries entry_bytes and_then
   entries_read class [] n rest h = rw zero-add
   entries_read class (a ∷ l) n rest h =
       rw (suc-add, append_assoc)
-      (rw (entry_read class a (length l) (length l + n) (entryBytes w class l ++ rest) h.0, entries_read class l n rest h.1))
+      (rw (entry_read class a (length l) (length l + n) (entry_bytes w class l ++ rest) h.0, entries_read class l n rest h.1))
 
   group_read : (class : ℕ) (g : Group) (fuel n : ℕ) (rest : List ℕ) → GroupFits g
-      → readGroups w (suc fuel) (count g + n) (le_bytes w.counts (count g) ++ (le_bytes w.sizes g.size ++ (entryBytes w class (addrs g) ++ rest)))
-      ≡ readMore w g.size (addrs g) (readGroups w fuel n rest)
+      → read_groups w (suc fuel) (count g + n) (le_bytes w.counts (count g) ++ (le_bytes w.sizes g.size ++ (entry_bytes w class (addrs g) ++ rest)))
+      ≡ read_more w g.size (addrs g) (read_groups w fuel n rest)
   unfolding first_of and_then
   group_read class g fuel n rest h =
-      let tail : List ℕ = entryBytes w class (addrs g) ++ rest in
+      let tail : List ℕ = entry_bytes w class (addrs g) ++ rest in
       let fits : head_size w ≤ length (le_bytes w.counts (count g) ++ (le_bytes w.sizes g.size ++ tail)) = simp (length-append, length-le) (omega arith) in
       rw (suc-add (length g.more) n, read_groups_suc w)
       (rw (
@@ -74,36 +74,36 @@ module _ (w : Widths) where
         drop-two w.counts w.sizes (le_bytes w.counts (count g)) (le_bytes w.sizes g.size) tail (length-le w.counts (count g)) (length-le w.sizes g.size),
         ← suc-add (length g.more) n,
       )
-      (rw (entries_read class (addrs g) n rest h.addrs-fit)))
+      (rw (entries_read class (addrs g) n rest h.addrs_fit)))
 
   -- any fuel that is at least the number of groups
   groups_read : (class : ℕ) (gs : List Group) (fuel n : ℕ) (rest : List ℕ) → length gs ≤ fuel → n ≡ length (ungroup gs) → All GroupFits gs
-      → readGroups w fuel n (groupBytes w class gs ++ rest) ≡ answer (ungroup gs)
-  unfolding groupBytes ungroup and_then
+      → read_groups w fuel n (group_bytes w class gs ++ rest) ≡ answer (ungroup gs)
+  unfolding group_bytes ungroup and_then
   groups_read class [] fuel n rest e k h = rw k (read_groups_zero w fuel rest)
   groups_read class (g ∷ gs) zero n rest e k h = absurd (not-suc-le-zero e)
   groups_read class (g ∷ gs) (suc fuel) n rest e k h =
       let m : n ≡ count g + length (ungroup gs) = k ∙ length-ungroup g gs in
       rw m
       (simp append_assoc
-      (rw (group_read class g fuel (length (ungroup gs)) (groupBytes w class gs ++ rest) h.0, groups_read class gs fuel (length (ungroup gs)) rest (le_of_suc-le-suc e) refl h.1)))
+      (rw (group_read class g fuel (length (ungroup gs)) (group_bytes w class gs ++ rest) h.0, groups_read class gs fuel (length (ungroup gs)) rest (le_of_suc-le-suc e) refl h.1)))
 
   -- ---- lengths
 
-  length_entries : (class : ℕ) (l : List ℕ) → length (entryBytes w class l) ≡ length l * (w.addresses + 1)
-  unfolding entryBytes
+  length_entries : (class : ℕ) (l : List ℕ) → length (entry_bytes w class l) ≡ length l * (w.addresses + 1)
+  unfolding entry_bytes
   length_entries class [] = omega arith
   length_entries class (a ∷ l) =
-      simp (length-append, length-le) (let e : length (entryBytes w class l) ≡ length l * (w.addresses + 1) = length_entries class l in omega arith)
+      simp (length-append, length-le) (let e : length (entry_bytes w class l) ≡ length l * (w.addresses + 1) = length_entries class l in omega arith)
 
   pub length_groups : (class : ℕ) (gs : List Group)
-      → length (groupBytes w class gs) ≡ length gs * (w.counts + w.sizes) + length (ungroup gs) * (w.addresses + 1)
-  unfolding groupBytes
+      → length (group_bytes w class gs) ≡ length gs * (w.counts + w.sizes) + length (ungroup gs) * (w.addresses + 1)
+  unfolding group_bytes
   length_groups class [] = rw none_ungrouped (omega arith)
   length_groups class (g ∷ gs) =
       simp (length-append, length-le)
-      (let e : length (groupBytes w class gs) ≡ length gs * (w.counts + w.sizes) + length (ungroup gs) * (w.addresses + 1) = length_groups class gs in
-      let k : length (entryBytes w class (addrs g)) ≡ count g * (w.addresses + 1) = length_entries class (addrs g) in
+      (let e : length (group_bytes w class gs) ≡ length gs * (w.counts + w.sizes) + length (ungroup gs) * (w.addresses + 1) = length_groups class gs in
+      let k : length (entry_bytes w class (addrs g)) ≡ count g * (w.addresses + 1) = length_entries class (addrs g) in
       let n : length (ungroup (g ∷ gs)) ≡ count g + length (ungroup gs) = length-ungroup g gs in
       rw n (omega arith))
 
@@ -112,30 +112,30 @@ module _ (w : Widths) where
   abbrev Fits : Group → Type 0
   Fits g = (g.size < 256 ^ w.sizes) × All (λ a. a < 256 ^ w.addresses) (addrs g)
 
-  fit-push : (s : FreeSection) (gs : List Group) → SectionFits w s → All Fits gs → All Fits (push s gs)
+  fit_push : (s : FreeSection) (gs : List Group) → SectionFits w s → All Fits gs → All Fits (push s gs)
   unfolding push
-  fit-push s [] p h = ((p.size_fits, (p.addr-fits, tt)), tt)
-  fit-push s (g ∷ gs) p h = pick (eqb s.size g.size)
+  fit_push s [] p h = ((p.size_fits, (p.addr_fits, tt)), tt)
+  fit_push s (g ∷ gs) p h = pick (eqb s.size g.size)
     where
       pick : (b : Bool)
           → All Fits (cond b (record { size = g.size; first = s.addr; more = g.first ∷ g.more } ∷ gs) (record { size = s.size; first = s.addr; more = [] } ∷ g ∷ gs))
-      pick true = ((h.0.0, (p.addr-fits, h.0.1)), h.1)
-      pick false = ((p.size_fits, (p.addr-fits, tt)), h)
+      pick true = ((h.0.0, (p.addr_fits, h.0.1)), h.1)
+      pick false = ((p.size_fits, (p.addr_fits, tt)), h)
 
   fit_groups : (l : List FreeSection) → All (SectionFits w) l → All Fits (groups_of l)
   unfolding groups_of
   fit_groups [] h = tt
-  fit_groups (s ∷ l) h = fit-push s (groups_of l) h.0 (fit_groups l h.1)
+  fit_groups (s ∷ l) h = fit_push s (groups_of l) h.0 (fit_groups l h.1)
 
   -- a group's count is at most the number of sections
   fit_all : (N : ℕ) (gs : List Group) → length (ungroup gs) ≤ N → N < 256 ^ w.counts → All Fits gs → All GroupFits gs
   fit_all N [] t n h = tt
   fit_all N (g ∷ gs) t n h =
       let k : length (ungroup (g ∷ gs)) ≡ count g + length (ungroup gs) = length-ungroup g gs in
-      (record { count_fits = omega arith; size_fits = h.0.0; addrs-fit = h.0.1 }, fit_all N gs (omega arith) n h.1)
+      (record { count_fits = omega arith; size_fits = h.0.0; addrs_fit = h.0.1 }, fit_all N gs (omega arith) n h.1)
 
-  groups_of-fit : (l : List FreeSection) → length l < 256 ^ w.counts → All (SectionFits w) l → All GroupFits (groups_of l)
-  groups_of-fit l n h = fit_all (length l) (groups_of l) (le_of_eq (ap length (ungroup-groups_of l))) n (fit_groups l h)
+  groups_of_fit : (l : List FreeSection) → length l < 256 ^ w.counts → All (SectionFits w) l → All GroupFits (groups_of l)
+  groups_of_fit l n h = fit_all (length l) (groups_of l) (le_of_eq (ap length (ungroup-groups_of l))) n (fit_groups l h)
 
   fewer_groups : (gs : List Group) → length gs ≤ length (ungroup gs)
   fewer_groups [] = zero-le
@@ -146,12 +146,12 @@ module _ (w : Widths) where
 
   -- what is written of sections is read as these sections by size and then address, whatever bytes follow
   pub parse_written : (class : ℕ) (l : List FreeSection) (rest : List ℕ) → length l < 256 ^ w.counts → All (SectionFits w) l
-      → parseGroups w (length l) (groupBytes w class (groups_of (by_size_then_addr l)) ++ rest) ≡ answer (by_size_then_addr l)
+      → parse_groups w (length l) (group_bytes w class (groups_of (by_size_then_addr l)) ++ rest) ≡ answer (by_size_then_addr l)
   parse_written class l rest n h =
       let gs : List Group = groups_of (by_size_then_addr l) in
       let u : ungroup gs ≡ by_size_then_addr l = ungroup-groups_of (by_size_then_addr l) in
       let t : length l ≡ length (ungroup gs) = sym (ap length u ∙ length-sorted l) in
       let n' : length (by_size_then_addr l) < 256 ^ w.counts = rw length-sorted n in
-      let fuel : length gs ≤ length (groupBytes w class gs ++ rest) =
+      let fuel : length gs ≤ length (group_bytes w class gs ++ rest) =
       simp (length-append, length_groups) (let k : length gs ≤ length (ungroup gs) = fewer_groups gs in omega arith) in
-      groups_read class gs _ (length l) rest fuel t (groups_of-fit (by_size_then_addr l) n' (all-sorted (SectionFits w) l h)) ∙ ap answer u
+      groups_read class gs _ (length l) rest fuel t (groups_of_fit (by_size_then_addr l) n' (all-sorted (SectionFits w) l h)) ∙ ap answer u

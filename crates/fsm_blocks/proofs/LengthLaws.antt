@@ -21,7 +21,7 @@ use Rattle.fsm_sections.specs.Passes.{storable}
 use Rattle.fsm_sections.proofs.StoredLaws.{too_great}
 use Rattle.fsm_blocks.specs.Fsse.{size_by}
 use Rattle.fsm_blocks.specs.Groups.{Widths}
-use Rattle.fsm_blocks.specs.Settings.{starting_set, widthsFor, usedBy, fsseUsed, blocks_size}
+use Rattle.fsm_blocks.specs.Settings.{starting_set, widths_for, used_by, fsse_used, blocks_size}
 
 -- ---- sums up to 2^64 - 1
 
@@ -40,34 +40,34 @@ width_small v h = (enc_size-least v h).least 8 (omega arith) (omega arith)
 abbrev pub starting_widths : ℕ → ℕ → Widths
 starting_widths cw o = record { counts = cw; sizes = 8; addresses = o }
 
-pub widths_are : (o n : ℕ) → widthsFor o (starting_set o) n ≡ starting_widths (enc_size n) o
+pub widths_are : (o n : ℕ) → widths_for o (starting_set o) n ≡ starting_widths (enc_size n) o
 unfolding enc_size least_from
 widths_are o n = let e : (8 * o - 1 + 7) / 8 ≡ o = omega arith in ap (λ (m : ℕ). starting_widths (enc_size n) m) e
 
-pub used_by : (o n d : ℕ) → usedBy o (starting_set o) n d ≡ 9 + o + d * (enc_size n + 8) + n * (o + 1)
-used_by o n d = ap (λ (w : Widths). size_by w o n d) (widths_are o n)
+pub used_by_lem : (o n d : ℕ) → used_by o (starting_set o) n d ≡ 9 + o + d * (enc_size n + 8) + n * (o + 1)
+used_by_lem o n d = ap (λ (w : Widths). size_by w o n d) (widths_are o n)
 
 module _ (o n d cw : ℕ) (ce : cw ≡ enc_size n) where
   groups_are : d * (cw + 8) ≡ d * (enc_size n + 8)
   groups_are = ap (λ (k : ℕ). d * (k + 8)) ce
 
-  pub groups_over : top < 9 + o + d * (cw + 8) → refused Overflow ≡ storable (usedBy o (starting_set o) n d)
-  groups_over h = too_great (usedBy o (starting_set o) n d) (omega (arith, groups_are, used_by o n d))
+  pub groups_over : top < 9 + o + d * (cw + 8) → refused Overflow ≡ storable (used_by o (starting_set o) n d)
+  groups_over h = too_great (used_by o (starting_set o) n d) (omega (arith, groups_are, used_by_lem o n d))
 
-  pub groups_in : (g : ℕ) → g ≡ 9 + o + d * (cw + 8) → storable (g + n * (o + 1)) ≡ storable (usedBy o (starting_set o) n d)
-  groups_in g e = ap storable (ap (λ (k : ℕ). k + n * (o + 1)) (e ∙ ap (λ (k : ℕ). 9 + o + k) groups_are) ∙ sym (used_by o n d))
+  pub groups_in : (g : ℕ) → g ≡ 9 + o + d * (cw + 8) → storable (g + n * (o + 1)) ≡ storable (used_by o (starting_set o) n d)
+  groups_in g e = ap storable (ap (λ (k : ℕ). k + n * (o + 1)) (e ∙ ap (λ (k : ℕ). 9 + o + k) groups_are) ∙ sym (used_by_lem o n d))
 
 -- ---- the length of both blocks
 
 module _ (O : ℕ) (l : List FreeSection) (some : length l ≡ 0 → ⊥) where
-  pub size-some : blocks_size O l ≡ 74 + O + fsseUsed O (starting_set O) l
+  pub size-some : blocks_size O l ≡ 74 + O + fsse_used O (starting_set O) l
   size-some = rw (ne_eqb (length l) 0 some)
 
   pub size-least : 83 + 2 * O + length l ≤ blocks_size O l
   size-least =
       let k : 1 ≤ O + 1 = omega arith in
       let r : length l ≤ length l = omega arith in
-      omega (arith, size-some, used_by O (length l) (distinct l), mul-le-mul r k)
+      omega (arith, size-some, used_by_lem O (length l) (distinct l), mul-le-mul r k)
 
 pub size-length : (O : ℕ) (l : List FreeSection) → length l ≤ blocks_size O l
 size-length O l = ⊎_elim (λ (p : length l ≤ 0). omega arith) (λ (p : 0 < length l). omega (arith, size-least O l (λ z. omega arith))) (le-or-lt (length l) 0)

@@ -28,7 +28,7 @@ use Rattle.fsm_blocks.specs.Answers.{header_outcome}
 use Rattle.fsm_blocks.specs.Fshd.{Header, taken, kept, parse_fshd, parsed_fshd}
 use Rattle.fsm_blocks.specs.declared.checks.Reading.{Reading}
 use Rattle.fsm_blocks.specs.Checks.{fshd_checks, fsse_checks}
-use Rattle.fsm_blocks.specs.Reading.{readNamed, readManager}
+use Rattle.fsm_blocks.specs.Reading.{read_named, read_manager}
 use Rattle.fsm_blocks.specs.Parts.{sections_by}
 use Rattle.fsm_blocks.specs.Named.{full, refusal_in}
 use Rattle.fsm_blocks.proofs.FshdLaws.{parse_sized}
@@ -57,18 +57,18 @@ module _ (a b : ℕ) {r : Number} (s : number_outcome r ≡ sum a b) where
 -- ---- `list_of`
 
 module _ (how : Reading) (O base slot : ℕ) (h : FsmHeader) (bytes : List ℕ) where
-  pub named_none : h.fsse_addr ≡ undefined_addr O → answer [] ≡ readNamed how O base slot (full h) bytes
-  unfolding readNamed
+  pub named_none : h.fsse_addr ≡ undefined_addr O → answer [] ≡ read_named how O base slot (full h) bytes
+  unfolding read_named
   named_none e = rw (eq-eqb h.fsse_addr (undefined_addr O) e)
 
   module _ (some : h.fsse_addr ≡ undefined_addr O → ⊥) where
-    pub named_wraps : top < h.fsse_addr + base → refused InvalidManager ≡ readNamed how O base slot (full h) bytes
-    unfolding readNamed first_of
+    pub named_wraps : top < h.fsse_addr + base → refused InvalidManager ≡ read_named how O base slot (full h) bytes
+    unfolding read_named first_of
     named_wraps l = rw (ne_eqb h.fsse_addr (undefined_addr O) some, lt-ltb top (h.fsse_addr + base) l)
 
     module _ (start : ℕ) (at : (start ≡ h.fsse_addr + base) × (h.fsse_addr + base ≤ top)) where
-      pub named_past : length bytes < start + h.fsse_used → refused InvalidManager ≡ readNamed how O base slot (full h) bytes
-      unfolding readNamed first_of
+      pub named_past : length bytes < start + h.fsse_used → refused InvalidManager ≡ read_named how O base slot (full h) bytes
+      unfolding read_named first_of
       named_past l =
           let m : length bytes < h.fsse_addr + base + h.fsse_used = omega arith in
           rw (ne_eqb h.fsse_addr (undefined_addr O) some, le-ltb top (h.fsse_addr + base) at.1, lt-ltb (length bytes) (h.fsse_addr + base + h.fsse_used) m)
@@ -78,8 +78,8 @@ module _ (how : Reading) (O base slot : ℕ) (h : FsmHeader) (bytes : List ℕ) 
         abbrev list : List ℕ
         list = window start h.fsse_used bytes
 
-        by_list : readNamed how O base slot (full h) bytes ≡ first_of (fsse_checks how O slot list) (sections_by h O list)
-        unfolding readNamed first_of
+        by_list : read_named how O base slot (full h) bytes ≡ first_of (fsse_checks how O slot list) (sections_by h O list)
+        unfolding read_named first_of
         by_list =
             let m : h.fsse_addr + base + h.fsse_used ≤ length bytes = omega arith in
             rw (at.0, ne_eqb h.fsse_addr (undefined_addr O) some, le-ltb top (h.fsse_addr + base) at.1, le-ltb (length bytes) (h.fsse_addr + base + h.fsse_used) m)
@@ -93,10 +93,10 @@ module _ (how : Reading) (O base slot : ℕ) (h : FsmHeader) (bytes : List ℕ) 
             let n : start + h.fsse_used - start ≡ h.fsse_used = omega arith in
             ap (λ (n : ℕ). first_of (fsse_checks how O slot (window start n bytes)) (answer tt)) n
 
-        pub named_refused : (c : Checked) → checked_outcome c ≡ checks → (r : Refusal) → c ≡ checked.Refused r → refused r ≡ readNamed how O base slot (full h) bytes
+        pub named_refused : (c : Checked) → checked_outcome c ≡ checks → (r : Refusal) → c ≡ checked.Refused r → refused r ≡ read_named how O base slot (full h) bytes
         named_refused c k r q = checked_refused (fsse_checks how O slot list) c (k ∙ same) (sections_by h O list) r q ∙ sym by_list
 
-        pub named_is : (c : Checked) → checked_outcome c ≡ checks → c ≡ checked.Passed → sections_by h O list ≡ readNamed how O base slot (full h) bytes
+        pub named_is : (c : Checked) → checked_outcome c ≡ checks → c ≡ checked.Passed → sections_by h O list ≡ read_named how O base slot (full h) bytes
         named_is c k q = checked_passed (fsse_checks how O slot list) c (k ∙ same) (sections_by h O list) q ∙ sym by_list
 
 -- ---- `locate`
@@ -107,25 +107,25 @@ from_place a l = take_all (length l - a) (drop a l) (rw length-drop (omega arith
 
 -- what follows on a header asks for no more than its six fields
 then_kept : (how : Reading) (O base slot : ℕ) (bytes : List ℕ) (o : Outcome Header) (x : FsmHeader) → kept o ≡ answer x
-    → and_then o (λ h. readNamed how O base slot h bytes) ≡ readNamed how O base slot (full x) bytes
-unfolding and_then readNamed
-then_kept how O base slot bytes (answer h) x e = let k : taken h ≡ x = cc in ap (λ (y : FsmHeader). readNamed how O base slot (full y) bytes) k
+    → and_then o (λ h. read_named how O base slot h bytes) ≡ read_named how O base slot (full x) bytes
+unfolding and_then read_named
+then_kept how O base slot bytes (answer h) x e = let k : taken h ≡ x = cc in ap (λ (y : FsmHeader). read_named how O base slot (full y) bytes) k
 then_kept how O base slot bytes nothing x e = let z : ◌≡◌ {A = ℕ} 0 1 = cc in absurd (omega arith)
 then_kept how O base slot bytes (refuse n vs) x e = let z : ◌≡◌ {A = ℕ} 0 1 = cc in absurd (omega arith)
 
 module _ (how : Reading) (O base slot : ℕ) (bytes : List ℕ) where
-  pub manager-none : slot ≡ undefined_addr O → answer [] ≡ readManager how O base slot bytes
-  unfolding readManager
+  pub manager-none : slot ≡ undefined_addr O → answer [] ≡ read_manager how O base slot bytes
+  unfolding read_manager
   manager-none e = rw (eq-eqb slot (undefined_addr O) e)
 
   module _ (some : slot ≡ undefined_addr O → ⊥) where
-    pub manager_wraps : top < slot + base → refused InvalidManager ≡ readManager how O base slot bytes
-    unfolding readManager first_of
+    pub manager_wraps : top < slot + base → refused InvalidManager ≡ read_manager how O base slot bytes
+    unfolding read_manager first_of
     manager_wraps l = rw (ne_eqb slot (undefined_addr O) some, lt-ltb top (slot + base) l)
 
     module _ (start : ℕ) (at : (start ≡ slot + base) × (slot + base ≤ top)) where
-      pub manager-past : length bytes < start → refused InvalidManager ≡ readManager how O base slot bytes
-      unfolding readManager first_of
+      pub manager-past : length bytes < start → refused InvalidManager ≡ read_manager how O base slot bytes
+      unfolding read_manager first_of
       manager-past l =
           let m : length bytes < slot + base = omega arith in
           rw (ne_eqb slot (undefined_addr O) some, le-ltb top (slot + base) at.1, lt-ltb (length bytes) (slot + base) m)
@@ -138,34 +138,34 @@ module _ (how : Reading) (O base slot : ℕ) (bytes : List ℕ) where
         tests = fshd_checks how O header-bytes
 
         abbrev named : Outcome (List FreeSection)
-        named = and_then (parse_fshd O header-bytes) (λ h. readNamed how O base slot h bytes)
+        named = and_then (parse_fshd O header-bytes) (λ h. read_named how O base slot h bytes)
 
-        by_header : readManager how O base slot bytes ≡ first_of tests named
-        unfolding readManager first_of
+        by_header : read_manager how O base slot bytes ≡ first_of tests named
+        unfolding read_manager first_of
         by_header =
             let m : slot + base ≤ length bytes = omega arith in
             rw (at.0, ne_eqb slot (undefined_addr O) some, le-ltb top (slot + base) at.1, le-ltb (length bytes) (slot + base) m)
 
         module _ (v : not (valid_width O) ≡ false) where
-          abbrev headerIn : List ℕ → Outcome FsmHeader
-          headerIn l = first_of (fshd_checks how O l) (kept (parsed_fshd O l))
+          abbrev header_in : List ℕ → Outcome FsmHeader
+          header_in l = first_of (fshd_checks how O l) (kept (parsed_fshd O l))
 
-          checked_header : (a : HeaderAnswer) → header_outcome a ≡ headerIn (window start (length bytes - start) bytes) → header_outcome a ≡ first_of tests (kept (parse_fshd O header-bytes))
-          checked_header a p = p ∙ ap headerIn (from_place start bytes) ∙ ap (λ (o : Outcome Header). first_of tests (kept o)) (parse_sized O header-bytes v)
+          checked_header : (a : HeaderAnswer) → header_outcome a ≡ header_in (window start (length bytes - start) bytes) → header_outcome a ≡ first_of tests (kept (parse_fshd O header-bytes))
+          checked_header a p = p ∙ ap header_in (from_place start bytes) ∙ ap (λ (o : Outcome Header). first_of tests (kept o)) (parse_sized O header-bytes v)
 
-          pub manager-refused : {a : HeaderAnswer} → header_outcome a ≡ headerIn (window start (length bytes - start) bytes)
-              → (r x : Refusal) → a ≡ header.Refused r → x ≡ refusal_in a → refused x ≡ readManager how O base slot bytes
+          pub manager-refused : {a : HeaderAnswer} → header_outcome a ≡ header_in (window start (length bytes - start) bytes)
+              → (r x : Refusal) → a ≡ header.Refused r → x ≡ refusal_in a → refused x ≡ read_manager how O base slot bytes
           manager-refused {a} p r x e q =
               let k : x ≡ r = q ∙ ap refusal_in e in
               ap refused k
               ∙ sym
               (by_header
-              ∙ sym (then_first tests (parse_fshd O header-bytes) (λ h. readNamed how O base slot h bytes))
-              ∙ then_refused (first_of tests (parse_fshd O header-bytes)) taken (λ h. readNamed how O base slot h bytes) _ _
+              ∙ sym (then_first tests (parse_fshd O header-bytes) (λ h. read_named how O base slot h bytes))
+              ∙ then_refused (first_of tests (parse_fshd O header-bytes)) taken (λ h. read_named how O base slot h bytes) _ _
               (then_first tests (parse_fshd O header-bytes) (λ h. answer (taken h)) ∙ sym (checked_header a p) ∙ ap header_outcome e))
 
-          pub manager-is : {a : HeaderAnswer} → header_outcome a ≡ headerIn (window start (length bytes - start) bytes)
-              → (h : FsmHeader) → a ≡ header.Header h → readNamed how O base slot (full h) bytes ≡ readManager how O base slot bytes
+          pub manager-is : {a : HeaderAnswer} → header_outcome a ≡ header_in (window start (length bytes - start) bytes)
+              → (h : FsmHeader) → a ≡ header.Header h → read_named how O base slot (full h) bytes ≡ read_manager how O base slot bytes
           manager-is {a} p h e =
               let q = first_shows tests (kept (parse_fshd O header-bytes)) h (sym (checked_header a p) ∙ ap header_outcome e) in
               sym (by_header ∙ first_pass tests named q.0 ∙ then_kept how O base slot bytes (parse_fshd O header-bytes) h q.1)

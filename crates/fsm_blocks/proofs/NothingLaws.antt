@@ -8,10 +8,10 @@ use lib.ListN.{drop}
 use Rattle.error.specs.Outcome.{Outcome, answer, nothing, refuse, refused, Condition, first_of, and_then}
 use Rattle.fields.specs.Ranges.{undefined_addr}
 use Rattle.fsm_blocks.specs.Fshd.{Header, parse_fshd}
-use Rattle.fsm_blocks.specs.Groups.{Widths, entrySize, readEntries, readGroups}
+use Rattle.fsm_blocks.specs.Groups.{Widths, entry_size, read_entries, read_groups}
 use Rattle.fsm_blocks.specs.Fsse.{parse_fsse}
 use Rattle.fsm_blocks.specs.declared.checks.Reading.{Reading}
-use Rattle.fsm_blocks.specs.Reading.{readNamed, readManager, read_slots}
+use Rattle.fsm_blocks.specs.Reading.{read_named, read_manager, read_slots}
 
 abbrev pub NotNothing : {A : Type 0} → Outcome A → Type 0
 NotNothing (answer a) = Unit {0}
@@ -38,14 +38,14 @@ skip_ends true a x h = tt
 skip_ends false a x h = h
 
 module _ (w : Widths) where
-  entries_end : (c left : ℕ) (bs : List ℕ) → NotNothing (readEntries w c left bs)
-  unfolding readEntries
+  entries_end : (c left : ℕ) (bs : List ℕ) → NotNothing (read_entries w c left bs)
+  unfolding read_entries
   entries_end zero left bs = tt
   entries_end (suc c) zero bs = tt
-  entries_end (suc c) (suc left) bs = first_ends _ _ (then_ends _ _ (entries_end c left (drop (entrySize w) bs)) (λ e. tt))
+  entries_end (suc c) (suc left) bs = first_ends _ _ (then_ends _ _ (entries_end c left (drop (entry_size w) bs)) (λ e. tt))
 
-  groups_end : (fuel left : ℕ) (bs : List ℕ) → NotNothing (readGroups w fuel left bs)
-  unfolding readGroups
+  groups_end : (fuel left : ℕ) (bs : List ℕ) → NotNothing (read_groups w fuel left bs)
+  unfolding read_groups
   groups_end zero zero bs = tt
   groups_end zero (suc left) bs = tt
   groups_end (suc fuel) zero bs = tt
@@ -60,12 +60,12 @@ module _ (how : Reading) (O base : ℕ) where
   unfolding parse_fsse
   list-ends bits greatest n bs = first_ends _ _ (groups_end _ _ _ _)
 
-  named_ends : (slot : ℕ) (h : Header) (bytes : List ℕ) → NotNothing (readNamed how O base slot h bytes)
-  unfolding readNamed
+  named_ends : (slot : ℕ) (h : Header) (bytes : List ℕ) → NotNothing (read_named how O base slot h bytes)
+  unfolding read_named
   named_ends slot h bytes = skip_ends (eqb h.fsse (undefined_addr O)) [] _ (first_ends _ _ (list-ends _ _ _ _))
 
-  manager-ends : (slot : ℕ) (bytes : List ℕ) → NotNothing (readManager how O base slot bytes)
-  unfolding readManager
+  manager-ends : (slot : ℕ) (bytes : List ℕ) → NotNothing (read_manager how O base slot bytes)
+  unfolding read_manager
   manager-ends slot bytes = skip_ends (eqb slot (undefined_addr O)) [] _ (first_ends _ _ (then_ends _ _ (header-ends (drop (slot + base) bytes)) (λ h. named_ends slot h bytes)))
 
   pub slots_end : (slots bytes : List ℕ) → NotNothing (read_slots how O base slots bytes)

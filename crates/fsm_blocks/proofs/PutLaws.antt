@@ -17,7 +17,7 @@ use Rattle.pairs.proofs.PairLaws.{over-flat}
 use Rattle.fsm_sections.specs.declared.FreeSection.{FreeSection}
 use Rattle.fsm_sections.specs.Sections.{flat, with_size}
 use Rattle.fsm_sections.proofs.SectionsLaws.{length-with_size, section_form}
-use Rattle.fsm_blocks.specs.Groups.{Widths, head_size, readMore, parseGroups}
+use Rattle.fsm_blocks.specs.Groups.{Widths, head_size, read_more, parse_groups}
 use Rattle.fsm_blocks.specs.Parts.{got, Accepted, addresses}
 use Rattle.fsm_blocks.proofs.BytesLaws.{le_at-drop}
 use Rattle.fsm_blocks.proofs.ThenLaws.{not-refused, first-accepted}
@@ -84,43 +84,43 @@ module _ (s : List ℕ) (width size : ℕ) where
 -- at the head of the loop: what is left to read gives the run that is to be
 pub record Putting (s : List ℕ) (w : Widths) (total from : ℕ) (out₀ out : List ℕ) (at left k : ℕ) : Type 0 where
   pub within : at ≤ length s
-  pub accepted : Accepted (parseGroups w left (drop at s))
+  pub accepted : Accepted (parse_groups w left (drop at s))
   pub room : k + 2 * left ≤ length out
   pub same_length : length out ≡ length out₀
-  pub same : over from (flat (got (parseGroups w total s))) out₀ ≡ over k (flat (got (parseGroups w left (drop at s)))) out
+  pub same : over from (flat (got (parse_groups w total s))) out₀ ≡ over k (flat (got (parse_groups w left (drop at s)))) out
 
-more-got : (w : Widths) (size : ℕ) (found : List ℕ) (o : Outcome (List FreeSection)) → Accepted o → got (readMore w size found o) ≡ with_size size found ++ got o
+more-got : (w : Widths) (size : ℕ) (found : List ℕ) (o : Outcome (List FreeSection)) → Accepted o → got (read_more w size found o) ≡ with_size size found ++ got o
 unfolding and_then
-more-got w size found o a = ap (λ (x : Outcome (List FreeSection)). got (readMore w size found x)) a
+more-got w size found o a = ap (λ (x : Outcome (List FreeSection)). got (read_more w size found x)) a
 
 module _ (s : List ℕ) (w : Widths) (total from : ℕ) (out₀ : List ℕ) where
-  pub put-start : Accepted (parseGroups w total s) → from + 2 * total ≤ length out₀ → Putting s w total from out₀ out₀ 0 total from
+  pub put-start : Accepted (parse_groups w total s) → from + 2 * total ≤ length out₀ → Putting s w total from out₀ out₀ 0 total from
   put-start a r = record { within = omega arith; accepted = a; room = r; same_length = refl; same = refl }
 
   module _ (out : List ℕ) (at left k : ℕ) (now : Putting s w total from out₀ out at left k) where
-    pub put-end : left ≤ 0 → out ≡ over from (flat (got (parseGroups w total s))) out₀
+    pub put-end : left ≤ 0 → out ≡ over from (flat (got (parse_groups w total s))) out₀
     put-end h =
         let z : left ≡ 0 = omega arith in
         sym
         (now.same
-        ∙ ap (λ (n : ℕ). over k (flat (got (parseGroups w n (drop at s)))) out) z
+        ∙ ap (λ (n : ℕ). over k (flat (got (parse_groups w n (drop at s)))) out) z
         ∙ ap (λ (x : Outcome (List FreeSection)). over k (flat (got x)) out) (read_groups_zero w (length (drop at s)) (drop at s))
         ∙ over-nil k out)
 
     -- an accepted group lies within the groups
     module _ (some : 0 < head_size w) (p : 0 < left) where
       pub head_in : head_size w ≤ length s - at
-      head_in = ⊎_elim (λ h. h) (λ h. not-refused (parseGroups w left (drop at s)) _ _ now.accepted (short-at s w some at left p h)) (le-or-lt (head_size w) (length s - at))
+      head_in = ⊎_elim (λ h. h) (λ h. not-refused (parse_groups w left (drop at s)) _ _ now.accepted (short-at s w some at left p h)) (le-or-lt (head_size w) (length s - at))
 
       module _ (count : ℕ) (read : count ≡ le_at at w.counts s) where
         pub count-few : count ≤ left
         count-few =
-            ⊎_elim (λ h. h) (λ h. not-refused (parseGroups w left (drop at s)) _ _ now.accepted (refused-at s w some at left p head_in count read (inl h)))
+            ⊎_elim (λ h. h) (λ h. not-refused (parse_groups w left (drop at s)) _ _ now.accepted (refused-at s w some at left p head_in count read (inl h)))
             (le-or-lt count left)
 
         pub entries_in : count * (w.addresses + 1) ≤ length s - at - head_size w
         entries_in =
-            ⊎_elim (λ h. h) (λ h. not-refused (parseGroups w left (drop at s)) _ _ now.accepted (refused-at s w some at left p head_in count read (inr (rw add-one at h))))
+            ⊎_elim (λ h. h) (λ h. not-refused (parse_groups w left (drop at s)) _ _ now.accepted (refused-at s w some at left p head_in count read (inr (rw add-one at h))))
             (le-or-lt (count * (w.addresses + 1)) (length s - at - head_size w))
 
         pub put_step : (size : ℕ) → size ≡ le_at (at + w.counts) w.sizes s → (out' : List ℕ)
@@ -131,9 +131,9 @@ module _ (s : List ℕ) (w : Widths) (total from : ℕ) (out₀ : List ℕ) wher
             let far : List ℕ = drop (at + head_size w + count * (w.addresses + 1)) s in
             let n : length (with_size size found) ≡ count = length-with_size size found ∙ length-addresses w.addresses count (drop (at + head_size w) s) in
             let kept : length out' ≡ length out = ap length o ∙ length_over k (flat (with_size size found)) out in
-            let g : parseGroups w left (drop at s) ≡ readMore w size found (parseGroups w (left - count) far) =
+            let g : parse_groups w left (drop at s) ≡ read_more w size found (parse_groups w (left - count) far) =
             rw (e, add-one w.addresses) (group_at s w some at left p head_in count read count-few (rw add-one at entries_in)) in
-            let a : Accepted (parseGroups w (left - count) far) = first-accepted (parseGroups w (left - count) far) _ (subst Accepted g now.accepted) in
+            let a : Accepted (parse_groups w (left - count) far) = first-accepted (parse_groups w (left - count) far) _ (subst Accepted g now.accepted) in
             record {
               within = omega (arith, now.within, head_in, entries_in);
               accepted = a;
@@ -142,7 +142,7 @@ module _ (s : List ℕ) (w : Widths) (total from : ℕ) (out₀ : List ℕ) wher
               same =
                   now.same
                   ∙ ap (λ (x : Outcome (List FreeSection)). over k (flat (got x)) out) g
-                  ∙ ap (λ (l : List FreeSection). over k (flat l) out) (more-got w size found (parseGroups w (left - count) far) a)
-                  ∙ sym (over-flat section_form k (with_size size found) (got (parseGroups w (left - count) far)) out)
-                  ∙ ap₂ (λ (i : ℕ) (l : List ℕ). over (k + 2 * i) (flat (got (parseGroups w (left - count) far))) l) n (sym o);
+                  ∙ ap (λ (l : List FreeSection). over k (flat l) out) (more-got w size found (parse_groups w (left - count) far) a)
+                  ∙ sym (over-flat section_form k (with_size size found) (got (parse_groups w (left - count) far)) out)
+                  ∙ ap₂ (λ (i : ℕ) (l : List ℕ). over (k + 2 * i) (flat (got (parse_groups w (left - count) far))) l) n (sym o);
             }

@@ -26,7 +26,7 @@ use Rattle.fsm_blocks.specs.declared.header.FsmHeader.{FsmHeader}
 use Rattle.fsm_blocks.specs.declared.manager.Named.{Named}
 use Rattle.fsm_blocks.specs.declared.manager.Named.TheVariants.{Nowhere, At, Refused}
 use Rattle.fsm_blocks.specs.declared.checks.Reading.{Reading}
-use Rattle.fsm_blocks.specs.Reading.{readManager, read_slots, joined}
+use Rattle.fsm_blocks.specs.Reading.{read_manager, read_slots, joined}
 use Rattle.fsm_blocks.specs.Parts.{got, Accepted, counted, sections_by}
 use Rattle.fsm_blocks.specs.Named.{named_outcome, Inside, manager_count, slots_count}
 use Rattle.fsm_blocks.proofs.ThenLaws.{then_refused, sized_is, not-refused, both_accepted}
@@ -41,11 +41,11 @@ module _ (how : Reading) (O base slot : ℕ) (bytes : List ℕ) where
   count-width h = rw h
 
   module _ (v : not (valid_width O) ≡ false) where
-    sized : manager_count how O base slot bytes ≡ counted (readManager how O base slot bytes)
+    sized : manager_count how O base slot bytes ≡ counted (read_manager how O base slot bytes)
     unfolding manager_count first_of
     sized = rw v
 
-    module _ (found : Named) (l : named_outcome O bytes found ≡ readManager how O base slot bytes) where
+    module _ (found : Named) (l : named_outcome O bytes found ≡ read_manager how O base slot bytes) where
       found-count : counted (named_outcome O bytes found) ≡ manager_count how O base slot bytes
       found-count = ap counted l ∙ sym sized
 
@@ -65,28 +65,28 @@ module _ (how : Reading) (O base slot : ℕ) (bytes : List ℕ) where
 
   -- ---- `put_manager`
 
-  module _ (found : Named) (l : named_outcome O bytes found ≡ readManager how O base slot bytes) where
-    nothing_put : readManager how O base slot bytes ≡ answer [] → (from : ℕ) (out : List ℕ)
-        → (out ≡ over from (flat (got (readManager how O base slot bytes))) out) × (from ≡ from + 2 * length (got (readManager how O base slot bytes)))
+  module _ (found : Named) (l : named_outcome O bytes found ≡ read_manager how O base slot bytes) where
+    nothing_put : read_manager how O base slot bytes ≡ answer [] → (from : ℕ) (out : List ℕ)
+        → (out ≡ over from (flat (got (read_manager how O base slot bytes))) out) × (from ≡ from + 2 * length (got (read_manager how O base slot bytes)))
     nothing_put e from out =
-        let n : length (got (readManager how O base slot bytes)) ≡ 0 = ap (λ (o : Outcome (List FreeSection)). length (got o)) e in
+        let n : length (got (read_manager how O base slot bytes)) ≡ 0 = ap (λ (o : Outcome (List FreeSection)). length (got o)) e in
         (sym (ap (λ (o : Outcome (List FreeSection)). over from (flat (got o)) out) e ∙ over-nil from out), omega arith)
 
     pub put-none : found ≡ Nowhere → (from : ℕ) (out : List ℕ)
-        → (out ≡ over from (flat (got (readManager how O base slot bytes))) out) × (from ≡ from + 2 * length (got (readManager how O base slot bytes)))
+        → (out ≡ over from (flat (got (read_manager how O base slot bytes))) out) × (from ≡ from + 2 * length (got (read_manager how O base slot bytes)))
     put-none e = nothing_put (sym l ∙ ap (named_outcome O bytes) e)
 
-    pub put_refused : (r : Refusal) → found ≡ Refused r → Accepted (readManager how O base slot bytes) → (from : ℕ) (out : List ℕ)
-        → (out ≡ over from (flat (got (readManager how O base slot bytes))) out) × (from ≡ from + 2 * length (got (readManager how O base slot bytes)))
-    put_refused r e a from out = not-refused (readManager how O base slot bytes) _ _ a (sym l ∙ ap (named_outcome O bytes) e)
+    pub put_refused : (r : Refusal) → found ≡ Refused r → Accepted (read_manager how O base slot bytes) → (from : ℕ) (out : List ℕ)
+        → (out ≡ over from (flat (got (read_manager how O base slot bytes))) out) × (from ≡ from + 2 * length (got (read_manager how O base slot bytes)))
+    put_refused r e a from out = not-refused (read_manager how O base slot bytes) _ _ a (sym l ∙ ap (named_outcome O bytes) e)
 
     module _ (start : ℕ) (h : FsmHeader) (e : found ≡ At start h) where
-      pub list-is : sections_by h O (window start (start + h.fsse_used - start) bytes) ≡ readManager how O base slot bytes
+      pub list-is : sections_by h O (window start (start + h.fsse_used - start) bytes) ≡ read_manager how O base slot bytes
       list-is =
           let n : start + h.fsse_used - start ≡ h.fsse_used = omega arith in
           ap (λ (k : ℕ). sections_by h O (window start k bytes)) n ∙ sym (ap (named_outcome O bytes) e) ∙ l
 
-      pub list-total : Accepted (readManager how O base slot bytes) → length (got (readManager how O base slot bytes)) ≡ h.total_sections
+      pub list-total : Accepted (read_manager how O base slot bytes) → length (got (read_manager how O base slot bytes)) ≡ h.total_sections
       list-total a =
           ap (λ (o : Outcome (List FreeSection)). length (got o)) (sym list-is)
           ∙ read-total O _ _ _ (window start (start + h.fsse_used - start) bytes) (subst Accepted (sym list-is) a)
@@ -112,7 +112,7 @@ add-up needed n m l ls k s = omega (arith, length-joined l ls)
 -- ---- the slots in order
 
 module _ (how : Reading) (O base : ℕ) (bytes : List ℕ) where
-  slots-cons : (a : ℕ) (rest : List ℕ) → read_slots how O base (a ∷ rest) bytes ≡ and_then (readManager how O base a bytes) (λ x. and_then (read_slots how O base rest bytes) (λ y. answer (x ∷ y)))
+  slots-cons : (a : ℕ) (rest : List ℕ) → read_slots how O base (a ∷ rest) bytes ≡ and_then (read_manager how O base a bytes) (λ x. and_then (read_slots how O base rest bytes) (λ y. answer (x ∷ y)))
   unfolding read_slots
   slots-cons a rest = refl
 
@@ -126,18 +126,18 @@ module _ (how : Reading) (O base : ℕ) (bytes : List ℕ) where
     pub same : slots_count how O base slots bytes ≡ after needed (read_slots how O base (drop i slots) bytes)
 
   module _ (slots : List ℕ) where
-    pub sum-start : Summing slots 0 0
+    pub sum_start : Summing slots 0 0
     unfolding slots_count
-    sum-start = record {
+    sum_start = record {
       within = omega arith;
       few = omega arith;
       same = then_same (read_slots how O base slots bytes) _ _ (λ ls. ap (λ (n : ℕ). answer (sat n)) (sym (zero-add (length (joined ls)))));
     }
 
     module _ (needed i : ℕ) (now : Summing slots needed i) where
-      pub sum-end : length slots ≤ i → answer needed ≡ slots_count how O base slots bytes
+      pub sum_end : length slots ≤ i → answer needed ≡ slots_count how O base slots bytes
       unfolding read_slots joined and_then sat
-      sum-end h =
+      sum_end h =
           let e : sat (needed + 0) ≡ needed = omega (arith, now.few) in
           sym (now.same ∙ ap (λ (s : List ℕ). after needed (read_slots how O base s bytes)) (drop_of_length-le slots h) ∙ ap answer e)
 
@@ -146,20 +146,20 @@ module _ (how : Reading) (O base : ℕ) (bytes : List ℕ) where
         next = drop-cons slots i 0 l ∙ ap (λ (n : ℕ). get_or slots i 0 ∷ drop n slots) (sym (add-one i))
 
         here : slots_count how O base slots bytes
-            ≡ after needed (and_then (readManager how O base (get_or slots i 0) bytes) (λ x. and_then (read_slots how O base (drop (i + 1) slots) bytes) (λ y. answer (x ∷ y))))
+            ≡ after needed (and_then (read_manager how O base (get_or slots i 0) bytes) (λ x. and_then (read_slots how O base (drop (i + 1) slots) bytes) (λ y. answer (x ∷ y))))
         here = now.same ∙ ap (λ (s : List ℕ). after needed (read_slots how O base s bytes)) next ∙ ap (after needed) (slots-cons (get_or slots i 0) (drop (i + 1) slots))
 
         module _ (v : not (valid_width O) ≡ false) where
-          pub sum-refused : {c : Number} (r : Refusal) → c ≡ number.Refused r → number_outcome c ≡ manager_count how O base (get_or slots i 0) bytes → number_outcome c ≡ slots_count how O base slots bytes
+          pub sum_refused : {c : Number} (r : Refusal) → c ≡ number.Refused r → number_outcome c ≡ manager_count how O base (get_or slots i 0) bytes → number_outcome c ≡ slots_count how O base slots bytes
           unfolding and_then
-          sum-refused r e q =
+          sum_refused r e q =
               ap number_outcome e
-              ∙ sym (here ∙ ap (after needed) (then_refused (readManager how O base (get_or slots i 0) bytes) length _ _ _ (sym (sized how O base (get_or slots i 0) bytes v) ∙ sym q ∙ ap number_outcome e)))
+              ∙ sym (here ∙ ap (after needed) (then_refused (read_manager how O base (get_or slots i 0) bytes) length _ _ _ (sym (sized how O base (get_or slots i 0) bytes v) ∙ sym q ∙ ap number_outcome e)))
 
           pub sum_step : {c : Number} (n : ℕ) → c ≡ number.Is n → number_outcome c ≡ manager_count how O base (get_or slots i 0) bytes → (m : ℕ) → m ≡ sat (needed + n) → Summing slots m (i + 1)
           unfolding and_then
           sum_step n e q m s =
-              let o : Outcome (List FreeSection) = readManager how O base (get_or slots i 0) bytes in
+              let o : Outcome (List FreeSection) = read_manager how O base (get_or slots i 0) bytes in
               let k = sized_is o length n (sym (sized how O base (get_or slots i 0) bytes v) ∙ sym q ∙ ap number_outcome e) in
               record {
                 within = omega arith;
@@ -181,13 +181,13 @@ module _ (how : Reading) (O base : ℕ) (bytes : List ℕ) where
     pub same : over 0 (flat (joined (got (read_slots how O base slots bytes)))) out₀ ≡ over k (flat (joined (got (read_slots how O base (drop i slots) bytes)))) out
 
   module _ (slots out₀ : List ℕ) where
-    pub store-start : Accepted (read_slots how O base slots bytes) → 2 * length (joined (got (read_slots how O base slots bytes))) ≤ length out₀ → Storing slots out₀ out₀ 0 0
-    store-start a r = record { within = omega arith; accepted = a; room = omega arith; same_length = refl; same = refl }
+    pub store_start : Accepted (read_slots how O base slots bytes) → 2 * length (joined (got (read_slots how O base slots bytes))) ≤ length out₀ → Storing slots out₀ out₀ 0 0
+    store_start a r = record { within = omega arith; accepted = a; room = omega arith; same_length = refl; same = refl }
 
     module _ (out : List ℕ) (k i : ℕ) (now : Storing slots out₀ out k i) where
-      pub store-end : length slots ≤ i → out ≡ over 0 (flat (joined (got (read_slots how O base slots bytes)))) out₀
+      pub store_end : length slots ≤ i → out ≡ over 0 (flat (joined (got (read_slots how O base slots bytes)))) out₀
       unfolding read_slots joined
-      store-end h =
+      store_end h =
           sym
           (now.same
           ∙ ap (λ (s : List ℕ). over k (flat (joined (got (read_slots how O base s bytes)))) out) (drop_of_length-le slots h)
@@ -195,7 +195,7 @@ module _ (how : Reading) (O base : ℕ) (bytes : List ℕ) where
 
       module _ (l : i < length slots) where
         one : Outcome (List FreeSection)
-        one = readManager how O base (get_or slots i 0) bytes
+        one = read_manager how O base (get_or slots i 0) bytes
 
         others : Outcome (List (List FreeSection))
         others = read_slots how O base (drop (i + 1) slots) bytes
@@ -212,19 +212,19 @@ module _ (how : Reading) (O base : ℕ) (bytes : List ℕ) where
             let p = both_accepted one others (subst Accepted split now.accepted) in
             (p.0, ap got split ∙ p.1)
 
-        pub slot-accepted : Accepted (readManager how O base (get_or slots i 0) bytes)
+        pub slot_accepted : Accepted (read_manager how O base (get_or slots i 0) bytes)
         unfolding one others
-        slot-accepted = parts.0.0
+        slot_accepted = parts.0.0
 
         lengths : length (joined (got (read_slots how O base (drop i slots) bytes))) ≡ length (got one) + length (joined (got others))
         lengths = ap (λ (ls : List (List FreeSection)). length (joined ls)) parts.1 ∙ length-joined (got one) (got others)
 
-        pub slot-room : k + 2 * length (got (readManager how O base (get_or slots i 0) bytes)) ≤ length out
+        pub slot_room : k + 2 * length (got (read_manager how O base (get_or slots i 0) bytes)) ≤ length out
         unfolding one others
-        slot-room = omega (arith, lengths, now.room)
+        slot_room = omega (arith, lengths, now.room)
 
-        pub store_step : (out' : List ℕ) (k' : ℕ) → out' ≡ over k (flat (got (readManager how O base (get_or slots i 0) bytes))) out
-            → k' ≡ k + 2 * length (got (readManager how O base (get_or slots i 0) bytes)) → Storing slots out₀ out' k' (i + 1)
+        pub store_step : (out' : List ℕ) (k' : ℕ) → out' ≡ over k (flat (got (read_manager how O base (get_or slots i 0) bytes))) out
+            → k' ≡ k + 2 * length (got (read_manager how O base (get_or slots i 0) bytes)) → Storing slots out₀ out' k' (i + 1)
         unfolding one others joined
         store_step out' k' o e =
             let kept : length out' ≡ length out = ap length o ∙ length_over k (flat (got one)) out in

@@ -22,7 +22,7 @@ use Rattle.fsm_sections.specs.Sections.{by_size_then_addr, groups_of, distinct, 
 use Rattle.fsm_sections.proofs.AllLaws.{all_get_d}
 use Rattle.fsm_sections.proofs.SectionsLaws.{length-sorted, ungroup-groups_of}
 use Rattle.fsm_sections.proofs.SizesLaws.{groups_of-sizes}
-use Rattle.fsm_blocks.specs.Groups.{Widths, SectionFits, groupBytes, parseGroups}
+use Rattle.fsm_blocks.specs.Groups.{Widths, SectionFits, group_bytes, parse_groups}
 use Rattle.fsm_blocks.specs.Fshd.{Header, fshd_row, sealed, fshd_bytes, fshd_size, signed, header_at, parse_fshd}
 use Rattle.fsm_blocks.specs.Fsse.{widths_of, fsse_head, fsse_bytes, fsse_size, parse_fsse}
 use Rattle.fsm_blocks.specs.declared.checks.Reading.{Reading}
@@ -129,9 +129,9 @@ module _ (sum : List ℕ → ℕ) (w : Widths) (O back class : ℕ) (l : List Fr
     pub signature : signed 70 83 83 69 bs ≡ true
     pub version : le_at 4 1 bs ≡ 0
     pub back_is : back < 256 ^ O → le_at 5 O bs ≡ back
-    pub groups : window (5 + O) (length bs - (9 + O)) bs ≡ groupBytes w class (groups_of (by_size_then_addr l))
+    pub groups : window (5 + O) (length bs - (9 + O)) bs ≡ group_bytes w class (groups_of (by_size_then_addr l))
 
-  listed : (C : List ℕ) → length C ≡ 4 → Listed (layout (fsse_head O back) ++ (groupBytes w class (groups_of (by_size_then_addr l)) ++ C))
+  listed : (C : List ℕ) → length C ≡ 4 → Listed (layout (fsse_head O back) ++ (group_bytes w class (groups_of (by_size_then_addr l)) ++ C))
   listed C four = record {
     long = omega (arith, len);
     signature = signed_is 70 83 83 69 bs (at 0 (lit< tt) (lit< tt) 0 1 refl refl) (at 1 (lit< tt) (lit< tt) 1 1 refl refl) (at 2 (lit< tt) (lit< tt) 2 1 refl refl) (at 3 (lit< tt) (lit< tt) 3 1 refl refl);
@@ -141,7 +141,7 @@ module _ (sum : List ℕ → ℕ) (w : Widths) (O back class : ℕ) (l : List Fr
   }
     where
       G : List ℕ
-      G = groupBytes w class (groups_of (by_size_then_addr l))
+      G = group_bytes w class (groups_of (by_size_then_addr l))
 
       bs : List ℕ
       bs = layout (fsse_head O back) ++ (G ++ C)
@@ -153,10 +153,10 @@ module _ (sum : List ℕ → ℕ) (w : Widths) (O back class : ℕ) (l : List Fr
           → le_at p w bs ≡ (get_or (fsse_head O back) i (field 0 0)).value
       at i h v p w ep ew = field_at (fsse_head O back) i (G ++ C) h v p w ep ew
 
-  pub fsse-stands : Listed (fsse_bytes sum w O back class l)
+  pub fsse_stands : Listed (fsse_bytes sum w O back class l)
   unfolding fsse_bytes
-  fsse-stands =
-      let G : List ℕ = groupBytes w class (groups_of (by_size_then_addr l)) in
+  fsse_stands =
+      let G : List ℕ = group_bytes w class (groups_of (by_size_then_addr l)) in
       let H : List ℕ = layout (fsse_head O back) in
       subst Listed (sym (append_assoc H G (le_bytes 4 (sum (H ++ G))))) (listed (le_bytes 4 (sum (H ++ G))) (length-le 4 (sum (H ++ G))))
 
@@ -167,10 +167,10 @@ pub fsse-read : (sum : List ℕ → ℕ) (O back class bits greatest : ℕ) (l :
 fsse-read sum O back class bits greatest l b1 b2 n fits =
     let w : Widths = widths_of (length l) greatest bits in
     let bs : List ℕ = fsse_bytes sum w O back class l in
-    let s : Listed sum w O back class l bs = fsse-stands sum w O back class l in
+    let s : Listed sum w O back class l bs = fsse_stands sum w O back class l in
     let some : (eqb bits 0 || ltb 64 bits) ≡ false = rw (ne_eqb bits 0 (λ q. omega arith), le-ltb 64 bits b2) in
     fsse_groups O bits greatest (length l) bs s.long (ap not s.signature) some
-    ∙ ap (parseGroups w (length l)) (s.groups ∙ sym (append-nil (groupBytes w class (groups_of (by_size_then_addr l)))))
+    ∙ ap (parse_groups w (length l)) (s.groups ∙ sym (append-nil (group_bytes w class (groups_of (by_size_then_addr l)))))
     ∙ parse_written w class l [] (enc_size-least (length l) n).holds fits
 
 -- ---- and pass the checks of every reading, if the checksum is lookup3's
@@ -198,8 +198,8 @@ pub fsse_checked : (how : Reading) (w : Widths) (O back class : ℕ) (l : List F
 unfolding fsse_bytes
 fsse_checked Loose w O back class l b = tt
 fsse_checked Strict w O back class l b =
-    let s : Listed lookup3 w O back class l (fsse_bytes lookup3 w O back class l) = fsse-stands lookup3 w O back class l in
+    let s : Listed lookup3 w O back class l (fsse_bytes lookup3 w O back class l) = fsse_stands lookup3 w O back class l in
     (le-ltb _ _ s.long, (ap not s.signature, (ap not (eq-eqb _ 0 s.version), (sum_right, (ap not (eq-eqb _ back (s.back_is b)), tt)))))
   where
     sum_right : (wrong_sum (fsse_bytes lookup3 w O back class l)).holds ≡ false
-    sum_right = sealed_right (layout (fsse_head O back) ++ groupBytes w class (groups_of (by_size_then_addr l)))
+    sum_right = sealed_right (layout (fsse_head O back) ++ group_bytes w class (groups_of (by_size_then_addr l)))

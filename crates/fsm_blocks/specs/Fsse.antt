@@ -18,7 +18,7 @@ use Rattle.fields.specs.Width.{enc_size}
 use Rattle.fsm_sections.specs.declared.FreeSection.{FreeSection}
 use Rattle.fsm_sections.specs.Sections.{by_size_then_addr, groups_of, distinct}
 use Rattle.fsm_blocks.specs.Fshd.{signature, sealed, beginning}
-use Rattle.fsm_blocks.specs.Groups.{Widths, groupBytes, parseGroups}
+use Rattle.fsm_blocks.specs.Groups.{Widths, group_bytes, parse_groups}
 
 abbrev pub bits_width : ℕ → ℕ
 bits_width bits = (bits + 7) / 8
@@ -30,7 +30,7 @@ abbrev pub fsse_head : ℕ → ℕ → List Field
 fsse_head O back = signature 70 83 83 69 ++ (field 1 0 ∷ field O back ∷ [])
 
 unfoldable pub fsse_bytes : (List ℕ → ℕ) → Widths → ℕ → ℕ → ℕ → List FreeSection → List ℕ
-fsse_bytes sum w O back class l = sealed sum (layout (fsse_head O back) ++ groupBytes w class (groups_of (by_size_then_addr l)))
+fsse_bytes sum w O back class l = sealed sum (layout (fsse_head O back) ++ group_bytes w class (groups_of (by_size_then_addr l)))
 
 abbrev pub size_by : Widths → ℕ → ℕ → ℕ → ℕ
 size_by w O n d = 9 + O + d * (w.counts + w.sizes) + n * (w.addresses + 1)
@@ -41,4 +41,4 @@ fsse_size w O l = size_by w O (length l) (distinct l)
 unfoldable pub parse_fsse : ℕ → ℕ → ℕ → ℕ → List ℕ → Outcome (List FreeSection)
 parse_fsse O bits greatest n bs =
     first_of (beginning (9 + O) 83 69 bs ++ (when (eqb bits 0 || ltb 64 bits) InvalidManager ∷ []))
-    (parseGroups (widths_of n greatest bits) n (window (5 + O) (length bs - (9 + O)) bs))
+    (parse_groups (widths_of n greatest bits) n (window (5 + O) (length bs - (9 + O)) bs))

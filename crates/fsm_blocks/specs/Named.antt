@@ -20,7 +20,7 @@ use Rattle.fsm_blocks.specs.declared.manager.Named.{Named}
 use Rattle.fsm_blocks.specs.declared.manager.Named.TheVariants.{Nowhere, At, Refused}
 use Rattle.fsm_blocks.specs.declared.checks.Reading.{Reading}
 use Rattle.fsm_blocks.specs.Fshd.{Header}
-use Rattle.fsm_blocks.specs.Reading.{readManager, read_slots, joined}
+use Rattle.fsm_blocks.specs.Reading.{read_manager, read_slots, joined}
 use Rattle.fsm_blocks.specs.Parts.{counted, sections_by}
 
 abbrev pub full : FsmHeader → Header
@@ -56,7 +56,7 @@ refusal_in (header.Header h) = InvalidManager
 refusal_in (header.Refused r) = r
 
 unfoldable pub manager_count : Reading → ℕ → ℕ → ℕ → List ℕ → Outcome ℕ
-manager_count how O base slot bytes = first_of (when (not (valid_width O)) Width ∷ []) (counted (readManager how O base slot bytes))
+manager_count how O base slot bytes = first_of (when (not (valid_width O)) Width ∷ []) (counted (read_manager how O base slot bytes))
 
 unfoldable pub slots_count : Reading → ℕ → ℕ → List ℕ → List ℕ → Outcome ℕ
 slots_count how O base slots bytes = and_then (read_slots how O base slots bytes) (λ ls. answer (sat (length (joined ls))))

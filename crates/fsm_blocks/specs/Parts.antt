@@ -38,9 +38,9 @@ widths_in w = record { counts = w.counts; sizes = w.sizes; addresses = w.address
 
 pub record Narrow (w : GroupWidths) : Type 0 where
   pub some : 1 ≤ w.counts
-  pub counts-few : w.counts ≤ 8
-  pub sizes-few : w.sizes ≤ 8
-  pub addresses-few : w.addresses ≤ 8
+  pub counts_few : w.counts ≤ 8
+  pub sizes_few : w.sizes ≤ 8
+  pub addresses_few : w.addresses ≤ 8
 
 pub record WidthsOf (h : FsmHeader) (w : GroupWidths) : Type 0 where
   pub same : widths_in w ≡ widths_of h.total_sections h.max_section_size h.addr_space_bits

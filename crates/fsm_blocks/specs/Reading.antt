@@ -2,12 +2,12 @@
 -- Assumes nothing.
 -- In quotes: document 01's words, from "Blocks on file", or those of document 02's request that is named. A strict reading makes its checks
 -- (Checks.antt) of each block where the loose one parses it (P5: "The loose tests of place stay"); a loose one has no checks.
---   listAt        the section list where a header's FSSE field points: "Adding the base past 2^64−1", "or an FSSE outside the data is 10"; then the
+--   list_at       the section list where a header's FSSE field points: "Adding the base past 2^64−1", "or an FSSE outside the data is 10"; then the
 --                 checks of its used bytes by the slot that named the header, and what it parses as
---   readNamed     the same, but for the undefined address no sections (P2: "The reader skips 2^(8O)−1 at offset size O, and no other address, in a
+--   read_named    the same, but for the undefined address no sections (P2: "The reader skips 2^(8O)−1 at offset size O, and no other address, in a
 --                 slot and in the FSSE field"). It is the number as it stands there, to which the base is not added yet
---   managerAt     the sections of the manager whose header is where a slot points: "a header start past the data" is 10; then the header's checks
---   readManager   the same, but for the undefined address no sections (P2)
+--   manager_at    the sections of the manager whose header is where a slot points: "a header start past the data" is 10; then the header's checks
+--   read_manager  the same, but for the undefined address no sections (P2)
 --   read_slots    each slot's sections: "slots in order"; "the first refusal ends the read"
 --   joined        the sections of all slots, in order
 --   into_run      the sections in the lent run, or refusal 14 with their number (at most 2^64 - 1) and its capacity: "Only after all succeed is 14
@@ -32,8 +32,8 @@ use Rattle.fsm_blocks.specs.Checks.{fshd_checks, fsse_checks}
 
 -- how it is read, the offset size, and what is added to each block's address
 module _ (how : Reading) (O base : ℕ) where
-  abbrev pub listAt : ℕ → Header → List ℕ → Outcome (List FreeSection)
-  listAt slot h bytes =
+  abbrev pub list_at : ℕ → Header → List ℕ → Outcome (List FreeSection)
+  list_at slot h bytes =
       let list = window (h.fsse + base) h.used bytes in
       first_of
       (when (ltb top (h.fsse + base)) InvalidManager
@@ -41,24 +41,24 @@ module _ (how : Reading) (O base : ℕ) where
       ∷ fsse_checks how O slot list)
       (parse_fsse O h.bits h.greatest h.total list)
 
-  unfoldable pub readNamed : ℕ → Header → List ℕ → Outcome (List FreeSection)
-  readNamed slot h bytes = cond (eqb h.fsse (undefined_addr O)) (answer []) (listAt slot h bytes)
+  unfoldable pub read_named : ℕ → Header → List ℕ → Outcome (List FreeSection)
+  read_named slot h bytes = cond (eqb h.fsse (undefined_addr O)) (answer []) (list_at slot h bytes)
 
-  abbrev pub managerAt : ℕ → List ℕ → Outcome (List FreeSection)
-  managerAt slot bytes =
+  abbrev pub manager_at : ℕ → List ℕ → Outcome (List FreeSection)
+  manager_at slot bytes =
       let header = drop (slot + base) bytes in
       first_of
       (when (ltb top (slot + base)) InvalidManager
       ∷ when (ltb (length bytes) (slot + base)) InvalidManager
       ∷ fshd_checks how O header)
-      (and_then (parse_fshd O header) (λ h. readNamed slot h bytes))
+      (and_then (parse_fshd O header) (λ h. read_named slot h bytes))
 
-  unfoldable pub readManager : ℕ → List ℕ → Outcome (List FreeSection)
-  readManager slot bytes = cond (eqb slot (undefined_addr O)) (answer []) (managerAt slot bytes)
+  unfoldable pub read_manager : ℕ → List ℕ → Outcome (List FreeSection)
+  read_manager slot bytes = cond (eqb slot (undefined_addr O)) (answer []) (manager_at slot bytes)
 
   unfoldable pub read_slots : List ℕ → List ℕ → Outcome (List (List FreeSection))
   read_slots [] bytes = answer []
-  read_slots (a ∷ slots) bytes = and_then (readManager a bytes) (λ x. and_then (read_slots slots bytes) (λ y. answer (x ∷ y)))
+  read_slots (a ∷ slots) bytes = and_then (read_manager a bytes) (λ x. and_then (read_slots slots bytes) (λ y. answer (x ∷ y)))
 
 unfoldable pub joined : List (List FreeSection) → List FreeSection
 joined [] = []

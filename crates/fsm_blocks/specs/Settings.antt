@@ -3,10 +3,10 @@
 --   Settings       what a writer may choose: address bits, greatest section size, shrink, expand, surplus of allocated over used length
 --   starting_set   the settings at an offset size: "shrink 80, expand 120, client 1 and greatest size 2^63−1. Address bits are 8O−1";
 --                  "allocated equals used", so surplus 0
---   widthsFor      the widths that the settings give to a number of sections
---   header_of, headerFor   the header of sections whose list stands at an address: "three classes"; "Serialized equals total, ghost is 0"
---   fsseFor        the section list whose header stands at an address
---   fsseUsed       its length; usedBy the same by how many sections and sizes there are
+--   widths_for     the widths that the settings give to a number of sections
+--   header_of, header_for   the header of sections whose list stands at an address: "three classes"; "Serialized equals total, ghost is 0"
+--   fsse_for       the section list whose header stands at an address
+--   fsse_used      its length; used_by the same by how many sections and sizes there are
 --   blocks_size    both blocks' lengths with the starting settings, 0 without sections
 use Rattle.std.specs.Prelude.{ℕ, ◌+◌, ◌-◌, ◌*◌, ◌^◌, cond, List, eqb, length}
 use Rattle.fsm_sections.specs.declared.FreeSection.{FreeSection}
@@ -45,20 +45,20 @@ header_of set space n fsse used = record {
 }
 
 module _ (O : ℕ) (set : Settings) where
-  abbrev pub widthsFor : ℕ → Widths
-  widthsFor n = widths_of n set.greatest set.bits
+  abbrev pub widths_for : ℕ → Widths
+  widths_for n = widths_of n set.greatest set.bits
 
-  abbrev pub usedBy : ℕ → ℕ → ℕ
-  usedBy n d = size_by (widthsFor n) O n d
+  abbrev pub used_by : ℕ → ℕ → ℕ
+  used_by n d = size_by (widths_for n) O n d
 
-  abbrev pub fsseUsed : List FreeSection → ℕ
-  fsseUsed l = fsse_size (widthsFor (length l)) O l
+  abbrev pub fsse_used : List FreeSection → ℕ
+  fsse_used l = fsse_size (widths_for (length l)) O l
 
-  abbrev pub headerFor : ℕ → List FreeSection → Header
-  headerFor fsse l = header_of set (space l) (length l) fsse (fsseUsed l)
+  abbrev pub header_for : ℕ → List FreeSection → Header
+  header_for fsse l = header_of set (space l) (length l) fsse (fsse_used l)
 
-  abbrev pub fsseFor : (List ℕ → ℕ) → ℕ → ℕ → List FreeSection → List ℕ
-  fsseFor sum fshd class l = fsse_bytes sum (widthsFor (length l)) O fshd class l
+  abbrev pub fsse_for : (List ℕ → ℕ) → ℕ → ℕ → List FreeSection → List ℕ
+  fsse_for sum fshd class l = fsse_bytes sum (widths_for (length l)) O fshd class l
 
 abbrev pub blocks_size : ℕ → List FreeSection → ℕ
-blocks_size O l = cond (eqb (length l) 0) 0 (fshd_size O + fsseUsed O (starting_set O) l)
+blocks_size O l = cond (eqb (length l) 0) 0 (fshd_size O + fsse_used O (starting_set O) l)

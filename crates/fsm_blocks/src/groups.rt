@@ -5,7 +5,7 @@ ghost use Rattle.error.specs.Lent.{over};
 ghost use Rattle.fields.specs.Le.{le_value};
 ghost use Rattle.fields.specs.Layout.{le_at};
 ghost use Rattle.fsm_sections.specs.Sections.{flat, with_size};
-ghost use Rattle.fsm_blocks.specs.Groups.{parseGroups};
+ghost use Rattle.fsm_blocks.specs.Groups.{parse_groups};
 ghost use Rattle.fsm_blocks.specs.Parts.{got, Accepted, counted, addresses, widths_in, Narrow, WidthsOf};
 
 use crate::header::FsmHeader;
@@ -104,7 +104,7 @@ fn passes(room: u64, count: u64, entry: u64) -> bool
 // How many sections groups hold: `total`, or a refusal. The entries are passed over.
 pub(crate) fn groups_count(groups: &[u8], w: GroupWidths, total: u64) -> Number
     requires { Narrow w }
-    ensures { number_outcome result ≡ counted (parseGroups (widths_in w) total groups.now) }
+    ensures { number_outcome result ≡ counted (parse_groups (widths_in w) total groups.now) }
 {
     let mut at = 0;
     let mut left = total;
@@ -156,9 +156,9 @@ fn put_entries(
 // Puts the sections of accepted groups into the run.
 pub(crate) fn put_groups(groups: &[u8], w: GroupWidths, total: u64, out: &mut [u64], from: usize)
     requires widths { Narrow w }
-    requires accepted { Accepted (parseGroups (widths_in w) total groups.now) }
+    requires accepted { Accepted (parse_groups (widths_in w) total groups.now) }
     requires room { from + 2 * total ≤ length out.old }
-    ensures { out.new ≡ over from (flat (got (parseGroups (widths_in w) total groups.now))) out.old }
+    ensures { out.new ≡ over from (flat (got (parse_groups (widths_in w) total groups.now))) out.old }
 {
     let mut at = 0;
     let mut left = total;

@@ -2,7 +2,7 @@
 ghost use Rattle.std.specs.Prelude.{◌≡◌, ◌+◌, ◌*◌, ◌<◌};
 ghost use Rattle.error.specs.Answers.{number_outcome};
 ghost use Rattle.fsm_sections.specs.Passes.{storable};
-ghost use Rattle.fsm_blocks.specs.Settings.{starting_set, usedBy};
+ghost use Rattle.fsm_blocks.specs.Settings.{starting_set, used_by};
 
 use error::{Number, Refusal};
 use fields::width::enc_size;
@@ -21,7 +21,7 @@ fn add_times(from: u64, n: u64, w: u64) -> Number
 
 // The length of the section list of `count` sections of `sizes` sizes.
 pub fn fsse_used(count: u64, sizes: u64, offset_size: u8) -> Number
-    ensures { number_outcome result ≡ storable (usedBy offset_size (starting_set offset_size) count sizes) }
+    ensures { number_outcome result ≡ storable (used_by offset_size (starting_set offset_size) count sizes) }
 {
     let o = offset_size as u64;
     let cw = enc_size(count) as u64;

@@ -9,7 +9,7 @@ ghost use Rattle.fsm_blocks.specs.declared.checks.Reading.TheVariants.{Loose};
 ghost use Rattle.fsm_blocks.specs.Answers.{header_outcome};
 ghost use Rattle.fsm_blocks.specs.Fshd.{kept, parsed_fshd};
 ghost use Rattle.fsm_blocks.specs.Checks.{fshd_checks};
-ghost use Rattle.fsm_blocks.specs.Reading.{readNamed, readManager};
+ghost use Rattle.fsm_blocks.specs.Reading.{read_named, read_manager};
 ghost use Rattle.fsm_blocks.specs.Parts.{got, Accepted};
 ghost use Rattle.fsm_blocks.specs.Named.{full, named_outcome, Inside, refusal_in, manager_count};
 
@@ -61,7 +61,7 @@ fn list_of(
 ) -> Named
     requires { not (valid_width offset_size) ≡ false }
     ensures named { named_outcome offset_size bytes.now result
-        ≡ readNamed reading offset_size base.0 slot (full header) bytes.now }
+        ≡ read_named reading offset_size base.0 slot (full header) bytes.now }
     ensures inside { Inside (length bytes.now) result }
 {
     let fsse = header.fsse_addr;
@@ -93,7 +93,7 @@ fn list_of(
 // The section list of the manager whose header a slot names. The base is added to both addresses.
 fn locate(bytes: &[u8], slot: u64, base: BaseAddress, offset_size: u8, reading: Reading) -> Named
     requires { not (valid_width offset_size) ≡ false }
-    ensures named { named_outcome offset_size bytes.now result ≡ readManager reading offset_size base.0 slot bytes.now }
+    ensures named { named_outcome offset_size bytes.now result ≡ read_manager reading offset_size base.0 slot bytes.now }
     ensures inside { Inside (length bytes.now) result }
 {
     if slot == undefined_addr(offset_size) {
@@ -149,10 +149,10 @@ pub(crate) fn put_manager(
     from: usize,
 ) -> usize
     requires width { not (valid_width offset_size) ≡ false }
-    requires accepted { Accepted (readManager Loose offset_size base.0 slot bytes.now) }
-    requires room { from + 2 * length (got (readManager Loose offset_size base.0 slot bytes.now)) ≤ length out.old }
-    ensures put { out.new ≡ over from (flat (got (readManager Loose offset_size base.0 slot bytes.now))) out.old }
-    ensures next { result ≡ from + 2 * length (got (readManager Loose offset_size base.0 slot bytes.now)) }
+    requires accepted { Accepted (read_manager Loose offset_size base.0 slot bytes.now) }
+    requires room { from + 2 * length (got (read_manager Loose offset_size base.0 slot bytes.now)) ≤ length out.old }
+    ensures put { out.new ≡ over from (flat (got (read_manager Loose offset_size base.0 slot bytes.now))) out.old }
+    ensures next { result ≡ from + 2 * length (got (read_manager Loose offset_size base.0 slot bytes.now)) }
 {
     let found = locate(bytes, slot, base, offset_size, Reading::Loose);
     match found {

@@ -21,8 +21,8 @@ use Rattle.fsm_sections.specs.declared.FreeSection.{FreeSection}
 use Rattle.fsm_sections.specs.Sections.{section, space, of_size, distinct}
 use Rattle.fsm_sections.specs.Passes.{storable}
 use Rattle.fsm_sections.proofs.StoredLaws.{great_enough}
-use Rattle.fsm_blocks.specs.Settings.{Settings, starting_set, usedBy, fsseUsed}
-use Rattle.fsm_blocks.proofs.LengthLaws.{width_small, used_by}
+use Rattle.fsm_blocks.specs.Settings.{Settings, starting_set, used_by, fsse_used}
+use Rattle.fsm_blocks.proofs.LengthLaws.{width_small, used_by_lem}
 use Rattle.fsm_lengths.specs.Lengths.{unplaced, fsse_len}
 
 -- ---- few sizes: those below a bound are no more than the bound, each other one adds the bound to the sum
@@ -198,11 +198,11 @@ module _ (o : ℕ) (zs : List ℕ) (high : o ≤ 8) (sum : space (unplaced zs) �
       let k : o + 1 ≤ 9 = omega arith in
       omega (arith, mul-le-mul n k)
 
-  pub used-fits : usedBy o (starting_set o) (length zs) d ≤ top
-  used-fits = omega (arith, used_by o (length zs) d, groups_fit, entries_fit)
+  pub used-fits : used_by o (starting_set o) (length zs) d ≤ top
+  used-fits = omega (arith, used_by_lem o (length zs) d, groups_fit, entries_fit)
 
 -- what a parse reads back has the length that its sizes give: only sizes count
-pub by_sizes : (o : ℕ) (set : Settings) (l : List FreeSection) → fsseUsed o set (unplaced (map (λ s. s.size) l)) ≡ fsseUsed o set l
+pub by_sizes : (o : ℕ) (set : Settings) (l : List FreeSection) → fsse_used o set (unplaced (map (λ s. s.size) l)) ≡ fsse_used o set l
 unfolding of_size distinct
 by_sizes o set l = rw (length-same l, distinct-same l)
   where
@@ -235,10 +235,10 @@ module _ (O : ℕ) (zs : List ℕ) where
     len_over h = sym (first_passes _ Width _ _ v ∙ first_holds _ Overflow _ _ (sym h))
 
     pub len_is : false ≡ ltb top (space (unplaced zs)) → length zs < 2 ^ 60 → (sizes : ℕ) → sizes ≡ distinct (unplaced zs)
-        → storable (usedBy O (starting_set O) (length zs) sizes) ≡ fsse_len O zs
+        → storable (used_by O (starting_set O) (length zs) sizes) ≡ fsse_len O zs
     unfolding fsse_len
     len_is h few sizes e =
         let w = and_true (leb 1 O) (leb O 8) (not_false (valid_width O) v) in
-        let k : usedBy O (starting_set O) (length zs) (distinct (unplaced zs)) ≡ fsseUsed O (starting_set O) (unplaced zs) = rw (length-unplaced zs) in
+        let k : used_by O (starting_set O) (length zs) (distinct (unplaced zs)) ≡ fsse_used O (starting_set O) (unplaced zs) = rw (length-unplaced zs) in
         let g = used-fits O zs (leb-true O 8 w.1) (ltb-false top (space (unplaced zs)) (sym h)) few in
-        sym (first_passes _ Width _ _ v ∙ first_passes _ Overflow [] _ (sym h) ∙ first-none _ ∙ great_enough _ _ (sym (ap (usedBy O (starting_set O) (length zs)) e ∙ k)) (omega (arith, g, k)))
+        sym (first_passes _ Width _ _ v ∙ first_passes _ Overflow [] _ (sym h) ∙ first-none _ ∙ great_enough _ _ (sym (ap (used_by O (starting_set O) (length zs)) e ∙ k)) (omega (arith, g, k)))

@@ -9,7 +9,7 @@ use Rattle.fields.specs.Ranges.{top}
 use Rattle.fields.specs.Width.{valid_width}
 use Rattle.fsm_sections.specs.declared.FreeSection.{FreeSection}
 use Rattle.fsm_sections.specs.Sections.{section, space}
-use Rattle.fsm_blocks.specs.Settings.{starting_set, fsseUsed}
+use Rattle.fsm_blocks.specs.Settings.{starting_set, fsse_used}
 
 abbrev pub unplaced : List ℕ → List FreeSection
 unplaced zs = map (section 0) zs
@@ -20,4 +20,4 @@ fsse_len O zs =
     (when (not (valid_width O)) Width
     ∷ when (ltb top (space (unplaced zs))) Overflow
     ∷ [])
-    (answer (fsseUsed O (starting_set O) (unplaced zs)))
+    (answer (fsse_used O (starting_set O) (unplaced zs)))

@@ -185,8 +185,8 @@ module _ (page addr end from : ℕ) (out₀ : List ℕ) (p : 0 < page) (room : f
       none : left page a end ≡ []
       none = pieces_none (end - a) page a end h
 
-      pub cut-end : out ≡ over from (flat (left page addr end)) out₀
-      cut-end = sym (over-nil k out) ∙ sym (ap (λ (m : List FreeSection). over k (flat m) out) none) ∙ now.same
+      pub cut_end : out ≡ over from (flat (left page addr end)) out₀
+      cut_end = sym (over-nil k out) ∙ sym (ap (λ (m : List FreeSection). over k (flat m) out) none) ∙ now.same
 
       pub cut-place : k ≡ from + 2 * length (left page addr end)
       cut-place = let z : length (left page a end) ≡ 0 = ap length none in omega (arith, now.number)
@@ -208,7 +208,7 @@ module _ (page addr size from : ℕ) (out₀ : List ℕ) (p : 0 < page) (room₀
   finished : (out : List ℕ) (j b : ℕ) → Cutting page addr (addr + size) from out₀ out b j → addr + size ≤ b → Done out j
   finished out j b w h =
       let e = left-all page addr size in (
-        cut-end page addr (addr + size) from out₀ p enough-room out b j w h ∙ ap (λ (m : List FreeSection). over from (flat m) out₀) e,
+        cut_end page addr (addr + size) from out₀ p enough-room out b j w h ∙ ap (λ (m : List FreeSection). over from (flat m) out₀) e,
         cut-place page addr (addr + size) from out₀ p enough-room out b j w h ∙ ap (λ (m : List FreeSection). from + 2 * length m) e,
       )
 

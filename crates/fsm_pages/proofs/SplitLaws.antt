@@ -71,9 +71,9 @@ module _ (page n : ℕ) (xs : List ℕ) where
       pub count-few : some < n
       count-few = omega (arith, ap length e, now.few)
 
-      pub count-above : top - x.size < x.addr
+      pub count_above : top - x.size < x.addr
           → refused Overflow ≡ first_of (when (ends_above (decode n xs)) Overflow ∷ []) (answer (sat (length (split page (decode n xs)))))
-      count-above o = refuses (ends_above (decode n xs)) Overflow (answer (sat (length (split page (decode n xs))))) (sym now.above ∙ above-found l x m e o)
+      count_above o = refuses (ends_above (decode n xs)) Overflow (answer (sat (length (split page (decode n xs))))) (sym now.above ∙ above-found l x m e o)
 
       module _ (p : 0 < page) where
         abbrev Added : ℕ → Type 0
@@ -81,8 +81,8 @@ module _ (page n : ℕ) (xs : List ℕ) where
 
         -- the pieces after the first are added where there are any
         module _ (space : ℕ) (f : space ≡ page - x.addr % page) where
-          pub count-more : space < x.size → (q j : ℕ) → q ≡ (x.size - space - 1) / page → j ≡ sat (more + (1 + q)) → Added j
-          count-more h q j g i =
+          pub count_more : space < x.size → (q j : ℕ) → q ≡ (x.size - space - 1) / page → j ≡ sat (more + (1 + q)) → Added j
+          count_more h q j g i =
               i ∙ ap (λ (k : ℕ). sat (more + (1 + k))) (g ∙ ap (λ (k : ℕ). (x.size - k - 1) / page) f)
               ∙ ap (λ (k : ℕ). sat (more + k)) (sym (after-some page x.addr x.size p (omega arith)))
 
@@ -124,8 +124,8 @@ module _ (page : ℕ) (all : List FreeSection) (out₀ : List ℕ) where
 
   module _ (l : List FreeSection) (out : List ℕ) (k : ℕ) (now : Putting l out k) where
     module _ (x : FreeSection) (m : List FreeSection) (e : l ≡ x ∷ m) where
-      pub put-room : k + 2 * length (pieces page x) ≤ length out
-      put-room = omega (arith, split-length page l x m e, now.space)
+      pub put_room : k + 2 * length (pieces page x) ≤ length out
+      put_room = omega (arith, split-length page l x m e, now.space)
 
       pub put_step : (out' : List ℕ) (j : ℕ) → out' ≡ over k (flat (pieces page x)) out → j ≡ k + 2 * length (pieces page x) → Putting m out' j
       put_step out' j o f =

@@ -38,8 +38,8 @@ use Rattle.fsm_plan.specs.declared.blocks.SlotsMeasured.TheVariants as slots
 use Rattle.fsm_plan.specs.declared.blocks.PagedManagerPlan.{PagedManagerPlan}
 use Rattle.fsm_plan.specs.declared.blocks.BlocksPlan.{BlocksPlan}
 use Rattle.fsm_plan.specs.Order.{repeats, source_of}
-use Rattle.fsm_plan.specs.Blocks.{paged, inSlot0, inSlot2, inLarge, wideSections, size_tests, measure_of, measured, measuresOf, slotsMeasured}
-use Rattle.fsm_plan.specs.Blocks.{end_at, managers_at, blocks_at, wide_block, wide_managers, Placed, runTests, plannedFrom, plannedBlocks, Ready, measured_outcome, measures_outcome}
+use Rattle.fsm_plan.specs.Blocks.{paged, in_slot0, in_slot2, in_large, wide_sections, size_tests, measure_of, measured, measures_of, slots_measured}
+use Rattle.fsm_plan.specs.Blocks.{end_at, managers_at, blocks_at, wide_block, wide_managers, Placed, run_tests, planned_from, planned_blocks, Ready, measured_outcome, measures_outcome}
 use Rattle.fsm_plan.proofs.RunsLaws.{Tested, tests_refuse, tests_pass, tests_show, small_same, large_given}
 use Rattle.fsm_plan.proofs.MeasureLaws.{measure_refused, measure_known, measured-same}
 
@@ -53,40 +53,40 @@ module _ (O page : ℕ) (some : 0 < page) (s : Source) (c : Measured) where
       ∙ measured-same O (slot0 page (decode m xs)) (sections_of (chains_of (small_source page m) xs xs xs)) (small_same page m xs some)
 
   pub large_measured : (n : Counts) (xs ys zs : List ℕ) → s ≡ source_of (paged n page) → measured_outcome c ≡ measured O (sections_of (chains_of s xs ys zs))
-      → measured_outcome c ≡ measured O (inLarge (paged n page) xs ys zs)
+      → measured_outcome c ≡ measured O (in_large (paged n page) xs ys zs)
   large_measured n xs ys zs e f =
       f ∙ ap (λ (x : Source). measured O (sections_of (chains_of x xs ys zs))) e
       ∙ ap (measured O) (sym (slot6-runs page n.meta n.raw n.unclassified xs ys zs some))
 
 -- ---- the slots in order
 
-module _ (s : Paged) (a b c : List ℕ) (O : ℕ) (x : Measured) (xe : measured_outcome x ≡ measured O (inSlot0 s a b c)) where
-  pub slots-first : (r : Refusal) → x ≡ measures.Refused r → refused Overflow ≡ slotsMeasured s a b c O
-  unfolding slotsMeasured
-  slots-first r h = measure_refused O (inSlot0 s a b c) x xe r h _
+module _ (s : Paged) (a b c : List ℕ) (O : ℕ) (x : Measured) (xe : measured_outcome x ≡ measured O (in_slot0 s a b c)) where
+  pub slots-first : (r : Refusal) → x ≡ measures.Refused r → refused Overflow ≡ slots_measured s a b c O
+  unfolding slots_measured
+  slots-first r h = measure_refused O (in_slot0 s a b c) x xe r h _
 
-  module _ (m0 : Measure) (h0 : x ≡ measures.Is m0) (y : Measured) (ye : measured_outcome y ≡ measured O (inSlot2 s a b c)) where
-    after_first : slotsMeasured s a b c O ≡ first_of (size_tests O (inSlot2 s a b c)) (first_of (size_tests O (inLarge s a b c)) (answer (measuresOf s a b c O)))
-    unfolding slotsMeasured
-    after_first = first_pass (size_tests O (inSlot0 s a b c)) _ (measure_known O (inSlot0 s a b c) x xe m0 h0).0
+  module _ (m0 : Measure) (h0 : x ≡ measures.Is m0) (y : Measured) (ye : measured_outcome y ≡ measured O (in_slot2 s a b c)) where
+    after_first : slots_measured s a b c O ≡ first_of (size_tests O (in_slot2 s a b c)) (first_of (size_tests O (in_large s a b c)) (answer (measures_of s a b c O)))
+    unfolding slots_measured
+    after_first = first_pass (size_tests O (in_slot0 s a b c)) _ (measure_known O (in_slot0 s a b c) x xe m0 h0).0
 
-    pub slots-second : (r : Refusal) → y ≡ measures.Refused r → refused Overflow ≡ slotsMeasured s a b c O
-    slots-second r h = measure_refused O (inSlot2 s a b c) y ye r h _ ∙ sym after_first
+    pub slots-second : (r : Refusal) → y ≡ measures.Refused r → refused Overflow ≡ slots_measured s a b c O
+    slots-second r h = measure_refused O (in_slot2 s a b c) y ye r h _ ∙ sym after_first
 
-    module _ (m2 : Measure) (h2 : y ≡ measures.Is m2) (z : Measured) (ze : measured_outcome z ≡ measured O (inLarge s a b c)) where
-      after-second : slotsMeasured s a b c O ≡ first_of (size_tests O (inLarge s a b c)) (answer (measuresOf s a b c O))
-      after-second = after_first ∙ first_pass (size_tests O (inSlot2 s a b c)) _ (measure_known O (inSlot2 s a b c) y ye m2 h2).0
+    module _ (m2 : Measure) (h2 : y ≡ measures.Is m2) (z : Measured) (ze : measured_outcome z ≡ measured O (in_large s a b c)) where
+      after-second : slots_measured s a b c O ≡ first_of (size_tests O (in_large s a b c)) (answer (measures_of s a b c O))
+      after-second = after_first ∙ first_pass (size_tests O (in_slot2 s a b c)) _ (measure_known O (in_slot2 s a b c) y ye m2 h2).0
 
-      pub slots_third : (r : Refusal) → z ≡ measures.Refused r → refused Overflow ≡ slotsMeasured s a b c O
-      slots_third r h = measure_refused O (inLarge s a b c) z ze r h _ ∙ sym after-second
+      pub slots_third : (r : Refusal) → z ≡ measures.Refused r → refused Overflow ≡ slots_measured s a b c O
+      slots_third r h = measure_refused O (in_large s a b c) z ze r h _ ∙ sym after-second
 
-      pub slots_are : (m6 : Measure) → z ≡ measures.Is m6 → answer (record { slot0 = m0; slot2 = m2; slot6 = m6 }) ≡ slotsMeasured s a b c O
+      pub slots_are : (m6 : Measure) → z ≡ measures.Is m6 → answer (record { slot0 = m0; slot2 = m2; slot6 = m6 }) ≡ slots_measured s a b c O
       slots_are m6 h =
-          let p = (measure_known O (inSlot0 s a b c) x xe m0 h0).1 in
-          let q = (measure_known O (inSlot2 s a b c) y ye m2 h2).1 in
-          let r = measure_known O (inLarge s a b c) z ze m6 h in
-          let e : record { slot0 = m0; slot2 = m2; slot6 = m6 } ≡ measuresOf s a b c O = λ i. record { slot0 = p i; slot2 = q i; slot6 = r.1 i } in
-          ap answer e ∙ sym (after-second ∙ first_pass (size_tests O (inLarge s a b c)) _ r.0)
+          let p = (measure_known O (in_slot0 s a b c) x xe m0 h0).1 in
+          let q = (measure_known O (in_slot2 s a b c) y ye m2 h2).1 in
+          let r = measure_known O (in_large s a b c) z ze m6 h in
+          let e : record { slot0 = m0; slot2 = m2; slot6 = m6 } ≡ measures_of s a b c O = λ i. record { slot0 = p i; slot2 = q i; slot6 = r.1 i } in
+          ap answer e ∙ sym (after-second ∙ first_pass (size_tests O (in_large s a b c)) _ r.0)
 
 -- ---- `plan_from`, by its branches
 
@@ -101,25 +101,25 @@ module _ (a b c : List ℕ) (s : Paged) (O : ℕ) (m : Measures) (h : Ready a b 
   from-given S e = subst (λ (q : Source). Given q a b c) (sym e) h.given
 
   module _ (t : Bool) (te : t ≡ ltb top (end_at start m)) where
-    pub from_late : t ≡ true → refused Overflow ≡ plannedFrom a b c (undefined_addr O) s m start O
-    unfolding plannedFrom
+    pub from_late : t ≡ true → refused Overflow ≡ planned_from a b c (undefined_addr O) s m start O
+    unfolding planned_from
     from_late e = sym (first_holds _ Overflow _ _ (sym te ∙ e))
 
     module _ (tf : t ≡ false) where
       pub from-placed : Placed O start m
       from-placed = record {
         end = ltb-false top (end_at start m) (sym te ∙ tf);
-        room0 = room (inSlot0 s a b c) m.slot0 (ap (λ (x : Measures). x.slot0) h.measures);
-        room2 = room (inSlot2 s a b c) m.slot2 (ap (λ (x : Measures). x.slot2) h.measures);
-        room6 = room (inLarge s a b c) m.slot6 (ap (λ (x : Measures). x.slot6) h.measures);
+        room0 = room (in_slot0 s a b c) m.slot0 (ap (λ (x : Measures). x.slot0) h.measures);
+        room2 = room (in_slot2 s a b c) m.slot2 (ap (λ (x : Measures). x.slot2) h.measures);
+        room6 = room (in_large s a b c) m.slot6 (ap (λ (x : Measures). x.slot6) h.measures);
       }
 
       module _ (S : Source) (Se : S ≡ source_of s) (u : Bool) (ue : u ≡ repeats (sections_of (chains_of S a b c))) where
-        shared-is : u ≡ repeats (inLarge s a b c)
+        shared-is : u ≡ repeats (in_large s a b c)
         shared-is = ue ∙ ap (λ (q : Source). repeats (sections_of (chains_of q a b c))) Se ∙ ap repeats (sym (slot6-runs s.page s.na s.nb s.nc a b c h.given.some))
 
-        pub from-shared : u ≡ true → refused SharedAddress ≡ plannedFrom a b c (undefined_addr O) s m start O
-        unfolding plannedFrom
+        pub from-shared : u ≡ true → refused SharedAddress ≡ planned_from a b c (undefined_addr O) s m start O
+        unfolding planned_from
         from-shared e = sym (first_passes _ Overflow _ _ (sym te ∙ tf) ∙ first_holds _ SharedAddress _ _ (sym shared-is ∙ e))
 
         module _ (uf : u ≡ false) (p : PagedManagerPlan) (pe : p ≡ managers_at O start m) (v : Bool) (ve : v ≡ wide_managers (undefined_addr O) p) where
@@ -127,25 +127,25 @@ module _ (a b c : List ℕ) (s : Paged) (O : ℕ) (m : Measures) (h : Ready a b 
           blocks_wide = ve ∙ ap (wide_managers (undefined_addr O)) pe
 
           abbrev test : Bool
-          test = wide_managers (undefined_addr O) (managers_at O start m) || wideSections s a b c O
+          test = wide_managers (undefined_addr O) (managers_at O start m) || wide_sections s a b c O
 
-          wide-holds : test ≡ true → refused WideAddress ≡ plannedFrom a b c (undefined_addr O) s m start O
-          unfolding plannedFrom
+          wide-holds : test ≡ true → refused WideAddress ≡ planned_from a b c (undefined_addr O) s m start O
+          unfolding planned_from
           wide-holds e =
               sym (first_passes _ Overflow _ _ (sym te ∙ tf) ∙ first_passes _ SharedAddress _ _ (sym shared-is ∙ uf) ∙ first_holds _ WideAddress _ _ e)
 
-          pub from-wide : v ≡ true → refused WideAddress ≡ plannedFrom a b c (undefined_addr O) s m start O
-          from-wide e = wide-holds (sym (or_decides v _ (wideSections s a b c O) blocks_wide e))
+          pub from-wide : v ≡ true → refused WideAddress ≡ planned_from a b c (undefined_addr O) s m start O
+          from-wide e = wide-holds (sym (or_decides v _ (wide_sections s a b c O) blocks_wide e))
 
-          module _ (vf : v ≡ false) (w : Bool) (we : w ≡ wideSections s a b c O) where
+          module _ (vf : v ≡ false) (w : Bool) (we : w ≡ wide_sections s a b c O) where
             wide_is : w ≡ test
-            wide_is = we ∙ or-leaves v _ (wideSections s a b c O) blocks_wide vf
+            wide_is = we ∙ or-leaves v _ (wide_sections s a b c O) blocks_wide vf
 
-            pub from-wide-section : w ≡ true → refused WideAddress ≡ plannedFrom a b c (undefined_addr O) s m start O
+            pub from-wide-section : w ≡ true → refused WideAddress ≡ planned_from a b c (undefined_addr O) s m start O
             from-wide-section e = wide-holds (sym wide_is ∙ e)
 
-            pub from_plan : w ≡ false → answer (record { managers = p; measures = m }) ≡ plannedFrom a b c (undefined_addr O) s m start O
-            unfolding plannedFrom
+            pub from_plan : w ≡ false → answer (record { managers = p; measures = m }) ≡ planned_from a b c (undefined_addr O) s m start O
+            unfolding planned_from
             from_plan e =
                 ap (λ (x : PagedManagerPlan). answer (record { managers = x; measures = m })) pe
                 ∙ sym (first_passes _ Overflow _ _ (sym te ∙ tf) ∙ first_passes _ SharedAddress _ _ (sym shared-is ∙ uf)
@@ -153,38 +153,38 @@ module _ (a b c : List ℕ) (s : Paged) (O : ℕ) (m : Measures) (h : Ready a b 
 
 -- ---- `plan_blocks`, by its branches
 
-module _ (a b c : List ℕ) (n : Counts) (page start O : ℕ) (x : Checked) (xe : checked_outcome x ≡ first_of (runTests a b c n page O) (answer tt)) where
+module _ (a b c : List ℕ) (n : Counts) (page start O : ℕ) (x : Checked) (xe : checked_outcome x ≡ first_of (run_tests a b c n page O) (answer tt)) where
   abbrev s : Paged
   s = paged n page
 
-  pub blocks_tested : (r : Refusal) → x ≡ checked.Refused r → refused r ≡ plannedBlocks a b c n page start O
-  unfolding plannedBlocks
+  pub blocks_tested : (r : Refusal) → x ≡ checked.Refused r → refused r ≡ planned_blocks a b c n page start O
+  unfolding planned_blocks
   blocks_tested r h = tests_refuse a b c n page O x xe r h _
 
-  module _ (h : x ≡ checked.Passed) (y : SlotsMeasured) (ye : measures_outcome y ≡ slotsMeasured s a b c O) where
-    then_from : and_then (measures_outcome y) (λ m. plannedFrom a b c (undefined_addr O) s m start O) ≡ plannedBlocks a b c n page start O
-    unfolding plannedBlocks
+  module _ (h : x ≡ checked.Passed) (y : SlotsMeasured) (ye : measures_outcome y ≡ slots_measured s a b c O) where
+    then_from : and_then (measures_outcome y) (λ m. planned_from a b c (undefined_addr O) s m start O) ≡ planned_blocks a b c n page start O
+    unfolding planned_blocks
     then_from =
-        ap (λ (z : Outcome Measures). and_then z (λ m. plannedFrom a b c (undefined_addr O) s m start O)) ye
+        ap (λ (z : Outcome Measures). and_then z (λ m. planned_from a b c (undefined_addr O) s m start O)) ye
         ∙ tests_pass a b c n page O x xe h _
 
-    pub blocks_measured : (r : Refusal) → y ≡ slots.Refused r → refused r ≡ plannedBlocks a b c n page start O
+    pub blocks_measured : (r : Refusal) → y ≡ slots.Refused r → refused r ≡ planned_blocks a b c n page start O
     unfolding and_then
-    blocks_measured r g = ap (λ (z : SlotsMeasured). and_then (measures_outcome z) (λ m. plannedFrom a b c (undefined_addr O) s m start O)) (sym g) ∙ then_from
+    blocks_measured r g = ap (λ (z : SlotsMeasured). and_then (measures_outcome z) (λ m. planned_from a b c (undefined_addr O) s m start O)) (sym g) ∙ then_from
 
     module _ (m : Measures) (g : y ≡ slots.Are m) where
-      pub blocks_from : plannedFrom a b c (undefined_addr O) s m start O ≡ plannedBlocks a b c n page start O
+      pub blocks_from : planned_from a b c (undefined_addr O) s m start O ≡ planned_blocks a b c n page start O
       unfolding and_then
-      blocks_from = ap (λ (z : SlotsMeasured). and_then (measures_outcome z) (λ m. plannedFrom a b c (undefined_addr O) s m start O)) (sym g) ∙ then_from
+      blocks_from = ap (λ (z : SlotsMeasured). and_then (measures_outcome z) (λ m. planned_from a b c (undefined_addr O) s m start O)) (sym g) ∙ then_from
 
       pub blocks_ready : Ready a b c s O m
-      unfolding slotsMeasured
+      unfolding slots_measured
       blocks_ready =
           let t = tests_show a b c n page O x xe h in
-          let p = first_shows (size_tests O (inSlot0 s a b c)) _ m (sym ye ∙ ap measures_outcome g) in
-          let q = first_shows (size_tests O (inSlot2 s a b c)) _ m p.1 in
-          let r = first_shows (size_tests O (inLarge s a b c)) _ m q.1 in
-          let e : answer (measuresOf s a b c O) ≡ answer m = r.1 in
+          let p = first_shows (size_tests O (in_slot0 s a b c)) _ m (sym ye ∙ ap measures_outcome g) in
+          let q = first_shows (size_tests O (in_slot2 s a b c)) _ m p.1 in
+          let r = first_shows (size_tests O (in_large s a b c)) _ m q.1 in
+          let e : answer (measures_of s a b c O) ≡ answer m = r.1 in
           record {
             width = width_in O t.low t.high;
             given = large_given a b c n page O t;
@@ -197,44 +197,44 @@ module _ (a b c : List ℕ) (n : Counts) (page start O : ℕ) (x : Checked) (xe 
 
 pub record Accepted (a b c : List ℕ) (n : Counts) (page start O : ℕ) (p : BlocksPlan) : Type 0 where
   pub tested : Tested a b c n page O
-  pub sum0 : space (inSlot0 (paged n page) a b c) ≤ top
-  pub sum2 : space (inSlot2 (paged n page) a b c) ≤ top
-  pub sum6 : space (inLarge (paged n page) a b c) ≤ top
-  pub plan : p ≡ blocks_at O start (measuresOf (paged n page) a b c O)
-  pub end : end_at start (measuresOf (paged n page) a b c O) ≤ top
-  pub once : repeats (inLarge (paged n page) a b c) ≡ false
+  pub sum0 : space (in_slot0 (paged n page) a b c) ≤ top
+  pub sum2 : space (in_slot2 (paged n page) a b c) ≤ top
+  pub sum6 : space (in_large (paged n page) a b c) ≤ top
+  pub plan : p ≡ blocks_at O start (measures_of (paged n page) a b c O)
+  pub end : end_at start (measures_of (paged n page) a b c O) ≤ top
+  pub once : repeats (in_large (paged n page) a b c) ≡ false
   -- the blocks of each slot begin below the limit, and the addresses of its sections fit
-  pub low0 : wide_block (undefined_addr O) (managers_at O start (measuresOf (paged n page) a b c O)).slot0 ≡ false
-  pub low2 : wide_block (undefined_addr O) (managers_at O start (measuresOf (paged n page) a b c O)).slot2 ≡ false
-  pub low6 : wide_block (undefined_addr O) (managers_at O start (measuresOf (paged n page) a b c O)).slot6 ≡ false
-  pub narrow0 : any_wide O (inSlot0 (paged n page) a b c) ≡ false
-  pub narrow2 : any_wide O (inSlot2 (paged n page) a b c) ≡ false
-  pub narrow6 : any_wide O (inLarge (paged n page) a b c) ≡ false
+  pub low0 : wide_block (undefined_addr O) (managers_at O start (measures_of (paged n page) a b c O)).slot0 ≡ false
+  pub low2 : wide_block (undefined_addr O) (managers_at O start (measures_of (paged n page) a b c O)).slot2 ≡ false
+  pub low6 : wide_block (undefined_addr O) (managers_at O start (measures_of (paged n page) a b c O)).slot6 ≡ false
+  pub narrow0 : any_wide O (in_slot0 (paged n page) a b c) ≡ false
+  pub narrow2 : any_wide O (in_slot2 (paged n page) a b c) ≡ false
+  pub narrow6 : any_wide O (in_large (paged n page) a b c) ≡ false
 
-module _ (a b c : List ℕ) (n : Counts) (page start O : ℕ) (p : BlocksPlan) (e : plannedBlocks a b c n page start O ≡ answer p) where
+module _ (a b c : List ℕ) (n : Counts) (page start O : ℕ) (p : BlocksPlan) (e : planned_blocks a b c n page start O ≡ answer p) where
   pub accepted : Accepted a b c n page start O p
-  unfolding plannedBlocks slotsMeasured plannedFrom
+  unfolding planned_blocks slots_measured planned_from
   accepted =
       let s = paged n page in
-      let f = first_shows (runTests a b c n page O) _ p e in
-      let g = then_answers (slotsMeasured s a b c O) (λ m. plannedFrom a b c (undefined_addr O) s m start O) p f.1 in
+      let f = first_shows (run_tests a b c n page O) _ p e in
+      let g = then_answers (slots_measured s a b c O) (λ m. planned_from a b c (undefined_addr O) s m start O) p f.1 in
       let m = g.0 in
-      let p0 = first_shows (size_tests O (inSlot0 s a b c)) _ m g.1 in
-      let p2 = first_shows (size_tests O (inSlot2 s a b c)) _ m p0.1 in
-      let p6 = first_shows (size_tests O (inLarge s a b c)) _ m p2.1 in
-      let me : answer (measuresOf s a b c O) ≡ answer m = p6.1 in
-      let mm : m ≡ measuresOf s a b c O = cc in
-      let q : plannedFrom a b c (undefined_addr O) s (measuresOf s a b c O) start O ≡ answer p = ap (λ (x : Measures). plannedFrom a b c (undefined_addr O) s x start O) (sym mm) ∙ g.2 in
+      let p0 = first_shows (size_tests O (in_slot0 s a b c)) _ m g.1 in
+      let p2 = first_shows (size_tests O (in_slot2 s a b c)) _ m p0.1 in
+      let p6 = first_shows (size_tests O (in_large s a b c)) _ m p2.1 in
+      let me : answer (measures_of s a b c O) ≡ answer m = p6.1 in
+      let mm : m ≡ measures_of s a b c O = cc in
+      let q : planned_from a b c (undefined_addr O) s (measures_of s a b c O) start O ≡ answer p = ap (λ (x : Measures). planned_from a b c (undefined_addr O) s x start O) (sym mm) ∙ g.2 in
       let k = first_shows _ _ p q in
-      let pe : answer (blocks_at O start (measuresOf s a b c O)) ≡ answer p = k.1 in
-      let r = managers_at O start (measuresOf s a b c O) in
-      let w = or_false (wide_managers (undefined_addr O) r) (wideSections s a b c O) k.0.1.1.0 in
+      let pe : answer (blocks_at O start (measures_of s a b c O)) ≡ answer p = k.1 in
+      let r = managers_at O start (measures_of s a b c O) in
+      let w = or_false (wide_managers (undefined_addr O) r) (wide_sections s a b c O) k.0.1.1.0 in
       let b0 = or_false (wide_block (undefined_addr O) r.slot0) (wide_block (undefined_addr O) r.slot2 || wide_block (undefined_addr O) r.slot6) w.0 in
       let b2 = or_false (wide_block (undefined_addr O) r.slot2) (wide_block (undefined_addr O) r.slot6) b0.1 in
-      let s0 = or_false (any_wide O (inSlot0 s a b c)) (any_wide O (inSlot2 s a b c) || any_wide O (inLarge s a b c)) w.1 in
-      let s2 = or_false (any_wide O (inSlot2 s a b c)) (any_wide O (inLarge s a b c)) s0.1 in
+      let s0 = or_false (any_wide O (in_slot0 s a b c)) (any_wide O (in_slot2 s a b c) || any_wide O (in_large s a b c)) w.1 in
+      let s2 = or_false (any_wide O (in_slot2 s a b c)) (any_wide O (in_large s a b c)) s0.1 in
       record {
-        tested = tests_show a b c n page O checked.Passed (sym (first_pass (runTests a b c n page O) (answer tt) f.0)) refl;
+        tested = tests_show a b c n page O checked.Passed (sym (first_pass (run_tests a b c n page O) (answer tt) f.0)) refl;
         sum0 = ltb-false top _ p0.0.0;
         sum2 = ltb-false top _ p2.0.0;
         sum6 = ltb-false top _ p6.0.0;

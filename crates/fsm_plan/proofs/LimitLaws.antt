@@ -21,8 +21,8 @@ use Rattle.fsm_plan.specs.declared.measure.Measure.{Measure}
 use Rattle.fsm_plan.specs.declared.blocks.Measures.{Measures}
 use Rattle.fsm_plan.specs.declared.blocks.PagedManagerBlock.{PagedManagerBlock}
 use Rattle.fsm_plan.specs.declared.blocks.BlocksPlan.{BlocksPlan}
-use Rattle.fsm_plan.specs.Blocks.{paged, inSlot0, inSlot2, inLarge, size_tests, measure_of, measuresOf, slotsMeasured, block_at, end_at, managers_at}
-use Rattle.fsm_plan.specs.Blocks.{wide_block, wide_managers, runTests, plannedFrom, plannedBelow, plannedBlocks}
+use Rattle.fsm_plan.specs.Blocks.{paged, in_slot0, in_slot2, in_large, size_tests, measure_of, measures_of, slots_measured, block_at, end_at, managers_at}
+use Rattle.fsm_plan.specs.Blocks.{wide_block, wide_managers, run_tests, planned_from, planned_below, planned_blocks}
 
 -- ---- blocks that no test refuses
 
@@ -62,37 +62,37 @@ module _ (limit : ℕ) (high : top ≤ limit) where
 
 module _ (limit : ℕ) (high : top ≤ limit) (a b c : List ℕ) (s : Paged) (start : ℕ) where
   abbrev M : Measures
-  M = measuresOf s a b c 8
+  M = measures_of s a b c 8
 
-  from-alike : plannedFrom a b c (undefined_addr 8) s M start 8 ≡ plannedFrom a b c limit s M start 8
-  unfolding plannedFrom
+  from-alike : planned_from a b c (undefined_addr 8) s M start 8 ≡ planned_from a b c limit s M start 8
+  unfolding planned_from
   from-alike = pick (ltb top (end_at start M)) refl
     where
-      pick : (t : Bool) → ltb top (end_at start M) ≡ t → plannedFrom a b c (undefined_addr 8) s M start 8 ≡ plannedFrom a b c limit s M start 8
+      pick : (t : Bool) → ltb top (end_at start M) ≡ t → planned_from a b c (undefined_addr 8) s M start 8 ≡ planned_from a b c limit s M start 8
       pick true e = first_holds _ Overflow _ _ e ∙ sym (first_holds _ Overflow _ _ e)
       pick false e =
           let k : end_at start M ≤ top = ltb-false top (end_at start M) e in
-          let u = managers_narrow (undefined_addr 8) (omega arith) start (inSlot0 s a b c) (inSlot2 s a b c) (inLarge s a b c) k in
-          let v = managers_narrow limit high start (inSlot0 s a b c) (inSlot2 s a b c) (inLarge s a b c) k in
+          let u = managers_narrow (undefined_addr 8) (omega arith) start (in_slot0 s a b c) (in_slot2 s a b c) (in_large s a b c) k in
+          let v = managers_narrow limit high start (in_slot0 s a b c) (in_slot2 s a b c) (in_large s a b c) k in
           rw (u, v)
 
-  measures_are : (m : Measures) → slotsMeasured s a b c 8 ≡ answer m → m ≡ M
-  unfolding slotsMeasured
+  measures_are : (m : Measures) → slots_measured s a b c 8 ≡ answer m → m ≡ M
+  unfolding slots_measured
   measures_are m e =
-      let p = first_shows (size_tests 8 (inSlot0 s a b c)) _ m e in
-      let q = first_shows (size_tests 8 (inSlot2 s a b c)) _ m p.1 in
-      let r = first_shows (size_tests 8 (inLarge s a b c)) _ m q.1 in
+      let p = first_shows (size_tests 8 (in_slot0 s a b c)) _ m e in
+      let q = first_shows (size_tests 8 (in_slot2 s a b c)) _ m p.1 in
+      let r = first_shows (size_tests 8 (in_large s a b c)) _ m q.1 in
       let z : answer M ≡ answer m = r.1 in
       cc
 
 pub same-at_8 : (limit : ℕ) → top ≤ limit → (a b c : List ℕ) (n : Counts) (page start : ℕ)
-    → plannedBlocks a b c n page start 8 ≡ plannedBelow a b c limit n page start 8
-unfolding plannedBlocks
+    → planned_blocks a b c n page start 8 ≡ planned_below a b c limit n page start 8
+unfolding planned_blocks
 same-at_8 limit high a b c n page start =
     let s = paged n page in
-    let by : ℕ → Measures → Outcome BlocksPlan = λ l m. plannedFrom a b c l s m start 8 in
-    ap (first_of (runTests a b c n page 8))
-    (then_alike (slotsMeasured s a b c 8) (by (undefined_addr 8)) (by limit)
+    let by : ℕ → Measures → Outcome BlocksPlan = λ l m. planned_from a b c l s m start 8 in
+    ap (first_of (run_tests a b c n page 8))
+    (then_alike (slots_measured s a b c 8) (by (undefined_addr 8)) (by limit)
     (λ m e.
-    let k : m ≡ measuresOf s a b c 8 = measures_are limit high a b c s start m e in
+    let k : m ≡ measures_of s a b c 8 = measures_are limit high a b c s start m e in
     ap (by (undefined_addr 8)) k ∙ from-alike limit high a b c s start ∙ ap (by limit) (sym k)))

@@ -29,7 +29,7 @@ use Rattle.fsm_sizes.specs.declared.totals.Totalled.{Totalled}
 use Rattle.fsm_sizes.specs.declared.totals.Totalled.TheVariants as totals
 use Rattle.fsm_sizes.specs.Totals.{totals_of, totals_outcome}
 use Rattle.fsm_blocks.specs.Fshd.{fshd_size}
-use Rattle.fsm_blocks.specs.Settings.{starting_set, usedBy, blocks_size}
+use Rattle.fsm_blocks.specs.Settings.{starting_set, used_by, blocks_size}
 use Rattle.fsm_blocks.proofs.LengthLaws.{size-length}
 use Rattle.fsm_plan.specs.declared.measure.Measure.{Measure}
 use Rattle.fsm_plan.specs.declared.measure.Measured.{Measured}
@@ -40,13 +40,13 @@ use Rattle.fsm_plan.specs.Blocks.{size_tests, measure_of, measured, measured_out
 
 module _ (O n d : ℕ) where
   abbrev len : ℕ
-  len = cond (eqb n 0) 0 (fshd_size O + usedBy O (starting_set O) n d)
+  len = cond (eqb n 0) 0 (fshd_size O + used_by O (starting_set O) n d)
 
   pub none_len : n ≡ 0 → answer 0 ≡ storable len
   none_len e = great_enough 0 len (sym (rw (eq-eqb n 0 e))) (omega arith)
 
-  module _ (some : n ≡ 0 → ⊥) (c : Number) (e : number_outcome c ≡ storable (usedBy O (starting_set O) n d)) where
-    some_len : len ≡ fshd_size O + usedBy O (starting_set O) n d
+  module _ (some : n ≡ 0 → ⊥) (c : Number) (e : number_outcome c ≡ storable (used_by O (starting_set O) n d)) where
+    some_len : len ≡ fshd_size O + used_by O (starting_set O) n d
     some_len = rw (ne_eqb n 0 some)
 
     pub used_over : (r : Refusal) → c ≡ number.Refused r → refused Overflow ≡ storable len
@@ -99,9 +99,9 @@ module _ (l : List FreeSection) (c : Totalled) (e : totals_outcome c ≡ totals_
     measure_over r h = ⊎_elim sum_over (λ (k : top < length l). size-over (omega (arith, size-length O l))) (totals_not r h)
 
     module _ (t : Totals) (h : c ≡ totals.Are t) (d : Number)
-        (f : number_outcome d ≡ storable (cond (eqb t.count 0) 0 (fshd_size O + usedBy O (starting_set O) t.count t.sizes))) where
-      len_is : cond (eqb t.count 0) 0 (fshd_size O + usedBy O (starting_set O) t.count t.sizes) ≡ blocks_size O l
-      len_is = ap (λ (x : Totals). cond (eqb x.count 0) 0 (fshd_size O + usedBy O (starting_set O) x.count x.sizes)) (totals_are t h).0
+        (f : number_outcome d ≡ storable (cond (eqb t.count 0) 0 (fshd_size O + used_by O (starting_set O) t.count t.sizes))) where
+      len_is : cond (eqb t.count 0) 0 (fshd_size O + used_by O (starting_set O) t.count t.sizes) ≡ blocks_size O l
+      len_is = ap (λ (x : Totals). cond (eqb x.count 0) 0 (fshd_size O + used_by O (starting_set O) x.count x.sizes)) (totals_are t h).0
 
       pub length_over : (r : Refusal) → d ≡ number.Refused r → refused Overflow ≡ measured O l
       length_over r g = size-over (omega (arith, len_is, stored-not d _ f r g))

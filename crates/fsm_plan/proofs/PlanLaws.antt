@@ -29,27 +29,27 @@ use Rattle.fsm_plan.specs.declared.blocks.BlocksPlan.{BlocksPlan}
 use Rattle.fsm_plan.specs.declared.blocks.BlocksPlanned.{BlocksPlanned}
 use Rattle.fsm_plan.specs.declared.blocks.BlocksPlanned.TheVariants as blocks
 use Rattle.fsm_plan.specs.Order.{by_addr, source_of, in_slot6}
-use Rattle.fsm_plan.specs.Blocks.{paged, inSlot0, inSlot2, inLarge, plannedBlocks, blocks_outcome}
-use Rattle.fsm_plan.specs.Plan.{Counted, planSections, planCount, plannedInto, planned}
+use Rattle.fsm_plan.specs.Blocks.{paged, in_slot0, in_slot2, in_large, planned_blocks, blocks_outcome}
+use Rattle.fsm_plan.specs.Plan.{Counted, plan_sections, plan_count, planned_into, planned}
 use Rattle.fsm_plan.proofs.BlocksLaws.{Accepted, accepted}
 
 -- ---- the sections of the three slots, put
 
 module _ (s : Paged) (a b c : List ℕ) (out : List ℕ) where
   abbrev s0 : List FreeSection
-  s0 = inSlot0 s a b c
+  s0 = in_slot0 s a b c
 
   abbrev s2 : List FreeSection
-  s2 = inSlot2 s a b c
+  s2 = in_slot2 s a b c
 
   abbrev s6 : List FreeSection
-  s6 = inLarge s a b c
+  s6 = in_large s a b c
 
   module _ (p : 0 < s.page) where
     large_is : in_slot6 s a b c ≡ s6
     large_is = sym (slot6-runs s.page s.na s.nb s.nc a b c p)
 
-    module _ (room : 2 * planCount s a b c ≤ length out) (x : List ℕ) (k : ℕ) (xe : x ≡ over 0 (flat s0) out) (ke : k ≡ 0 + 2 * length s0) where
+    module _ (room : 2 * plan_count s a b c ≤ length out) (x : List ℕ) (k : ℕ) (xe : x ≡ over 0 (flat s0) out) (ke : k ≡ 0 + 2 * length s0) where
       x_length : length x ≡ length out
       x_length = ap length xe ∙ length_over 0 (flat s0) out
 
@@ -70,7 +70,7 @@ module _ (s : Paged) (a b c : List ℕ) (out : List ℕ) where
               (subst (λ (q : Source). Given q a b c) (sym Se) g, part_room y j (2 * length (sections_of (chains_of S a b c))) (omega (arith, y_length, ap length from_source)))
 
           pub slots-put : (z : List ℕ) → z ≡ over 0 (flat (by_addr (sections_of (chains_of S a b c)))) (take (length y - j) (drop j y))
-              → take j y ++ (z ++ drop (length y - j) (drop j y)) ≡ over 0 (flat (planSections s a b c)) out
+              → take j y ++ (z ++ drop (length y - j) (drop j y)) ≡ over 0 (flat (plan_sections s a b c)) out
           slots-put z ze =
               let q = by_addr s6 in
               part_back y z (flat q) j (ze ∙ ap (λ (m : List FreeSection). over 0 (flat (by_addr m)) (take (length y - j) (drop j y))) from_source)
@@ -82,25 +82,25 @@ module _ (s : Paged) (a b c : List ℕ) (out : List ℕ) where
   -- ---- `put_plan`, by its branches
 
   module _ (p : PagedManagerPlan) (h : Counted s a b c p) where
-    total-is : p.slot0.count + p.slot2.count + p.slot6.count ≡ planCount s a b c
+    total-is : p.slot0.count + p.slot2.count + p.slot6.count ≡ plan_count s a b c
     total-is = omega (arith, h.number0, h.number2, h.number6)
 
     pub into-over : length out / 2 < p.slot0.count + p.slot2.count + p.slot6.count
-        → left (refused (OverCapacity (p.slot0.count + p.slot2.count + p.slot6.count) (length out / 2))) out ≡ leaving out (plannedInto s a b c p out)
-    unfolding plannedInto
+        → left (refused (OverCapacity (p.slot0.count + p.slot2.count + p.slot6.count) (length out / 2))) out ≡ leaving out (planned_into s a b c p out)
+    unfolding planned_into
     into-over f =
         ap (λ (k : ℕ). left (refused (OverCapacity k (length out / 2))) out) total-is
-        ∙ ap (leaving out) (sym (first_holds _ (OverCapacity (planCount s a b c) (length out / 2)) _ _ (lt-ltb (length out / 2) (planCount s a b c) (omega (arith, total-is)))))
+        ∙ ap (leaving out) (sym (first_holds _ (OverCapacity (plan_count s a b c) (length out / 2)) _ _ (lt-ltb (length out / 2) (plan_count s a b c) (omega (arith, total-is)))))
 
     module _ (f : p.slot0.count + p.slot2.count + p.slot6.count ≤ length out / 2) where
-      pub into-room : 2 * planCount s a b c ≤ length out
+      pub into-room : 2 * plan_count s a b c ≤ length out
       into-room = omega (arith, total-is)
 
-      pub into-put : (x : List ℕ) → x ≡ over 0 (flat (planSections s a b c)) out → left (answer p) x ≡ leaving out (plannedInto s a b c p out)
-      unfolding plannedInto
+      pub into-put : (x : List ℕ) → x ≡ over 0 (flat (plan_sections s a b c)) out → left (answer p) x ≡ leaving out (planned_into s a b c p out)
+      unfolding planned_into
       into-put x e =
           ap (λ (y : List ℕ). left (answer p) y) e
-          ∙ ap (leaving out) (sym (first_passes _ (OverCapacity (planCount s a b c) (length out / 2)) _ _ (le-ltb (length out / 2) (planCount s a b c) (omega (arith, total-is))) ∙ first-none _))
+          ∙ ap (leaving out) (sym (first_passes _ (OverCapacity (plan_count s a b c) (length out / 2)) _ _ (le-ltb (length out / 2) (plan_count s a b c) (omega (arith, total-is))) ∙ first-none _))
 
 -- ---- `plan_paged_managers`, by its branches
 
@@ -109,7 +109,7 @@ module _ (a b c : List ℕ) (n : Counts) (page start O : ℕ) (out : List ℕ) w
   whole = planned a b c n page start O out
 
   abbrev into : BlocksPlan → Outcome (With PagedManagerPlan (List ℕ))
-  into p = plannedInto (paged n page) a b c p.managers out
+  into p = planned_into (paged n page) a b c p.managers out
 
   pub planned-width : not (valid_width O) ≡ true → left (refused Width) out ≡ leaving out whole
   unfolding planned
@@ -127,7 +127,7 @@ module _ (a b c : List ℕ) (n : Counts) (page start O : ℕ) (out : List ℕ) w
           ap (leaving out)
           (sym (first_passes _ Width _ _ v ∙ first_passes _ Page _ _ (ne_eqb page 0 p) ∙ first_holds _ NotAList _ _ (ap not (ne_eqb (length out % 2) 0 h))))
 
-      module _ (e : length out % 2 ≡ 0) (x : BlocksPlanned) (xe : blocks_outcome x ≡ plannedBlocks a b c n page start O) where
+      module _ (e : length out % 2 ≡ 0) (x : BlocksPlanned) (xe : blocks_outcome x ≡ planned_blocks a b c n page start O) where
         after : and_then (blocks_outcome x) into ≡ whole
         unfolding planned
         after =
@@ -153,5 +153,5 @@ accepted-counted a b c n page start O p h =
       number0 = ap (λ (x : BlocksPlan). x.managers.slot0.count) h.plan;
       number2 = ap (λ (x : BlocksPlan). x.managers.slot2.count) h.plan;
       number6 = ap (λ (x : BlocksPlan). x.managers.slot6.count) h.plan;
-      few = omega (arith, h.end, size-length O (inSlot0 s a b c), size-length O (inSlot2 s a b c), size-length O (inLarge s a b c));
+      few = omega (arith, h.end, size-length O (in_slot0 s a b c), size-length O (in_slot2 s a b c), size-length O (in_large s a b c));
     }

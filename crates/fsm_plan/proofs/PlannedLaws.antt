@@ -17,10 +17,10 @@ use Rattle.fsm_sections.proofs.PassLaws.{by_order}
 use Rattle.fsm_sections.proofs.SlotLaws.{same-order}
 use Rattle.fsm_sections.proofs.SortLaws.{sorted-sorted, times-sorted}
 use Rattle.fsm_blocks.specs.Fshd.{fshd_bytes, fshd_size}
-use Rattle.fsm_blocks.specs.Settings.{Settings, starting_set, widthsFor, headerFor, fsseFor, fsseUsed, blocks_size}
+use Rattle.fsm_blocks.specs.Settings.{Settings, starting_set, widths_for, header_for, fsse_for, fsse_used, blocks_size}
 use Rattle.fsm_blocks.proofs.WrittenLaws.{length_fshd, length-fsse}
 use Rattle.fsm_plan.specs.declared.blocks.Measures.{Measures}
-use Rattle.fsm_plan.specs.Managers.{Manager, manager, managers_of, managerSize, managerBytes, size_of, slotsFrom, blocks_from}
+use Rattle.fsm_plan.specs.Managers.{Manager, manager, managers_of, manager_size, manager_bytes, size_of, slots_from, blocks_from}
 use Rattle.fsm_plan.specs.Order.{turned, by_addr, InOrder}
 use Rattle.fsm_plan.specs.Blocks.{measure_of, end_at}
 use Rattle.fsm_plan.proofs.OrderLaws.{turned_twice, times-turned}
@@ -56,32 +56,32 @@ pub filled : (s : FreeSection) (l : List FreeSection) → eqb (length (s ∷ l))
 filled s l = ne_eqb (length (s ∷ l)) 0 (λ e. omega arith)
 
 module _ (O : ℕ) (set : Settings) where
-  pub length-slots : (ms : List Manager) (a : ℕ) → length (slotsFrom O set a ms) ≡ length ms
-  unfolding slotsFrom
+  pub length-slots : (ms : List Manager) (a : ℕ) → length (slots_from O set a ms) ≡ length ms
+  unfolding slots_from
   length-slots [] a = refl
-  length-slots (m ∷ ms) a = ap suc (length-slots ms (a + managerSize O set m))
+  length-slots (m ∷ ms) a = ap suc (length-slots ms (a + manager_size O set m))
 
-  abbrev pub pairSize : List FreeSection → ℕ
-  pairSize l = fshd_size O + (fsseUsed O set l + set.surplus)
+  abbrev pub pair_size : List FreeSection → ℕ
+  pair_size l = fshd_size O + (fsse_used O set l + set.surplus)
 
   module _ (sum : List ℕ → ℕ) where
     -- the blocks of sections, of which there is one at least
-    abbrev pub pairBytes : ℕ → ℕ → List FreeSection → List ℕ
-    pairBytes a class l = fshd_bytes sum O (headerFor O set (a + fshd_size O) l) ++ (fsseFor O set sum a class l ++ replicate set.surplus 0)
+    abbrev pub pair_bytes : ℕ → ℕ → List FreeSection → List ℕ
+    pair_bytes a class l = fshd_bytes sum O (header_for O set (a + fshd_size O) l) ++ (fsse_for O set sum a class l ++ replicate set.surplus 0)
 
-    pub length-list : (a class : ℕ) (l : List FreeSection) → length (fsseFor O set sum a class l) ≡ fsseUsed O set l
-    length-list a class l = length-fsse sum (widthsFor O set (length l)) O a class l
+    pub length-list : (a class : ℕ) (l : List FreeSection) → length (fsse_for O set sum a class l) ≡ fsse_used O set l
+    length-list a class l = length-fsse sum (widths_for O set (length l)) O a class l
 
-    pub length_both : (a class : ℕ) (l : List FreeSection) → length (fsseFor O set sum a class l ++ replicate set.surplus 0) ≡ fsseUsed O set l + set.surplus
+    pub length_both : (a class : ℕ) (l : List FreeSection) → length (fsse_for O set sum a class l ++ replicate set.surplus 0) ≡ fsse_used O set l + set.surplus
     length_both a class l =
-        length-append (fsseFor O set sum a class l) (replicate set.surplus 0) ∙ ap₂ (λ (x y : ℕ). x + y) (length-list a class l) (length-replicate set.surplus 0)
+        length-append (fsse_for O set sum a class l) (replicate set.surplus 0) ∙ ap₂ (λ (x y : ℕ). x + y) (length-list a class l) (length-replicate set.surplus 0)
 
-    length-pair : (a class : ℕ) (l : List FreeSection) → length (pairBytes a class l) ≡ pairSize l
+    length-pair : (a class : ℕ) (l : List FreeSection) → length (pair_bytes a class l) ≡ pair_size l
     length-pair a class l =
-        length-append (fshd_bytes sum O (headerFor O set (a + fshd_size O) l)) (fsseFor O set sum a class l ++ replicate set.surplus 0)
-        ∙ ap₂ (λ (x y : ℕ). x + y) (length_fshd sum O (headerFor O set (a + fshd_size O) l)) (length_both a class l)
+        length-append (fshd_bytes sum O (header_for O set (a + fshd_size O) l)) (fsse_for O set sum a class l ++ replicate set.surplus 0)
+        ∙ ap₂ (λ (x y : ℕ). x + y) (length_fshd sum O (header_for O set (a + fshd_size O) l)) (length_both a class l)
 
-    pub length-manager : (a class : ℕ) (l : List FreeSection) → length (managerBytes O set sum a (manager class l)) ≡ managerSize O set (manager class l)
+    pub length-manager : (a class : ℕ) (l : List FreeSection) → length (manager_bytes O set sum a (manager class l)) ≡ manager_size O set (manager class l)
     length-manager a class [] = refl
     length-manager a class (s ∷ l) = rw (filled s l) (length-pair a class (s ∷ l))
 
@@ -89,16 +89,16 @@ module _ (O : ℕ) (set : Settings) where
     unfolding blocks_from size_of
     length_blocks [] a = refl
     length_blocks (m ∷ ms) a =
-        length-append (managerBytes O set sum a m) (blocks_from O set sum (a + managerSize O set m) ms)
-        ∙ ap₂ (λ (x y : ℕ). x + y) (length-manager a m.class m.sections) (length_blocks ms (a + managerSize O set m))
+        length-append (manager_bytes O set sum a m) (blocks_from O set sum (a + manager_size O set m) ms)
+        ∙ ap₂ (λ (x y : ℕ). x + y) (length-manager a m.class m.sections) (length_blocks ms (a + manager_size O set m))
 
 -- ---- blocks side by side, with the starting settings
 
 module _ (O : ℕ) where
-  pub size_is : (class : ℕ) (l : List FreeSection) → managerSize O (starting_set O) (manager class l) ≡ blocks_size O l
-  size_is class l = ap (λ (n : ℕ). cond (eqb (length l) 0) 0 (fshd_size O + n)) (add-zero (fsseUsed O (starting_set O) l))
+  pub size_is : (class : ℕ) (l : List FreeSection) → manager_size O (starting_set O) (manager class l) ≡ blocks_size O l
+  size_is class l = ap (λ (n : ℕ). cond (eqb (length l) 0) 0 (fshd_size O + n)) (add-zero (fsse_used O (starting_set O) l))
 
-  pub bytes-long : (sum : List ℕ → ℕ) (a class : ℕ) (l : List FreeSection) → length (managerBytes O (starting_set O) sum a (manager class l)) ≡ blocks_size O l
+  pub bytes-long : (sum : List ℕ → ℕ) (a class : ℕ) (l : List FreeSection) → length (manager_bytes O (starting_set O) sum a (manager class l)) ≡ blocks_size O l
   bytes-long sum a class l = length-manager O (starting_set O) sum a class l ∙ size_is class l
 
 module _ (O page : ℕ) (meta raw unclassified : List FreeSection) where
@@ -125,13 +125,13 @@ module _ (O page : ℕ) (meta raw unclassified : List FreeSection) where
     plan_end = omega (arith, plan_size)
 
     -- each slot with sections has its FSHD where the blocks of those before it end, from `start` on
-    abbrev headAt : List FreeSection → ℕ → ℕ
-    headAt l a = cond (eqb (length l) 0) (undefined_addr O) a
+    abbrev head_at : List FreeSection → ℕ → ℕ
+    head_at l a = cond (eqb (length l) 0) (undefined_addr O) a
 
-    pub plan_slots : slotsFrom O (starting_set O) start (managers_of page meta raw unclassified)
-        ≡ headAt l0 start ∷ undefined_addr O ∷ headAt l2 (start + blocks_size O l0) ∷ undefined_addr O ∷ undefined_addr O ∷ undefined_addr O
-        ∷ headAt l6 (start + blocks_size O l0 + blocks_size O l2) ∷ undefined_addr O ∷ undefined_addr O ∷ undefined_addr O ∷ undefined_addr O ∷ undefined_addr O ∷ []
-    unfolding slotsFrom
+    pub plan_slots : slots_from O (starting_set O) start (managers_of page meta raw unclassified)
+        ≡ head_at l0 start ∷ undefined_addr O ∷ head_at l2 (start + blocks_size O l0) ∷ undefined_addr O ∷ undefined_addr O ∷ undefined_addr O
+        ∷ head_at l6 (start + blocks_size O l0 + blocks_size O l2) ∷ undefined_addr O ∷ undefined_addr O ∷ undefined_addr O ∷ undefined_addr O ∷ undefined_addr O ∷ []
+    unfolding slots_from
     plan_slots =
         let b = start + blocks_size O l0 in
         let d : b + 0 ≡ b = omega arith in
@@ -141,14 +141,14 @@ module _ (O page : ℕ) (meta raw unclassified : List FreeSection) where
     -- and its blocks there
     module _ (sum : List ℕ → ℕ) where
       abbrev bytes : ℕ → ℕ → List FreeSection → List ℕ
-      bytes a class l = managerBytes O (starting_set O) sum a (manager class l)
+      bytes a class l = manager_bytes O (starting_set O) sum a (manager class l)
 
       pub plan_bytes : blocks_from O (starting_set O) sum start (managers_of page meta raw unclassified)
           ≡ (bytes start 1 l0 ++ bytes (start + blocks_size O l0) 1 l2) ++ bytes (start + (blocks_size O l0 + blocks_size O l2)) 2 l6
       unfolding blocks_from
       plan_bytes =
-          let x = managerSize O (starting_set O) (manager 1 l0) in
-          let y = managerSize O (starting_set O) (manager 1 l2) in
+          let x = manager_size O (starting_set O) (manager 1 l0) in
+          let y = manager_size O (starting_set O) (manager 1 l2) in
           let p : start + x + 0 ≡ start + blocks_size O l0 = omega (arith, size_is O 1 l0) in
           let q : start + x + 0 + y + 0 + 0 + 0 ≡ start + (blocks_size O l0 + blocks_size O l2) = omega (arith, size_is O 1 l0, size_is O 1 l2) in
           ap₂ (λ (u v : List ℕ). bytes start 1 l0 ++ (u ++ v)) (ap (λ (a : ℕ). bytes a 1 l2) p) (append-nil _ ∙ ap (λ (a : ℕ). bytes a 2 l6) q)

@@ -32,7 +32,7 @@ use Rattle.fsm_sections.specs.Runs.{ends_above}
 use Rattle.fsm_sections.proofs.AnyLaws.{none_above}
 use Rattle.fsm_plan.specs.declared.Counts.{Counts}
 use Rattle.fsm_plan.specs.Order.{source_of}
-use Rattle.fsm_plan.specs.Blocks.{runTests, paged}
+use Rattle.fsm_plan.specs.Blocks.{run_tests, paged}
 
 -- ---- the tests in their order
 
@@ -49,7 +49,7 @@ module _ (xs ys zs : List ℕ) (n : Counts) (page O : ℕ) where
     pub ends_z : All (λ r. end r ≤ top) (decode n.unclassified zs)
 
   abbrev tests : Outcome (Unit {0})
-  tests = first_of (runTests xs ys zs n page O) (answer tt)
+  tests = first_of (run_tests xs ys zs n page O) (answer tt)
 
   pub test_width : not (valid_width O) ≡ true → refused Width ≡ tests
   test_width h = sym (first_holds _ Width _ _ h)
@@ -76,15 +76,15 @@ module _ (xs ys zs : List ℕ) (n : Counts) (page O : ℕ) where
   -- ---- what the answer says
 
   module _ (c : Checked) (e : checked_outcome c ≡ tests) where
-    pub tests_refuse : {A : Type 0} (r : Refusal) → c ≡ checked.Refused r → (x : Outcome A) → refused r ≡ first_of (runTests xs ys zs n page O) x
-    tests_refuse r h x = first_refuses (runTests xs ys zs n page O) tt r x (ap checked_outcome (sym h) ∙ e)
+    pub tests_refuse : {A : Type 0} (r : Refusal) → c ≡ checked.Refused r → (x : Outcome A) → refused r ≡ first_of (run_tests xs ys zs n page O) x
+    tests_refuse r h x = first_refuses (run_tests xs ys zs n page O) tt r x (ap checked_outcome (sym h) ∙ e)
 
     module _ (h : c ≡ checked.Passed) where
-      none : NoneHolds (runTests xs ys zs n page O)
-      none = (first_answers (runTests xs ys zs n page O) tt tt (sym e ∙ ap checked_outcome h)).0
+      none : NoneHolds (run_tests xs ys zs n page O)
+      none = (first_answers (run_tests xs ys zs n page O) tt tt (sym e ∙ ap checked_outcome h)).0
 
-      pub tests_pass : {A : Type 0} (x : Outcome A) → x ≡ first_of (runTests xs ys zs n page O) x
-      tests_pass x = sym (first_pass (runTests xs ys zs n page O) x none)
+      pub tests_pass : {A : Type 0} (x : Outcome A) → x ≡ first_of (run_tests xs ys zs n page O) x
+      tests_pass x = sym (first_pass (run_tests xs ys zs n page O) x none)
 
       pub tests_show : Tested
       tests_show =

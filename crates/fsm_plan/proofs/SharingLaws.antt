@@ -85,11 +85,11 @@ module _ (s : Source) (a b c : List ℕ) where
     begin : (x : ℕ) → at_addr x (left start) ≡ at_addr x all
     begin x = ap (at_addr x) (rest_all s a b c)
 
-    pub apart-start : (at : Cursor) → at ≡ start → Apart at
-    apart-start at e = rw e (record { few = λ x. omega (arith, begin x); same = λ x h. sym (begin x) })
+    pub apart_start : (at : Cursor) → at ≡ start → Apart at
+    apart_start at e = rw e (record { few = λ x. omega (arith, begin x); same = λ x h. sym (begin x) })
 
-    pub below-start : (at : Cursor) → at ≡ start → Below 0 at
-    below-start at e = rw e (record { few = λ x. omega (arith, begin x); same = λ x h. sym (begin x) })
+    pub below_start : (at : Cursor) → at ≡ start → Below 0 at
+    below_start at e = rw e (record { few = λ x. omega (arith, begin x); same = λ x h. sym (begin x) })
 
     module _ (at : Cursor) (r : Step) (w : Stepped s a b c at r) (e : r.end ≡ true) where
       done : (x : ℕ) → at_addr x (left at) ≡ 0
@@ -98,8 +98,8 @@ module _ (s : Source) (a b c : List ℕ) where
       pub unmet_end : (t : Step) → Unmet t at → Meet false (sections_in t.chain) (left t.at)
       unmet_end t h = λ x l. sym (h x l) ∙ done x
 
-      pub apart-end : Apart at → false ≡ repeats all
-      apart-end p = repeats-not all (λ x. omega (arith, p.few x, done x))
+      pub apart_end : Apart at → false ≡ repeats all
+      apart_end p = repeats-not all (λ x. omega (arith, p.few x, done x))
 
       pub below_end : (floor : ℕ) → Below floor at → repeats all ≡ false
       below_end floor p = sym (repeats-not all (λ x. omega (arith, p.few x, done x)))
@@ -121,8 +121,8 @@ module _ (s : Source) (a b c : List ℕ) where
         unmet_step e = λ x l. omega (arith, meet_no (sections_in t.chain) (sections_in u.chain) r m e x l, parts x, h x l)
 
       module _ (p : Apart at) (r : Bool) (m : Meet r (sections_in u.chain) (left u.at)) where
-        pub apart-found : r ≡ true → true ≡ repeats all
-        apart-found e =
+        pub apart_found : r ≡ true → true ≡ repeats all
+        apart_found e =
             let q = meet_yes (sections_in u.chain) (left u.at) r m e in
             let y : 0 < at_addr q.addr (left at) = omega (arith, parts q.addr, q.first) in
             repeats_yes all q.addr (omega (arith, parts q.addr, q.first, q.second, p.same q.addr y))

@@ -2,12 +2,12 @@
 -- In quotes: document 01's words, from "Pages and slots", from the refusal of that number or from the heading named, or those of document 02's
 -- request that is named.
 --   paged            three counts and a page size together
---   inSlot0, inSlot2, inLarge   the sections of slots 0, 2 and 6: "metadata pieces below a page go to slot 0, raw ones to slot 2, whole pages of
+--   in_slot0, in_slot2, in_large   the sections of slots 0, 2 and 6: "metadata pieces below a page go to slot 0, raw ones to slot 2, whole pages of
 --                    either to slot 6 with unclassified sections unsplit"
---   wideSections     an address of one of them does not fit O bytes (refusal 12: "a written address doesn't fit the offset size")
+--   wide_sections    an address of one of them does not fit O bytes (refusal 12: "a written address doesn't fit the offset size")
 --   size_tests       refusal 4: "a sum of section sizes", or the blocks' length, exceeds 2^64 - 1
 --   measure_of       the sum of the sizes of sections, their number and the length of their blocks; measured the same after size_tests
---   measuresOf       of the sections of slots 0, 2 and 6; slotsMeasured the same after the tests of each
+--   measures_of      of the sections of slots 0, 2 and 6; slots_measured the same after the tests of each
 --   address_in       a block's address in a slot of n sections: the undefined one of 8 bytes where it has none, at every offset size
 --   block_at         the blocks of a slot from an address on: "Non-empty slots get FSHD then FSSE", and the class of its sections
 --   end_at           where the blocks of all slots end
@@ -16,13 +16,13 @@
 --   blocks_at        with the measures
 --   wide_block       a slot has blocks, and one begins at an address that is not below a limit; wide_managers one of the three has
 --   Placed           the blocks end within 64 bits, and those of a slot with sections have room for its FSHD: for contracts of private functions
---   runTests         refusals 1, 2, 3, and 4 for a region that ends above top ("address plus length")
---   plannedFrom      refusals 4 (the end: "a planned address"), 5 ("two slot 6 sections have one address"), 12 for a block that does not begin below
+--   run_tests        refusals 1, 2, 3, and 4 for a region that ends above top ("address plus length")
+--   planned_from     refusals 4 (the end: "a planned address"), 5 ("two slot 6 sections have one address"), 12 for a block that does not begin below
 --                    the limit and for a section's address ("a written address doesn't fit the offset size"); the plan
---   plannedBelow     refusals 1 to 4 of the runs, 4 of each slot, and then plannedFrom
---   plannedBlocks    `plan_blocks`: the limit is the undefined address of O bytes. A block that begins below it has an address that fits, and that no
+--   planned_below    refusals 1 to 4 of the runs, 4 of each slot, and then planned_from
+--   planned_blocks   `plan_blocks`: the limit is the undefined address of O bytes. A block that begins below it has an address that fits, and that no
 --                    reader skips (P2: "a plan that begins a block there is 12")
---   Ready            what holds after runTests and slotsMeasured: for contracts of private functions
+--   Ready            what holds after run_tests and slots_measured: for contracts of private functions
 --   measured_outcome, measures_outcome, blocks_outcome   the outcome that an answer of the code stands for ("Language forms": "for every case of the
 --                    enum")
 use Rattle.std.specs.Prelude.{◌≡◌, ℕ, ◌+◌, ◌≤◌, Bool, false, cond, ◌&&◌, ◌||◌, not, List, [], ◌∷◌, ltb, leb, eqb, length}
@@ -59,17 +59,17 @@ abbrev pub paged : Counts → ℕ → Paged
 paged n page = record { na = n.meta; nb = n.raw; nc = n.unclassified; page = page }
 
 module _ (s : Paged) (a b c : List ℕ) where
-  abbrev pub inSlot0 : List FreeSection
-  inSlot0 = slot0 s.page (decode s.na a)
+  abbrev pub in_slot0 : List FreeSection
+  in_slot0 = slot0 s.page (decode s.na a)
 
-  abbrev pub inSlot2 : List FreeSection
-  inSlot2 = slot2 s.page (decode s.nb b)
+  abbrev pub in_slot2 : List FreeSection
+  in_slot2 = slot2 s.page (decode s.nb b)
 
-  abbrev pub inLarge : List FreeSection
-  inLarge = slot6 s.page (decode s.na a) (decode s.nb b) (decode s.nc c)
+  abbrev pub in_large : List FreeSection
+  in_large = slot6 s.page (decode s.na a) (decode s.nb b) (decode s.nc c)
 
-  abbrev pub wideSections : ℕ → Bool
-  wideSections O = any_wide O inSlot0 || (any_wide O inSlot2 || any_wide O inLarge)
+  abbrev pub wide_sections : ℕ → Bool
+  wide_sections O = any_wide O in_slot0 || (any_wide O in_slot2 || any_wide O in_large)
 
 -- ---- their measures
 
@@ -83,13 +83,13 @@ unfoldable pub measured : ℕ → List FreeSection → Outcome Measure
 measured O l = first_of (size_tests O l) (answer (measure_of O l))
 
 module _ (s : Paged) (a b c : List ℕ) (O : ℕ) where
-  abbrev pub measuresOf : Measures
-  measuresOf = record { slot0 = measure_of O (inSlot0 s a b c); slot2 = measure_of O (inSlot2 s a b c); slot6 = measure_of O (inLarge s a b c) }
+  abbrev pub measures_of : Measures
+  measures_of = record { slot0 = measure_of O (in_slot0 s a b c); slot2 = measure_of O (in_slot2 s a b c); slot6 = measure_of O (in_large s a b c) }
 
-  unfoldable pub slotsMeasured : Outcome Measures
-  slotsMeasured =
-      first_of (size_tests O (inSlot0 s a b c))
-      (first_of (size_tests O (inSlot2 s a b c)) (first_of (size_tests O (inLarge s a b c)) (answer measuresOf)))
+  unfoldable pub slots_measured : Outcome Measures
+  slots_measured =
+      first_of (size_tests O (in_slot0 s a b c))
+      (first_of (size_tests O (in_slot2 s a b c)) (first_of (size_tests O (in_large s a b c)) (answer measures_of)))
 
 -- ---- where the blocks stand
 
@@ -133,38 +133,38 @@ pub record Placed (O start : ℕ) (m : Measures) : Type 0 where
 -- ---- the plan
 
 module _ (a b c : List ℕ) where
-  abbrev pub runTests : Counts → ℕ → ℕ → List Condition
-  runTests n page O =
+  abbrev pub run_tests : Counts → ℕ → ℕ → List Condition
+  run_tests n page O =
       when (not (valid_width O)) Width
       ∷ when (eqb page 0) Page
       ∷ when (not (is_run a n.meta && (is_run b n.raw && is_run c n.unclassified))) NotAList
       ∷ when (ends_above (decode n.meta a) || (ends_above (decode n.raw b) || ends_above (decode n.unclassified c))) Overflow
       ∷ []
 
-  unfoldable pub plannedFrom : ℕ → Paged → Measures → ℕ → ℕ → Outcome BlocksPlan
-  plannedFrom limit s m start O =
+  unfoldable pub planned_from : ℕ → Paged → Measures → ℕ → ℕ → Outcome BlocksPlan
+  planned_from limit s m start O =
       first_of
       (when (ltb top (end_at start m)) Overflow
-      ∷ when (repeats (inLarge s a b c)) SharedAddress
-      ∷ when (wide_managers limit (managers_at O start m) || wideSections s a b c O) WideAddress
+      ∷ when (repeats (in_large s a b c)) SharedAddress
+      ∷ when (wide_managers limit (managers_at O start m) || wide_sections s a b c O) WideAddress
       ∷ [])
       (answer (blocks_at O start m))
 
-  abbrev pub plannedBelow : ℕ → Counts → ℕ → ℕ → ℕ → Outcome BlocksPlan
-  plannedBelow limit n page start O =
+  abbrev pub planned_below : ℕ → Counts → ℕ → ℕ → ℕ → Outcome BlocksPlan
+  planned_below limit n page start O =
       let s = paged n page in
-      first_of (runTests n page O)
-      (and_then (slotsMeasured s a b c O) (λ m. plannedFrom limit s m start O))
+      first_of (run_tests n page O)
+      (and_then (slots_measured s a b c O) (λ m. planned_from limit s m start O))
 
-  unfoldable pub plannedBlocks : Counts → ℕ → ℕ → ℕ → Outcome BlocksPlan
-  plannedBlocks n page start O = plannedBelow (undefined_addr O) n page start O
+  unfoldable pub planned_blocks : Counts → ℕ → ℕ → ℕ → Outcome BlocksPlan
+  planned_blocks n page start O = planned_below (undefined_addr O) n page start O
 
   pub record Ready (s : Paged) (O : ℕ) (m : Measures) : Type 0 where
     pub width : not (valid_width O) ≡ false
     pub given : Given (source_of s) a b c
     pub fits_a : ends_above (decode s.na a) ≡ false
     pub fits_b : ends_above (decode s.nb b) ≡ false
-    pub measures : m ≡ measuresOf s a b c O
+    pub measures : m ≡ measures_of s a b c O
 
 abbrev pub measured_outcome : Measured → Outcome Measure
 measured_outcome (code.Is m) = answer m

@@ -1,11 +1,11 @@
 -- `plan_paged_managers`: the plan of the blocks, and the sections of slots 0, 2 and 6 in a lent run. Assumes nothing.
 -- In quotes: document 01's words, from "Pages and slots" or from the heading named.
---   planSections     the sections as the lent run holds them: those of slots 0 and 2 in input order, those of slot 6 "by address"
---   planCount        how many they are
---   Counted          the counts of a plan are theirs: for contracts of private functions
---   plannedInto      refusal 14; the managers of a plan, and the sections in the lent run
---   planned          `plan_paged_managers`: refusals 1, 2, 3 (also an odd output run), the others of `plan_blocks`, then plannedInto
---   planned_outcome  the outcome that an answer of the code stands for ("Language forms": "for every case of the enum")
+--   plan_sections     the sections as the lent run holds them: those of slots 0 and 2 in input order, those of slot 6 "by address"
+--   plan_count        how many they are
+--   Counted           the counts of a plan are theirs: for contracts of private functions
+--   planned_into      refusal 14; the managers of a plan, and the sections in the lent run
+--   planned           `plan_paged_managers`: refusals 1, 2, 3 (also an odd output run), the others of `plan_blocks`, then planned_into
+--   planned_outcome   the outcome that an answer of the code stands for ("Language forms": "for every case of the enum")
 use Rattle.std.specs.Prelude.{◌≡◌, ℕ, ◌+◌, ◌/◌, ◌≤◌, not, List, [], ◌∷◌, ◌++◌, ltb, eqb, length}
 use Rattle.error.specs.declared.Refusal.TheVariants.{Width, Page, NotAList, OverCapacity}
 use Rattle.error.specs.Outcome.{Outcome, answer, refused, when, first_of, and_then}
@@ -21,25 +21,25 @@ use Rattle.fsm_plan.specs.declared.blocks.PagedManagerPlan.{PagedManagerPlan}
 use Rattle.fsm_plan.specs.declared.plan.Planned.{Planned}
 use Rattle.fsm_plan.specs.declared.plan.Planned.TheVariants as code
 use Rattle.fsm_plan.specs.Order.{by_addr}
-use Rattle.fsm_plan.specs.Blocks.{paged, inSlot0, inSlot2, inLarge, plannedBlocks}
+use Rattle.fsm_plan.specs.Blocks.{paged, in_slot0, in_slot2, in_large, planned_blocks}
 
 module _ (s : Paged) (a b c : List ℕ) where
-  abbrev pub planSections : List FreeSection
-  planSections = inSlot0 s a b c ++ (inSlot2 s a b c ++ by_addr (inLarge s a b c))
+  abbrev pub plan_sections : List FreeSection
+  plan_sections = in_slot0 s a b c ++ (in_slot2 s a b c ++ by_addr (in_large s a b c))
 
-  abbrev pub planCount : ℕ
-  planCount = length (inSlot0 s a b c) + (length (inSlot2 s a b c) + length (inLarge s a b c))
+  abbrev pub plan_count : ℕ
+  plan_count = length (in_slot0 s a b c) + (length (in_slot2 s a b c) + length (in_large s a b c))
 
   pub record Counted (p : PagedManagerPlan) : Type 0 where
-    pub number0 : p.slot0.count ≡ length (inSlot0 s a b c)
-    pub number2 : p.slot2.count ≡ length (inSlot2 s a b c)
-    pub number6 : p.slot6.count ≡ length (inLarge s a b c)
-    pub few : planCount ≤ top
+    pub number0 : p.slot0.count ≡ length (in_slot0 s a b c)
+    pub number2 : p.slot2.count ≡ length (in_slot2 s a b c)
+    pub number6 : p.slot6.count ≡ length (in_large s a b c)
+    pub few : plan_count ≤ top
 
-  unfoldable pub plannedInto : PagedManagerPlan → List ℕ → Outcome (With PagedManagerPlan (List ℕ))
-  plannedInto p out =
-      first_of (when (ltb (length out / 2) planCount) (OverCapacity planCount (length out / 2)) ∷ [])
-      (answer (with p (over 0 (flat planSections) out)))
+  unfoldable pub planned_into : PagedManagerPlan → List ℕ → Outcome (With PagedManagerPlan (List ℕ))
+  planned_into p out =
+      first_of (when (ltb (length out / 2) plan_count) (OverCapacity plan_count (length out / 2)) ∷ [])
+      (answer (with p (over 0 (flat plan_sections) out)))
 
 unfoldable pub planned : List ℕ → List ℕ → List ℕ → Counts → ℕ → ℕ → ℕ → List ℕ → Outcome (With PagedManagerPlan (List ℕ))
 planned a b c n page start O out =
@@ -48,7 +48,7 @@ planned a b c n page start O out =
     ∷ when (eqb page 0) Page
     ∷ when (not (is_even out)) NotAList
     ∷ [])
-    (and_then (plannedBlocks a b c n page start O) (λ p. plannedInto (paged n page) a b c p.managers out))
+    (and_then (planned_blocks a b c n page start O) (λ p. planned_into (paged n page) a b c p.managers out))
 
 abbrev pub planned_outcome : Planned → Outcome PagedManagerPlan
 planned_outcome (code.Plan p) = answer p

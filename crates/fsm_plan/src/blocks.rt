@@ -2,8 +2,8 @@
 ghost use Rattle.std.specs.Prelude.{◌≡◌, ◌+◌, ◌≤◌, ◌<◌, ◌&&◌, ltb, eqb};
 ghost use Rattle.fields.specs.Ranges.{top, undefined_addr};
 ghost use Rattle.fsm_blocks.specs.Fshd.{fshd_size};
-ghost use Rattle.fsm_plan.specs.Blocks.{block_at, end_at, managers_at, wide_block, wide_managers, Placed, slotsMeasured, measures_outcome};
-ghost use Rattle.fsm_plan.specs.Blocks.{slots_by, paged, Ready, plannedFrom, plannedBlocks, blocks_outcome};
+ghost use Rattle.fsm_plan.specs.Blocks.{block_at, end_at, managers_at, wide_block, wide_managers, Placed, slots_measured, measures_outcome};
+ghost use Rattle.fsm_plan.specs.Blocks.{slots_by, paged, Ready, planned_from, planned_blocks, blocks_outcome};
 
 use crate::Counts;
 use crate::chains::{Paged, source_of};
@@ -112,7 +112,7 @@ fn measure_slots(
     offset_size: u8,
 ) -> SlotsMeasured
     requires { 0 < page }
-    ensures { measures_outcome result ≡ slotsMeasured (paged n page) meta.now raw.now unclassified.now offset_size }
+    ensures { measures_outcome result ≡ slots_measured (paged n page) meta.now raw.now unclassified.now offset_size }
 {
     let s0 = small_source(n.meta, page);
     let Measured::Is(slot0) = measure_of(meta, meta, meta, s0, offset_size) else {
@@ -221,7 +221,7 @@ fn plan_from(
     offset_size: u8,
 ) -> BlocksPlanned
     requires { Ready meta.now raw.now unclassified.now s offset_size m }
-    ensures { blocks_outcome result ≡ plannedFrom meta.now raw.now unclassified.now
+    ensures { blocks_outcome result ≡ planned_from meta.now raw.now unclassified.now
         (undefined_addr offset_size) s m start offset_size }
 {
     if ends_late(start, m) {
@@ -254,7 +254,7 @@ pub fn plan_blocks(
     start: u64,
     offset_size: u8,
 ) -> BlocksPlanned
-    ensures { blocks_outcome result ≡ plannedBlocks meta.now raw.now unclassified.now n page start offset_size }
+    ensures { blocks_outcome result ≡ planned_blocks meta.now raw.now unclassified.now n page start offset_size }
 {
     let tested = test_runs(meta, raw, unclassified, n, page, offset_size);
     if let Checked::Refused(r) = tested {

@@ -5,7 +5,7 @@ ghost use Rattle.fsm_sections.specs.Chains.{sections_of};
 ghost use Rattle.fsm_sections.specs.Sources.{chains_of, small_source, large_source};
 ghost use Rattle.fsm_sections.specs.Passes.{storable};
 ghost use Rattle.fsm_blocks.specs.Fshd.{fshd_size};
-ghost use Rattle.fsm_blocks.specs.Settings.{starting_set, usedBy};
+ghost use Rattle.fsm_blocks.specs.Settings.{starting_set, used_by};
 ghost use Rattle.fsm_plan.specs.Blocks.{measured, measured_outcome};
 
 use crate::Counts;
@@ -62,7 +62,7 @@ pub fn large_source(n: Counts, page: u64) -> Source
 // The length of the two blocks of `count` sections of `sizes` sizes.
 fn blocks_len(count: u64, sizes: u64, offset_size: u8) -> Number
     ensures { number_outcome result ≡ storable
-        (cond (eqb count 0) 0 (fshd_size offset_size + usedBy offset_size (starting_set offset_size) count sizes)) }
+        (cond (eqb count 0) 0 (fshd_size offset_size + used_by offset_size (starting_set offset_size) count sizes)) }
 {
     if count == 0 {
         return Number::Is(0);

@@ -5,7 +5,7 @@ ghost use Rattle.fsm_sections.specs.Pages.{pieces, split};
 ghost use Rattle.fsm_sections.specs.Sources.{Given};
 ghost use Rattle.fsm_sections.specs.Runs.{ends_above, any_wide};
 ghost use Rattle.fsm_plan.specs.Order.{source_of};
-ghost use Rattle.fsm_plan.specs.Blocks.{wideSections};
+ghost use Rattle.fsm_plan.specs.Blocks.{wide_sections};
 
 use crate::chains::Paged;
 use fsm_sections::run::{RunCursor, next_in};
@@ -56,7 +56,7 @@ pub(crate) fn wide_slots(
 ) -> bool
     requires given { Given (source_of s) meta.now raw.now unclassified.now }
     requires fits { (ends_above (decode s.na meta.now) ≡ false) × (ends_above (decode s.nb raw.now) ≡ false) }
-    ensures { result ≡ wideSections s meta.now raw.now unclassified.now o }
+    ensures { result ≡ wide_sections s meta.now raw.now unclassified.now o }
 {
     if wide_pieces(meta, s.na, s.page, o) {
         return true;

@@ -5,7 +5,7 @@ ghost use Rattle.fsm_sections.specs.Sections.{decode, flat};
 ghost use Rattle.fsm_sections.specs.Sources.{Given};
 ghost use Rattle.fsm_sections.specs.Runs.{ends_above};
 ghost use Rattle.fsm_plan.specs.Order.{source_of};
-ghost use Rattle.fsm_plan.specs.Plan.{Counted, planned, planSections, planCount, plannedInto, planned_outcome};
+ghost use Rattle.fsm_plan.specs.Plan.{Counted, planned, plan_sections, plan_count, planned_into, planned_outcome};
 
 use crate::Counts;
 use crate::blocks::{BlocksPlanned, PagedManagerPlan, plan_blocks};
@@ -25,8 +25,8 @@ pub enum Planned {
 fn put_slots(meta: &[u64], raw: &[u64], unclassified: &[u64], s: Paged, out: &mut [u64])
     requires given { Given (source_of s) meta.now raw.now unclassified.now }
     requires fits { (ends_above (decode s.na meta.now) ≡ false) × (ends_above (decode s.nb raw.now) ≡ false) }
-    requires room { 2 * planCount s meta.now raw.now unclassified.now ≤ length out.old }
-    ensures { out.new ≡ over 0 (flat (planSections s meta.now raw.now unclassified.now)) out.old }
+    requires room { 2 * plan_count s meta.now raw.now unclassified.now ≤ length out.old }
+    ensures { out.new ≡ over 0 (flat (plan_sections s meta.now raw.now unclassified.now)) out.old }
 {
     let k = put_small(meta, s.na, s.page, out, 0);
     let j = put_small(raw, s.nb, s.page, out, k);
@@ -47,7 +47,7 @@ fn put_plan(
     requires fits { (ends_above (decode s.na meta.now) ≡ false) × (ends_above (decode s.nb raw.now) ≡ false) }
     requires counted { Counted s meta.now raw.now unclassified.now p }
     ensures { left (planned_outcome result) out.new
-        ≡ leaving out.old (plannedInto s meta.now raw.now unclassified.now p out.old) }
+        ≡ leaving out.old (planned_into s meta.now raw.now unclassified.now p out.old) }
 {
     let needed = (p.slot0.count + p.slot2.count + p.slot6.count) as u64;
     let capacity = (out.len() / 2) as u64;

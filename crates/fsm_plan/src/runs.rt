@@ -7,7 +7,7 @@ ghost use Rattle.pairs.specs.Pairs.{is_run};
 ghost use Rattle.fsm_sections.specs.Sections.{section, decode};
 ghost use Rattle.fsm_sections.specs.Pages.{end};
 ghost use Rattle.fsm_sections.specs.Runs.{ends_above};
-ghost use Rattle.fsm_plan.specs.Blocks.{runTests};
+ghost use Rattle.fsm_plan.specs.Blocks.{run_tests};
 
 use crate::Counts;
 use error::{Checked, Refusal};
@@ -74,7 +74,7 @@ pub(crate) fn test_runs(
     page: u64,
     offset_size: u8,
 ) -> Checked
-    ensures { checked_outcome result ≡ first_of (runTests a.now b.now c.now n page offset_size) (answer tt) }
+    ensures { checked_outcome result ≡ first_of (run_tests a.now b.now c.now n page offset_size) (answer tt) }
 {
     if !is_width(offset_size) {
         return Checked::Refused(Refusal::Width);

@@ -118,8 +118,8 @@ module _ (q : Part) (page a z : ℕ) where
       small : PartFits q (section a z) → w ≡ a + h
       small fit = let l : a + z < 2 ^ 64 = subst (λ (p : Part). PartFits p (section a z)) e fit in omega arith
 
-  pub left-within : (h m : ℕ) → m ≡ (z - h) % page → m ≤ z
-  left-within h m f = omega (arith, div-add-mod' (z - h) page)
+  pub left_within : (h m : ℕ) → m ≡ (z - h) % page → m ≤ z
+  left_within h m f = omega (arith, div-add-mod' (z - h) page)
 
   pub tail_is : (h m w : ℕ) (r : Chain) → q ≡ Tail → h ≡ head_size page (section a z) → m ≡ (z - h) % page → w ≡ (a + (z - m)) % 2 ^ 64 → r ≡ one w m
       → PartIs q page (section a z) r

@@ -2,8 +2,8 @@
 --   link         the chain of an address, a size and a count
 --   chain        its sections: c of size z from address a on, each where the one before ends
 --   starts       their addresses
---   sections_in   the sections of a chain
---   sections_of   the sections of chains, in order
+--   sections_in  the sections of a chain
+--   sections_of  the sections of chains, in order
 --   ChainFits    a chain of more than one section ends within 64 bits
 use Rattle.std.specs.Prelude.{ℕ, zero, suc, ◌+◌, ◌*◌, ◌^◌, ◌<◌, List, [], ◌∷◌, ◌++◌}
 use Rattle.fsm_sections.specs.declared.FreeSection.{FreeSection}

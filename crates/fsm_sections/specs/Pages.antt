@@ -1,12 +1,12 @@
 -- Regions cut at every page multiple, and the sections of the slots. Assumes nothing.
 -- In quotes: document 01's words, from "Pages and slots".
 --   end           one past a region's last byte
---   page_end       the first page multiple above an address
---   cut_at         where the piece that begins at a ends, of bytes up to e
---   pieces_from    the bytes from a up to e, cut at every page multiple
+--   page_end      the first page multiple above an address
+--   cut_at        where the piece that begins at a ends, of bytes up to e
+--   pieces_from   the bytes from a up to e, cut at every page multiple
 --   pieces        a region cut at every page multiple: "empty sections vanish"
 --   split         "`split_at_pages` cuts at every page multiple": the pieces of regions, in order
---   below_page     the "pieces below a page"; from_page the others, "whole pages"
+--   below_page    the "pieces below a page"; from_page the others, "whole pages"
 --   slot0, slot2, slot6   "metadata pieces below a page go to slot 0, raw ones to slot 2, whole pages of either to slot 6 with unclassified
 --                 sections unsplit"; an FSSE puts them into its own order
 --   among         1 if the byte at b is among those from a up to e, else 0

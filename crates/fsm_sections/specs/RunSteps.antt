@@ -1,7 +1,7 @@
 -- A pass over the regions of a lent run: what a step of it takes, and what is left then. Assumes nothing.
---   run_start    before the first region
---   rest_in      the regions of a run's first n that are left at a cursor
---   taken_of     what a step of `next_in` was taken of: nothing at the end; else its region, and what is left then
+--   run_start   before the first region
+--   rest_in     the regions of a run's first n that are left at a cursor
+--   taken_of    what a step of `next_in` was taken of: nothing at the end; else its region, and what is left then
 --   Alike       the regions of a run from the i-th up to the j-th have size z
 --   RowIs       what a step of `next_row` gives: at the end nothing is left; else fewer regions are left than before, and the sections that the
 --               regions give have the row's size as often as it says, and their sizes otherwise are those of what is left then

@@ -1,6 +1,6 @@
 -- What is tested of the sections of a lent run. Assumes nothing.
 --   ends_above   some section ends above 2^64 - 1 (document 01, refusal 4: "address plus length")
---   wide        an address does not fit O bytes (document 01, refusal 12: "a written address doesn't fit the offset size")
+--   wide         an address does not fit O bytes (document 01, refusal 12: "a written address doesn't fit the offset size")
 --   any_of       a test holds of some section
 --   any_wide     some section's address does not fit O bytes
 use Rattle.std.specs.Prelude.{ℕ, ◌^◌, Bool, false, ◌||◌, List, [], ◌∷◌, nat_le, nat_lt}

@@ -1,16 +1,16 @@
 -- Sources: three lent runs of regions with a part for each, and the chains that they give: the writer's passes go over them. Assumes nothing.
 -- In quotes: document 01's words, from "Pages and slots".
---   pad           from an address to the first page multiple at or after it
+--   pad            from an address to the first page multiple at or after it
 --   head_size      how much of a region stands before its first page multiple ("cuts at every page multiple"); body_size what is left
---   one           the chain of one section, or of none where it would be empty
+--   one            the chain of one section, or of none where it would be empty
 --   part_of        a part of a region as a chain, in closed form: its head, its whole pages, its tail or all of it
 --   chains_in      the chains of regions
 --   chains_of      the chains of a source, run by run
 --   sections_from  the sections of a source
 --   part_in        the part that is meant of the regions of a run, 0, 1 or 2
---   PartFits      what is cut ends within 64 bits
---   PartIs        `part_chain`: the size and the number of a part's sections, and where they begin if what is cut ends within 64 bits
---   Given         a source that can be gone through, as refusals 2 and 4 leave it: the page is not 0, what is cut ends within 64 bits
+--   PartFits       what is cut ends within 64 bits
+--   PartIs         `part_chain`: the size and the number of a part's sections, and where they begin if what is cut ends within 64 bits
+--   Given          a source that can be gone through, as refusals 2 and 4 leave it: the page is not 0, what is cut ends within 64 bits
 --   small_source   the sections of slot 0 or 2, a run's "pieces below a page": the run stands at a and at b
 --   large_source   the sections of slot 6: the whole pages of two runs, and the regions of a third uncut
 --   plain_source   a run of sections as they are

@@ -27,7 +27,7 @@ use Rattle.fsm_sections.proofs.SlotLaws.{slot6-runs}
 use Rattle.fsm_sections.proofs.SpaceLaws.{space-sorted}
 use Rattle.fsm_blocks.specs.Fshd.{Header, fshd_bytes, fshd_size}
 use Rattle.fsm_blocks.specs.Fsse.{fsse_bytes}
-use Rattle.fsm_blocks.specs.Settings.{starting_set, header_of, headerFor, fsseFor, fsseUsed, blocks_size}
+use Rattle.fsm_blocks.specs.Settings.{starting_set, header_of, header_for, fsse_for, fsse_used, blocks_size}
 use Rattle.fsm_blocks.proofs.LengthLaws.{size-some, part_room, part_back}
 use Rattle.fsm_blocks.proofs.WrittenLaws.{length_fshd}
 use Rattle.fsm_plan.specs.declared.Counts.{Counts}
@@ -36,14 +36,14 @@ use Rattle.fsm_plan.specs.declared.measure.Measure.{Measure}
 use Rattle.fsm_plan.specs.declared.blocks.BlocksPlan.{BlocksPlan}
 use Rattle.fsm_plan.specs.declared.blocks.BlocksPlanned.{BlocksPlanned}
 use Rattle.fsm_plan.specs.declared.blocks.BlocksPlanned.TheVariants as blocks
-use Rattle.fsm_plan.specs.Managers.{manager, managers_of, managerBytes, size_of, blocks_from}
+use Rattle.fsm_plan.specs.Managers.{manager, managers_of, manager_bytes, size_of, blocks_from}
 use Rattle.fsm_plan.specs.Order.{source_of}
-use Rattle.fsm_plan.specs.Blocks.{paged, inSlot0, inSlot2, inLarge, measure_of, plannedBlocks, blocks_outcome}
+use Rattle.fsm_plan.specs.Blocks.{paged, in_slot0, in_slot2, in_large, measure_of, planned_blocks, blocks_outcome}
 use Rattle.fsm_plan.proofs.RunsLaws.{Tested, small_same, small_given, small_numbers, large_given, large_numbers}
 use Rattle.fsm_plan.proofs.BlocksLaws.{Accepted, accepted}
 use Rattle.fsm_plan.proofs.PlannedLaws.{bytes-long, plan_end, plan_bytes}
 use Rattle.fsm_writer.specs.Writing.{Narrow}
-use Rattle.fsm_writer.specs.Paged.{managersIn, managersBytes, writtenManagers}
+use Rattle.fsm_writer.specs.Paged.{managers_in, managers_bytes, written_managers}
 use Rattle.fsm_writer.proofs.RowLaws.{over-after}
 use Rattle.fsm_writer.proofs.SerializeLaws.{sorted-narrow}
 
@@ -51,7 +51,7 @@ use Rattle.fsm_writer.proofs.SerializeLaws.{sorted-narrow}
 
 module _ (O : ℕ) (l : List FreeSection) (m : Measure) (me : m ≡ measure_of O l) (address class : ℕ) (d : List ℕ) where
   abbrev bytes : List ℕ
-  bytes = managerBytes O (starting_set O) lookup3 address (manager class l)
+  bytes = manager_bytes O (starting_set O) lookup3 address (manager class l)
 
   pub count-is : m.count ≡ length l
   count-is = ap (λ (x : Measure). x.count) me
@@ -63,14 +63,14 @@ module _ (O : ℕ) (l : List FreeSection) (m : Measure) (me : m ≡ measure_of O
     some_l : length l ≡ 0 → ⊥
     some_l z = some (count-is ∙ z)
 
-    pub used-of : m.len ≡ 74 + O + fsseUsed O (starting_set O) l
+    pub used-of : m.len ≡ 74 + O + fsse_used O (starting_set O) l
     used-of = ap (λ (x : Measure). x.len) me ∙ size-some O l some_l
 
     module _ (used : ℕ) (ue : used ≡ m.len - (74 + O)) where
-      pub list-long : used ≡ fsseUsed O (starting_set O) l
+      pub list-long : used ≡ fsse_used O (starting_set O) l
       list-long = omega (arith, used-of)
 
-      header_is : header_of (starting_set O) m.space m.count (address + (74 + O)) used ≡ headerFor O (starting_set O) (address + fshd_size O) l
+      header_is : header_of (starting_set O) m.space m.count (address + (74 + O)) used ≡ header_for O (starting_set O) (address + fshd_size O) l
       header_is =
           ap (λ (x : ℕ). header_of (starting_set O) x m.count (address + (74 + O)) used) (ap (λ (x : Measure). x.space) me)
           ∙ ap₂ (λ (x y : ℕ). header_of (starting_set O) (space l) x (address + (74 + O)) y) count-is list-long
@@ -85,12 +85,12 @@ module _ (O : ℕ) (l : List FreeSection) (m : Measure) (me : m ≡ measure_of O
         pub list-room : used ≤ length (take (length x - (74 + O)) (drop (74 + O) x))
         list-room = part_room x (74 + O) used (omega (arith, long, used-of))
 
-        pub both_put : (ys : List ℕ) → ys ≡ over 0 (fsseFor O (starting_set O) lookup3 address class l) (take (length x - (74 + O)) (drop (74 + O) x))
+        pub both_put : (ys : List ℕ) → ys ≡ over 0 (fsse_for O (starting_set O) lookup3 address class l) (take (length x - (74 + O)) (drop (74 + O) x))
             → take (74 + O) x ++ (ys ++ drop (length x - (74 + O)) (drop (74 + O) x)) ≡ over 0 bytes d
         both_put ys yse =
-            let f = fshd_bytes lookup3 O (headerFor O (starting_set O) (address + fshd_size O) l) in
-            let g = fsseFor O (starting_set O) lookup3 address class l in
-            let n : 74 + O ≡ length f = sym (length_fshd lookup3 O (headerFor O (starting_set O) (address + fshd_size O) l)) in
+            let f = fshd_bytes lookup3 O (header_for O (starting_set O) (address + fshd_size O) l) in
+            let g = fsse_for O (starting_set O) lookup3 address class l in
+            let n : 74 + O ≡ length f = sym (length_fshd lookup3 O (header_for O (starting_set O) (address + fshd_size O) l)) in
             let xf : x ≡ over 0 f d = xe ∙ ap (λ (q : Header). over 0 (fshd_bytes lookup3 O q) d) header_is in
             part_back x ys g (74 + O) yse ∙ ap₂ (λ (i : ℕ) (q : List ℕ). over i g q) n xf ∙ over-after f g d
             ∙ sym (rw (ne_eqb (length l) 0 some_l) (ap (λ (q : List ℕ). over 0 (f ++ q) d) (append-nil g)))
@@ -104,7 +104,7 @@ module _ (O : ℕ) (l m : List FreeSection) (e : by_size_then_addr l ≡ by_size
   pub same_measure : measure_of O l ≡ measure_of O m
   same_measure = rw (by space space-sorted, by length length-sorted, by distinct distinct-sorted)
 
-  pub same_bytes : (address class : ℕ) → managerBytes O (starting_set O) lookup3 address (manager class l) ≡ managerBytes O (starting_set O) lookup3 address (manager class m)
+  pub same_bytes : (address class : ℕ) → manager_bytes O (starting_set O) lookup3 address (manager class l) ≡ manager_bytes O (starting_set O) lookup3 address (manager class m)
   unfolding fsse_bytes
   same_bytes address class = rw (by space space-sorted, by length length-sorted, by distinct distinct-sorted, e)
 
@@ -121,7 +121,7 @@ module _ (O start page : ℕ) (meta raw unclassified : List FreeSection) (out : 
   l6 = slot6 page meta raw unclassified
 
   abbrev of : ℕ → ℕ → List FreeSection → List ℕ
-  of a class l = managerBytes O (starting_set O) lookup3 a (manager class l)
+  of a class l = manager_bytes O (starting_set O) lookup3 a (manager class l)
 
   module _ (s0 s2 s6 : List FreeSection) (e0 : by_size_then_addr l0 ≡ by_size_then_addr s0) (e2 : by_size_then_addr l2 ≡ by_size_then_addr s2) (e6 : by_size_then_addr l6 ≡ by_size_then_addr s6)
       (k j : ℕ) (ke : k ≡ blocks_size O l0) (je : j ≡ k + blocks_size O l2) (room : blocks_size O l0 + blocks_size O l2 + blocks_size O l6 ≤ length out)
@@ -174,7 +174,7 @@ module _ (O start page : ℕ) (meta raw unclassified : List FreeSection) (out : 
 
 -- ---- `put_managers`: what is asked for each slot, and what is written
 
-module _ (a b c : List ℕ) (n : Counts) (page start O : ℕ) (p : BlocksPlan) (e : plannedBlocks a b c n page start O ≡ answer p) (out : List ℕ) where
+module _ (a b c : List ℕ) (n : Counts) (page start O : ℕ) (p : BlocksPlan) (e : planned_blocks a b c n page start O ≡ answer p) (out : List ℕ) where
   abbrev acc : Accepted a b c n page start O p
   acc = accepted a b c n page start O p e
 
@@ -184,13 +184,13 @@ module _ (a b c : List ℕ) (n : Counts) (page start O : ℕ) (p : BlocksPlan) (
   abbrev S : Paged
   S = paged n page
 
-  len0 : p.measures.slot0.len ≡ blocks_size O (inSlot0 S a b c)
+  len0 : p.measures.slot0.len ≡ blocks_size O (in_slot0 S a b c)
   len0 = ap (λ (q : BlocksPlan). q.measures.slot0.len) acc.plan
 
-  len2 : p.measures.slot2.len ≡ blocks_size O (inSlot2 S a b c)
+  len2 : p.measures.slot2.len ≡ blocks_size O (in_slot2 S a b c)
   len2 = ap (λ (q : BlocksPlan). q.measures.slot2.len) acc.plan
 
-  len6 : p.measures.slot6.len ≡ blocks_size O (inLarge S a b c)
+  len6 : p.measures.slot6.len ≡ blocks_size O (in_large S a b c)
   len6 = ap (λ (q : BlocksPlan). q.measures.slot6.len) acc.plan
 
   pub ends : start + p.measures.slot0.len + p.measures.slot2.len + p.measures.slot6.len ≤ top
@@ -202,18 +202,18 @@ module _ (a b c : List ℕ) (n : Counts) (page start O : ℕ) (p : BlocksPlan) (
       × (Numbers (sections_of (chains_of s u v w))
       × (((1 ≤ O) × (O ≤ 8) × Narrow O (sections_of (chains_of s u v w))) × ((m ≡ measure_of O (sections_of (chains_of s u v w))) × ((address + m.len ≤ top) × (m.len ≤ k)))))
 
-  order0 : (s : Source) → s ≡ small_source page n.meta → by_size_then_addr (inSlot0 S a b c) ≡ by_size_then_addr (sections_of (chains_of s a a a))
+  order0 : (s : Source) → s ≡ small_source page n.meta → by_size_then_addr (in_slot0 S a b c) ≡ by_size_then_addr (sections_of (chains_of s a a a))
   order0 s e = small_same page n.meta a t.some ∙ ap (λ (x : Source). by_size_then_addr (sections_of (chains_of x a a a))) (sym e)
 
-  order2 : (s : Source) → s ≡ small_source page n.raw → by_size_then_addr (inSlot2 S a b c) ≡ by_size_then_addr (sections_of (chains_of s b b b))
+  order2 : (s : Source) → s ≡ small_source page n.raw → by_size_then_addr (in_slot2 S a b c) ≡ by_size_then_addr (sections_of (chains_of s b b b))
   order2 s e = small_same page n.raw b t.some ∙ ap (λ (x : Source). by_size_then_addr (sections_of (chains_of x b b b))) (sym e)
 
-  order6 : (s : Source) → s ≡ source_of S → by_size_then_addr (inLarge S a b c) ≡ by_size_then_addr (sections_of (chains_of s a b c))
+  order6 : (s : Source) → s ≡ source_of S → by_size_then_addr (in_large S a b c) ≡ by_size_then_addr (sections_of (chains_of s a b c))
   order6 s e =
       ap by_size_then_addr (slot6-runs page n.meta n.raw n.unclassified a b c t.some)
       ∙ ap (λ (x : Source). by_size_then_addr (sections_of (chains_of x a b c))) (sym e)
 
-  all_room : p.managers.end_of_managers ≤ start + length out → blocks_size O (inSlot0 S a b c) + blocks_size O (inSlot2 S a b c) + blocks_size O (inLarge S a b c) ≤ length out
+  all_room : p.managers.end_of_managers ≤ start + length out → blocks_size O (in_slot0 S a b c) + blocks_size O (in_slot2 S a b c) + blocks_size O (in_large S a b c) ≤ length out
   all_room h = omega (arith, ap (λ (q : BlocksPlan). q.managers.end_of_managers) acc.plan)
 
   pub first_asked : (s : Source) → s ≡ small_source page n.meta → p.managers.end_of_managers ≤ start + length out → Asked a a a s p.measures.slot0 start (length out)
@@ -227,7 +227,7 @@ module _ (a b c : List ℕ) (n : Counts) (page start O : ℕ) (p : BlocksPlan) (
 
   module _ (room : p.managers.end_of_managers ≤ start + length out) (S0 S2 S6 : Source)
       (f0 : S0 ≡ small_source page n.meta) (f2 : S2 ≡ small_source page n.raw) (f6 : S6 ≡ source_of S) (u : List ℕ)
-      (ue : u ≡ over 0 (managerBytes O (starting_set O) lookup3 start (manager 1 (sections_of (chains_of S0 a a a)))) out) where
+      (ue : u ≡ over 0 (manager_bytes O (starting_set O) lookup3 start (manager 1 (sections_of (chains_of S0 a a a)))) out) where
     abbrev k : ℕ
     k = p.measures.slot0.len
 
@@ -262,7 +262,7 @@ module _ (a b c : List ℕ) (n : Counts) (page start O : ℕ) (p : BlocksPlan) (
     )
 
     module _ (ys : List ℕ)
-        (ye : ys ≡ over 0 (managerBytes O (starting_set O) lookup3 (start + k) (manager 1 (sections_of (chains_of S2 b b b)))) (take (length u - k) (drop k u))) where
+        (ye : ys ≡ over 0 (manager_bytes O (starting_set O) lookup3 (start + k) (manager 1 (sections_of (chains_of S2 b b b)))) (take (length u - k) (drop k u))) where
       abbrev v : List ℕ
       v = take k u ++ (ys ++ drop (length u - k) (drop k u))
 
@@ -294,36 +294,36 @@ module _ (a b c : List ℕ) (n : Counts) (page start O : ℕ) (p : BlocksPlan) (
       )
 
       pub all-written : (zs : List ℕ)
-          → zs ≡ over 0 (managerBytes O (starting_set O) lookup3 (start + j) (manager 2 (sections_of (chains_of S6 a b c)))) (take (length v - j) (drop j v))
-          → take j v ++ (zs ++ drop (length v - j) (drop j v)) ≡ over 0 (managersBytes a b c n page start O) out
+          → zs ≡ over 0 (manager_bytes O (starting_set O) lookup3 (start + j) (manager 2 (sections_of (chains_of S6 a b c)))) (take (length v - j) (drop j v))
+          → take j v ++ (zs ++ drop (length v - j) (drop j v)) ≡ over 0 (managers_bytes a b c n page start O) out
       all-written zs ze =
           all-put O start page (decode n.meta a) (decode n.raw b) (decode n.unclassified c) out _ _ _ (order0 S0 f0) (order2 S2 f2) (order6 S6 f6) k j len0
           (omega (arith, len2)) (all_room room) u ue ys ye zs ze
 
 -- ---- `serialize_paged_managers`, by its branches
 
-module _ (a b c : List ℕ) (n : Counts) (page start O : ℕ) (out : List ℕ) (x : BlocksPlanned) (xe : blocks_outcome x ≡ plannedBlocks a b c n page start O) where
+module _ (a b c : List ℕ) (n : Counts) (page start O : ℕ) (out : List ℕ) (x : BlocksPlanned) (xe : blocks_outcome x ≡ planned_blocks a b c n page start O) where
   abbrev len : ℕ
-  len = size_of O (starting_set O) (managersIn a b c n page)
+  len = size_of O (starting_set O) (managers_in a b c n page)
 
   abbrev after : BlocksPlan → Outcome (With BlocksPlan (List ℕ))
   after p =
       first_of (when (ltb (length out) len) (OverCapacity len (length out)) ∷ [])
-      (answer (with p (over 0 (managersBytes a b c n page start O) out)))
+      (answer (with p (over 0 (managers_bytes a b c n page start O) out)))
 
-  whole : and_then (blocks_outcome x) after ≡ writtenManagers a b c n page start O out
-  unfolding writtenManagers
+  whole : and_then (blocks_outcome x) after ≡ written_managers a b c n page start O out
+  unfolding written_managers
   whole = ap (λ (z : Outcome BlocksPlan). and_then z after) xe
 
-  pub written-refused : (r : Refusal) → x ≡ blocks.Refused r → left (refused r) out ≡ leaving out (writtenManagers a b c n page start O out)
+  pub written-refused : (r : Refusal) → x ≡ blocks.Refused r → left (refused r) out ≡ leaving out (written_managers a b c n page start O out)
   unfolding and_then
   written-refused r h = ap (leaving out) (ap (λ (z : BlocksPlanned). and_then (blocks_outcome z) after) (sym h) ∙ whole)
 
   module _ (p : BlocksPlan) (h : x ≡ blocks.Plan p) where
-    pub plan_answered : plannedBlocks a b c n page start O ≡ answer p
+    pub plan_answered : planned_blocks a b c n page start O ≡ answer p
     plan_answered = sym xe ∙ ap blocks_outcome h
 
-    after_is : after p ≡ writtenManagers a b c n page start O out
+    after_is : after p ≡ written_managers a b c n page start O out
     unfolding and_then
     after_is = ap (λ (z : BlocksPlanned). and_then (blocks_outcome z) after) (sym h) ∙ whole
 
@@ -336,7 +336,7 @@ module _ (a b c : List ℕ) (n : Counts) (page start O : ℕ) (out : List ℕ) (
     plan_start = omega (arith, ends_at)
 
     module _ (m : ℕ) (me : m ≡ p.managers.end_of_managers - start) where
-      pub written-short : length out < m → left (refused (OverCapacity m (length out))) out ≡ leaving out (writtenManagers a b c n page start O out)
+      pub written-short : length out < m → left (refused (OverCapacity m (length out))) out ≡ leaving out (written_managers a b c n page start O out)
       written-short k =
           let e : m ≡ len = omega (arith, ends_at) in
           ap (λ (i : ℕ). left (refused (OverCapacity i (length out))) out) e
@@ -346,7 +346,7 @@ module _ (a b c : List ℕ) (n : Counts) (page start O : ℕ) (out : List ℕ) (
         pub written-room : p.managers.end_of_managers ≤ start + length out
         written-room = omega (arith, ends_at)
 
-        pub written_done : (z : List ℕ) → z ≡ over 0 (managersBytes a b c n page start O) out → left (answer p) z ≡ leaving out (writtenManagers a b c n page start O out)
+        pub written_done : (z : List ℕ) → z ≡ over 0 (managers_bytes a b c n page start O) out → left (answer p) z ≡ leaving out (written_managers a b c n page start O out)
         written_done z e =
             ap (λ (l : List ℕ). left (answer p) l) e
             ∙ ap (leaving out) (sym (first_passes _ (OverCapacity len (length out)) _ _ (le-ltb (length out) len (omega (arith, ends_at))) ∙ first-none _) ∙ after_is)

@@ -16,12 +16,12 @@ use Rattle.fields.specs.Layout.{layout}
 use Rattle.fields.specs.Width.{least_from, enc_size}
 use Rattle.checksum.specs.Lookup3.{add32, sub32, xor32, rotl32, mixed, finished, block_added, gained, byte_added, tail_added, ending, hash_from, hash_of, lookup3}
 use Rattle.fsm_sections.specs.Sections.{section, decode, space, of_size, distinct, insert, by_size_then_addr, push, groups_of}
-use Rattle.fsm_blocks.specs.Groups.{entryBytes, groupBytes}
+use Rattle.fsm_blocks.specs.Groups.{entry_bytes, group_bytes}
 use Rattle.fsm_blocks.specs.Fshd.{fshd_bytes}
 use Rattle.fsm_blocks.specs.Fsse.{fsse_bytes}
-use Rattle.fsm_blocks.specs.Settings.{starting_set, headerFor, fsseFor}
+use Rattle.fsm_blocks.specs.Settings.{starting_set, header_for, fsse_for}
 use Rattle.fsm_blocks.specs.declared.checks.Reading.{Reading}
-use Rattle.fsm_blocks.specs.Reading.{readManager}
+use Rattle.fsm_blocks.specs.Reading.{read_manager}
 use Rattle.fsm_writer.specs.Serializing.{of_run, written_fshd, written_fsse}
 use Rattle.fsm_sections.specs.Runs.{any_of}
 use Rattle.fsm_writer.specs.RoundTrip.{Standing}
@@ -31,10 +31,10 @@ abbrev run : List ℕ
 run = 300 ∷ 16 ∷ 9 ∷ 2 ∷ 300 ∷ 16 ∷ []
 
 abbrev header : List ℕ
-header = fshd_bytes lookup3 2 (headerFor 2 (starting_set 2) 100 (decode 3 run))
+header = fshd_bytes lookup3 2 (header_for 2 (starting_set 2) 100 (decode 3 run))
 
 abbrev list : List ℕ
-list = fsseFor 2 (starting_set 2) lookup3 10 1 (decode 3 run)
+list = fsse_for 2 (starting_set 2) lookup3 10 1 (decode 3 run)
 
 abbrev pub bytes : List ℕ
 bytes = replicate 15 0 ++ (header ++ (replicate 14 0 ++ list))
@@ -44,19 +44,19 @@ unfolding written_fshd of_run first_of and_then space fshd_bytes layout le_bytes
 header-written = refl
 
 list_written : written_fsse 2 run 3 10 1 (replicate 38 0) ≡ answer (with 38 list)
-unfolding written_fsse of_run first_of and_then any_of space fsse_bytes layout le_bytes least_from enc_size of_size distinct insert by_size_then_addr push groups_of entryBytes groupBytes add32 sub32 xor32 rotl32 mixed finished block_added gained byte_added tail_added ending hash_from hash_of lookup3
+unfolding written_fsse of_run first_of and_then any_of space fsse_bytes layout le_bytes least_from enc_size of_size distinct insert by_size_then_addr push groups_of entry_bytes group_bytes add32 sub32 xor32 rotl32 mixed finished block_added gained byte_added tail_added ending hash_from hash_of lookup3
 list_written = refl
 
 standing : Standing 2 (decode 3 run) 10 100 (take 76 header) (take 38 list) 5 bytes
-unfolding space fshd_bytes fsse_bytes layout le_bytes least_from enc_size of_size distinct insert by_size_then_addr push groups_of entryBytes groupBytes add32 sub32 xor32 rotl32 mixed finished block_added gained byte_added tail_added ending hash_from hash_of lookup3
+unfolding space fshd_bytes fsse_bytes layout le_bytes least_from enc_size of_size distinct insert by_size_then_addr push groups_of entry_bytes group_bytes add32 sub32 xor32 rotl32 mixed finished block_added gained byte_added tail_added ending hash_from hash_of lookup3
 standing = record {
   short = lit< tt;
   fshd_defined = λ e. omega arith;
   fsse_defined = λ e. omega arith;
-  header-there = refl;
+  header_there = refl;
   list-there = refl;
 }
 
-pub read : (how : Reading) → readManager how 2 5 10 bytes ≡ answer (section 9 2 ∷ section 300 16 ∷ section 300 16 ∷ [])
+pub read : (how : Reading) → read_manager how 2 5 10 bytes ≡ answer (section 9 2 ∷ section 300 16 ∷ section 300 16 ∷ [])
 unfolding insert by_size_then_addr
-read how = (round_trip 2 run 3 10 100 1 (replicate 76 0) (replicate 38 0) 76 38 header list (lit< tt) header-written list_written).manager-read how 5 bytes standing
+read how = (round_trip 2 run 3 10 100 1 (replicate 76 0) (replicate 38 0) 76 38 header list (lit< tt) header-written list_written).manager_read how 5 bytes standing

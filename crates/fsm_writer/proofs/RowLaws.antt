@@ -16,9 +16,9 @@ use Rattle.fields.proofs.LayoutLaws.{length-layout}
 use Rattle.fsm_sections.specs.declared.FreeSection.{FreeSection}
 use Rattle.fsm_sections.specs.Sections.{by_size_then_addr, groups_of}
 use Rattle.fsm_blocks.specs.Fshd.{fshd_row, fshd_bytes, sealed}
-use Rattle.fsm_blocks.specs.Groups.{Widths, groupBytes}
+use Rattle.fsm_blocks.specs.Groups.{Widths, group_bytes}
 use Rattle.fsm_blocks.specs.Fsse.{fsse_head, fsse_bytes, fsse_size}
-use Rattle.fsm_blocks.specs.Settings.{starting_set, header_of, widthsFor, fsseUsed, fsseFor}
+use Rattle.fsm_blocks.specs.Settings.{starting_set, header_of, widths_for, fsse_used, fsse_for}
 use Rattle.fsm_blocks.proofs.LengthLaws.{widths_are}
 use Rattle.fsm_writer.specs.Writing.{written}
 use Rattle.fsm_writer.proofs.WriterLaws.{groups_length}
@@ -123,16 +123,16 @@ module _ (o back class : ℕ) (l : List FreeSection) (d : List ℕ) (some : 1 �
   abbrev w : Widths
   w = written cw o
 
-  widths-written : widthsFor o (starting_set o) (length l) ≡ w
+  widths-written : widths_for o (starting_set o) (length l) ≡ w
   widths-written = widths_are o (length l) ∙ ap (λ (m : ℕ). written m o) (sym (ce ∙ ap enc_size ne))
 
   abbrev groups : List ℕ
-  groups = groupBytes w class (groups_of (by_size_then_addr l))
+  groups = group_bytes w class (groups_of (by_size_then_addr l))
 
   abbrev body : List ℕ
   body = (le_bytes 5 1163088710 ++ le_bytes o back) ++ groups
 
-  pub used-is : fsseUsed o (starting_set o) l ≡ 9 + o + length groups
+  pub used-is : fsse_used o (starting_set o) l ≡ 9 + o + length groups
   used-is = ap (λ (v : Widths). fsse_size v o l) widths-written ∙ omega (arith, groups_length w class l)
 
   body-long : length body ≡ 5 + o + length groups
@@ -159,7 +159,7 @@ module _ (o back class : ℕ) (l : List FreeSection) (d : List ℕ) (some : 1 �
       three-long = ap length three ∙ length_over 0 body d
 
       pub fsse-put : (sum : List ℕ → ℕ) (m : ℕ) (x : List ℕ) → m ≡ 5 + o + length groups → m ≤ length d → x ≡ over m (le_bytes 4 (sum (take m x₃))) x₃
-          → x ≡ over 0 (fsseFor o (starting_set o) sum back class l) d
+          → x ≡ over 0 (fsse_for o (starting_set o) sum back class l) d
       unfolding fsse_bytes
       fsse-put sum m x e h f =
           sealed-put sum body d x₃ x m (omega (arith, body-long)) h three f

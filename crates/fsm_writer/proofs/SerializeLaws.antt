@@ -38,12 +38,12 @@ use Rattle.fsm_sizes.specs.Totals.{summed, summed_outcome}
 use Rattle.fsm_sizes.proofs.TotalLaws.{sum_over, summed-is, summed-not}
 use Rattle.fsm_sections.proofs.SlotLaws.{plain_runs}
 use Rattle.fsm_blocks.specs.Fshd.{Header, fshd_bytes, fshd_size}
-use Rattle.fsm_blocks.specs.Settings.{starting_set, header_of, headerFor, usedBy, fsseUsed, fsseFor, blocks_size}
+use Rattle.fsm_blocks.specs.Settings.{starting_set, header_of, header_for, used_by, fsse_used, fsse_for, blocks_size}
 use Rattle.fsm_writer.specs.Writing.{Narrow}
 use Rattle.fsm_writer.specs.Serializing.{of_run, blocks_len, written_fshd, written_fsse}
 use Rattle.fsm_sections.proofs.PassLaws.{run-numbers}
 use Rattle.fsm_sections.proofs.SizesLaws.{distinct-few}
-use Rattle.fsm_blocks.proofs.LengthLaws.{width_small, used_by}
+use Rattle.fsm_blocks.proofs.LengthLaws.{width_small, used_by_lem}
 use Rattle.error.specs.declared.Number.TheVariants as number
 
 -- ---- a run of sections as a source
@@ -130,9 +130,9 @@ module _ (O : ℕ) (run : List ℕ) (n : ℕ) where
     pub is : of_run O run n ≡ answer (decode n run)
 
   module _ {B : Type 0} (g : List FreeSection → Outcome B) where
-    pub run-width : not (valid_width O) ≡ true → refused Width ≡ and_then (of_run O run n) g
+    pub run_width : not (valid_width O) ≡ true → refused Width ≡ and_then (of_run O run n) g
     unfolding of_run
-    run-width h = then_refused _ Width g (first_holds _ Width _ _ h)
+    run_width h = then_refused _ Width g (first_holds _ Width _ _ h)
 
     module _ (v : not (valid_width O) ≡ false) where
       pub run_odd : (length run % 2 ≡ 0 → ⊥) → refused NotAList ≡ and_then (of_run O run n) g
@@ -143,10 +143,10 @@ module _ (O : ℕ) (run : List ℕ) (n : ℕ) where
       unfolding of_run
       run_long e h = then_refused _ NotAList g (first_passes _ Width _ _ v ∙ first_holds _ NotAList _ _ (rw (eq-eqb (length run % 2) 0 e, lt-ltb (length run / 2) n h)))
 
-  pub run-space : not (valid_width O) ≡ false → length run % 2 ≡ 0 → n ≤ length run / 2 → (r : Outcome ℕ) → r ≡ storable (space (sections_of (chains_of (plain_source n) run run run)))
+  pub run_space : not (valid_width O) ≡ false → length run % 2 ≡ 0 → n ≤ length run / 2 → (r : Outcome ℕ) → r ≡ storable (space (sections_of (chains_of (plain_source n) run run run)))
       → r ≡ and_then (of_run O run n) (λ l. answer (space l))
   unfolding of_run storable
-  run-space v e h r p =
+  run_space v e h r p =
       p ∙ ap (λ (l : List FreeSection). storable (space l)) (plain_all n run)
       ∙ sym (ap (λ (s : Outcome (List FreeSection)). and_then s (λ l. answer (space l)))
       (first_passes _ Width _ _ v ∙ first_passes _ NotAList _ _ (rw (eq-eqb (length run % 2) 0 e, le-ltb (length run / 2) n h)))
@@ -184,7 +184,7 @@ module _ (o n : ℕ) (run : List ℕ) (room : 2 * n ≤ length run) (fits : n < 
   long : length (decode n run) ≡ n
   long = length-decode section n run room
 
-  pub used-few : o ≤ 8 → fsseUsed o (starting_set o) (decode n run) ≤ 17 + 25 * n
+  pub used-few : o ≤ 8 → fsse_used o (starting_set o) (decode n run) ≤ 17 + 25 * n
   used-few high =
       let d = distinct (decode n run) in
       let l = length (decode n run) in
@@ -192,21 +192,21 @@ module _ (o n : ℕ) (run : List ℕ) (room : 2 * n ≤ length run) (fits : n < 
       let w : enc_size l + 8 ≤ 16 = omega (arith, width_small l (omega (arith, long))) in
       let k : o + 1 ≤ 9 = omega arith in
       let r : l ≤ n = omega (arith, long) in
-      omega (arith, used_by o l d, mul-le-mul f w, mul-le-mul r k)
+      omega (arith, used_by_lem o l d, mul-le-mul f w, mul-le-mul r k)
 
   module _ (d : ℕ) (de : d ≡ sat (distinct (sections_of (chains_of (plain_source n) run run run)))) where
-    pub used-run : usedBy o (starting_set o) n d ≡ fsseUsed o (starting_set o) (decode n run)
+    pub used-run : used_by o (starting_set o) n d ≡ fsse_used o (starting_set o) (decode n run)
     unfolding sat
     used-run =
         let e : d ≡ distinct (decode n run) = omega (arith, de, ap distinct (plain_all n run), distinct-few (decode n run), long) in
         sym (rw (long, ← e))
 
     -- it is a number, and is not refused
-    module _ (high : o ≤ 8) (few : 17 + 25 * n ≤ top) (c : Number) (ce : number_outcome c ≡ storable (usedBy o (starting_set o) n d)) where
-      pub used-is : (m : ℕ) → c ≡ number.Is m → m ≡ fsseUsed o (starting_set o) (decode n run)
+    module _ (high : o ≤ 8) (few : 17 + 25 * n ≤ top) (c : Number) (ce : number_outcome c ≡ storable (used_by o (starting_set o) n d)) where
+      pub used-is : (m : ℕ) → c ≡ number.Is m → m ≡ fsse_used o (starting_set o) (decode n run)
       used-is m h = (stored_is c _ ce m h).0 ∙ used-run
 
-      pub used-not : (r : Refusal) → c ≡ number.Refused r → 0 ≡ fsseUsed o (starting_set o) (decode n run)
+      pub used-not : (r : Refusal) → c ≡ number.Refused r → 0 ≡ fsse_used o (starting_set o) (decode n run)
       used-not r h = absurd (omega (arith, stored-not c _ ce r h, used-run, used-few high))
 
 -- ---- the entries, by their branches
@@ -218,7 +218,7 @@ module _ (O : ℕ) (run : List ℕ) (n sum : ℕ) (h : Accepted O run n sum) whe
       let z : length (decode n run) ≡ 0 = length-decode section n run h.room ∙ e in
       sym (rw (eq-eqb (length (decode n run)) 0 z)) ∙ accepted_then O run n sum h (λ l. answer (blocks_size O l))
 
-  pub blocks_some : (n ≡ 0 → ⊥) → (used : ℕ) → used ≡ fsseUsed O (starting_set O) (decode n run) → answer (74 + O + used) ≡ blocks_len O run n
+  pub blocks_some : (n ≡ 0 → ⊥) → (used : ℕ) → used ≡ fsse_used O (starting_set O) (decode n run) → answer (74 + O + used) ≡ blocks_len O run n
   unfolding blocks_len
   blocks_some e used u =
       let z : length (decode n run) ≡ 0 → ⊥ = λ q. e (sym (length-decode section n run h.room) ∙ q) in
@@ -253,62 +253,62 @@ module _ (O : ℕ) (run : List ℕ) (n sum : ℕ) (h : Accepted O run n sum) (t 
 
 -- ---- `serialize_fshd`
 module _ (O : ℕ) (run : List ℕ) (n sum : ℕ) (h : Accepted O run n sum) (fsse : ℕ) (out : List ℕ) where
-  abbrev fshdLent : List FreeSection → With ℕ (List ℕ)
-  fshdLent l = with (fshd_size O) (over 0 (fshd_bytes lookup3 O (headerFor O (starting_set O) fsse l)) out)
+  abbrev fshd_lent : List FreeSection → With ℕ (List ℕ)
+  fshd_lent l = with (fshd_size O) (over 0 (fshd_bytes lookup3 O (header_for O (starting_set O) fsse l)) out)
 
   pub fshd_wide : wide O fsse ≡ true → left (refused WideAddress) out ≡ leaving out (written_fshd O run n fsse out)
   unfolding written_fshd
   fshd_wide e =
-      left-refused out WideAddress _ (two-first O run n sum h (λ l. wide O fsse) (λ l. ltb (length out) (fshd_size O)) WideAddress fshdLent (λ l. fshd_size O) (length out) e)
+      left-refused out WideAddress _ (two-first O run n sum h (λ l. wide O fsse) (λ l. ltb (length out) (fshd_size O)) WideAddress fshd_lent (λ l. fshd_size O) (length out) e)
 
   pub fshd_short : wide O fsse ≡ false → length out < 74 + O → left (refused (OverCapacity (74 + O) (length out))) out ≡ leaving out (written_fshd O run n fsse out)
   unfolding written_fshd
   fshd_short e k =
       left-refused out (OverCapacity (74 + O) (length out)) _
-      (two-second O run n sum h (λ l. wide O fsse) (λ l. ltb (length out) (fshd_size O)) WideAddress fshdLent (λ l. fshd_size O) (length out) e (lt-ltb (length out) (74 + O) k) (74 + O) refl)
+      (two-second O run n sum h (λ l. wide O fsse) (λ l. ltb (length out) (fshd_size O)) WideAddress fshd_lent (λ l. fshd_size O) (length out) e (lt-ltb (length out) (74 + O) k) (74 + O) refl)
 
-  pub fshd_done : wide O fsse ≡ false → 74 + O ≤ length out → (used : ℕ) → used ≡ fsseUsed O (starting_set O) (decode n run) → (y : List ℕ)
+  pub fshd_done : wide O fsse ≡ false → 74 + O ≤ length out → (used : ℕ) → used ≡ fsse_used O (starting_set O) (decode n run) → (y : List ℕ)
       → y ≡ over 0 (fshd_bytes lookup3 O (header_of (starting_set O) sum n fsse used)) out → left (answer (74 + O)) y ≡ leaving out (written_fshd O run n fsse out)
   unfolding written_fshd
   fshd_done e k used u y p =
-      let q : header_of (starting_set O) sum n fsse used ≡ headerFor O (starting_set O) fsse (decode n run) =
+      let q : header_of (starting_set O) sum n fsse used ≡ header_for O (starting_set O) fsse (decode n run) =
       ap (λ (m : ℕ). header_of (starting_set O) m n fsse used) h.is_sum
       ∙ ap (λ (m : ℕ). header_of (starting_set O) (space (decode n run)) m fsse used) (sym (length-decode section n run h.room))
       ∙ ap (λ (m : ℕ). header_of (starting_set O) (space (decode n run)) (length (decode n run)) fsse m) u in
-      let z : y ≡ over 0 (fshd_bytes lookup3 O (headerFor O (starting_set O) fsse (decode n run))) out = p ∙ ap (λ (m : Header). over 0 (fshd_bytes lookup3 O m) out) q in
+      let z : y ≡ over 0 (fshd_bytes lookup3 O (header_for O (starting_set O) fsse (decode n run))) out = p ∙ ap (λ (m : Header). over 0 (fshd_bytes lookup3 O m) out) q in
       ap (λ (m : List ℕ). left (answer (74 + O)) m) z
       ∙ left-answer out _ (74 + O) _
-      (two-answer O run n sum h (λ l. wide O fsse) (λ l. ltb (length out) (fshd_size O)) WideAddress fshdLent (λ l. fshd_size O) (length out) e (le-ltb (length out) (74 + O) k))
+      (two-answer O run n sum h (λ l. wide O fsse) (λ l. ltb (length out) (fshd_size O)) WideAddress fshd_lent (λ l. fshd_size O) (length out) e (le-ltb (length out) (74 + O) k))
 
 -- ---- `serialize_fsse`
 module _ (O : ℕ) (run : List ℕ) (n sum : ℕ) (h : Accepted O run n sum) (fshd class : ℕ) (out : List ℕ) where
   abbrev used : List FreeSection → ℕ
-  used l = fsseUsed O (starting_set O) l
+  used l = fsse_used O (starting_set O) l
 
-  abbrev fsseLent : List FreeSection → With ℕ (List ℕ)
-  fsseLent l = with (used l) (over 0 (fsseFor O (starting_set O) lookup3 fshd class l) out)
+  abbrev fsse_lent : List FreeSection → With ℕ (List ℕ)
+  fsse_lent l = with (used l) (over 0 (fsse_for O (starting_set O) lookup3 fshd class l) out)
 
   pub fsse-wide : (wide O fshd || any_wide O (decode n run)) ≡ true → left (refused WideAddress) out ≡ leaving out (written_fsse O run n fshd class out)
   unfolding written_fsse
   fsse-wide e =
-      left-refused out WideAddress _ (two-first O run n sum h (λ l. wide O fshd || any_wide O l) (λ l. ltb (length out) (used l)) WideAddress fsseLent used (length out) e)
+      left-refused out WideAddress _ (two-first O run n sum h (λ l. wide O fshd || any_wide O l) (λ l. ltb (length out) (used l)) WideAddress fsse_lent used (length out) e)
 
   module _ (e : (wide O fshd || any_wide O (decode n run)) ≡ false) (m : ℕ) (u : m ≡ used (decode n run)) where
     pub fsse-short : length out < m → left (refused (OverCapacity m (length out))) out ≡ leaving out (written_fsse O run n fshd class out)
     unfolding written_fsse
     fsse-short k =
         left-refused out (OverCapacity m (length out)) _
-        (two-second O run n sum h (λ l. wide O fshd || any_wide O l) (λ l. ltb (length out) (used l)) WideAddress fsseLent used (length out) e
+        (two-second O run n sum h (λ l. wide O fshd || any_wide O l) (λ l. ltb (length out) (used l)) WideAddress fsse_lent used (length out) e
         (lt-ltb (length out) (used (decode n run)) (omega arith)) m u)
 
-    pub fsse_done : m ≤ length out → (y : List ℕ) → y ≡ over 0 (fsseFor O (starting_set O) lookup3 fshd class (sections_of (chains_of (plain_source n) run run run))) out
+    pub fsse_done : m ≤ length out → (y : List ℕ) → y ≡ over 0 (fsse_for O (starting_set O) lookup3 fshd class (sections_of (chains_of (plain_source n) run run run))) out
         → left (answer m) y ≡ leaving out (written_fsse O run n fshd class out)
     unfolding written_fsse
     fsse_done k y p =
-        let z : y ≡ over 0 (fsseFor O (starting_set O) lookup3 fshd class (decode n run)) out = p ∙ ap (λ (l : List FreeSection). over 0 (fsseFor O (starting_set O) lookup3 fshd class l) out) (plain_all n run) in
+        let z : y ≡ over 0 (fsse_for O (starting_set O) lookup3 fshd class (decode n run)) out = p ∙ ap (λ (l : List FreeSection). over 0 (fsse_for O (starting_set O) lookup3 fshd class l) out) (plain_all n run) in
         ap₂ (λ (i : ℕ) (x : List ℕ). left (answer i) x) u z
         ∙ left-answer out _ (used (decode n run)) _
-        (two-answer O run n sum h (λ l. wide O fshd || any_wide O l) (λ l. ltb (length out) (used l)) WideAddress fsseLent used (length out) e
+        (two-answer O run n sum h (λ l. wide O fshd || any_wide O l) (λ l. ltb (length out) (used l)) WideAddress fsse_lent used (length out) e
         (le-ltb (length out) (used (decode n run)) (omega arith)))
 
 pub or_left : (a b : Bool) → a ≡ true → (a || b) ≡ true
@@ -332,14 +332,14 @@ sorted-narrow O l m e n =
     all-narrow O m (sym (any_sorted test m) ∙ ap (any_wide O) (sym e) ∙ any_sorted test l ∙ n)
 
 -- what the list's writer asks, of a run of sections
-pub run_asked : (O : ℕ) (run : List ℕ) (n sum : ℕ) → Accepted O run n sum → ((i : ℕ) → get_or run i 0 < 2 ^ 64) → (m : ℕ) → m ≡ fsseUsed O (starting_set O) (decode n run) → (k : ℕ) → m ≤ k
+pub run_asked : (O : ℕ) (run : List ℕ) (n sum : ℕ) → Accepted O run n sum → ((i : ℕ) → get_or run i 0 < 2 ^ 64) → (m : ℕ) → m ≡ fsse_used O (starting_set O) (decode n run) → (k : ℕ) → m ≤ k
     → (s : Source) → s ≡ plain_source n → any_wide O (decode n run) ≡ false
     → Given s run run run
     × (Numbers (sections_of (chains_of s run run run))
     × (Narrow O (sections_of (chains_of s run run run))
     × (((1 ≤ O) × (O ≤ 8))
     × ((n ≡ length (sections_of (chains_of s run run run)))
-    × ((m ≡ fsseUsed O (starting_set O) (sections_of (chains_of s run run run))) × (m ≤ k))))))
+    × ((m ≡ fsse_used O (starting_set O) (sections_of (chains_of s run run run))) × (m ≤ k))))))
 run_asked O run n sum h numbers m u k f s e w =
     rw e
     (rw (plain_all n run)

@@ -10,7 +10,7 @@ use Rattle.checksum.proofs.TrailingLaws.{closed}
 use Rattle.fsm_sections.specs.declared.FreeSection.{FreeSection}
 use Rattle.fsm_sections.specs.Sections.{by_size_then_addr, groups_of}
 use Rattle.fsm_blocks.specs.Fshd.{Header, fshd_row, fshd_bytes}
-use Rattle.fsm_blocks.specs.Groups.{Widths, groupBytes}
+use Rattle.fsm_blocks.specs.Groups.{Widths, group_bytes}
 use Rattle.fsm_blocks.specs.Fsse.{fsse_head, fsse_bytes}
 
 pub fshd_verified : (O : ℕ) (h : Header) → trailing (fshd_bytes lookup3 O h) ≡ answer tt
@@ -19,4 +19,4 @@ fshd_verified O h = closed (layout (fshd_row O h))
 
 pub fsse_verified : (w : Widths) (O back class : ℕ) (l : List FreeSection) → trailing (fsse_bytes lookup3 w O back class l) ≡ answer tt
 unfolding fsse_bytes
-fsse_verified w O back class l = closed (layout (fsse_head O back) ++ groupBytes w class (groups_of (by_size_then_addr l)))
+fsse_verified w O back class l = closed (layout (fsse_head O back) ++ group_bytes w class (groups_of (by_size_then_addr l)))

@@ -2,18 +2,18 @@
 -- "Blocks on file": "Writing keeps the multiset"; "Sizes ascend, addresses ascend within one. Size 0 and duplicates are written". Assumes nothing.
 -- For every offset size, class, base, count and run of sections, if `serialize_fshd` and `serialize_fsse` accept, then of what they wrote:
 --   every, ordered   what is read is every section of the run, each as often as there, by size and then address
---   header-parsed    `FsmHeader::parse` gives the header's six fields, whatever follows the block
---   list-parsed      `parse_fsse` by these fields gives the sections, into any lent run with room
---   manager-read     in any bytes in which the blocks stand, the manager reads as the sections, loosely and strictly (document 02, P5)
---   manager-counted, persisted-read   and so answer `manager_count`, `read_persisted_sections` and `read_persisted_sections_strict`, the latter two
+--   header_parsed    `FsmHeader::parse` gives the header's six fields, whatever follows the block
+--   list_parsed      `parse_fsse` by these fields gives the sections, into any lent run with room
+--   manager_read     in any bytes in which the blocks stand, the manager reads as the sections, loosely and strictly (document 02, P5)
+--   manager_counted, persisted_read   and so answer `manager_count`, `read_persisted_sections` and `read_persisted_sections_strict`, the latter two
 --                    into any lent run with room
 -- That numbers fit their fields is no premise, it follows from acceptance: no refusal 12, so each address fits; no refusal 4, so the sizes and
 -- their sum do; no refusal 14, so count and length do, since memory has less than 2^64 bytes.
---   fields_of   the six fields: sum of sizes, count, address bits, greatest size, the list's address and its length
---   Standing    header and list stand whole in bytes, each at its address plus the base; neither address is the undefined one of the offset size,
+--   fields_of        the six fields: sum of sizes, count, address bits, greatest size, the list's address and its length
+--   Standing         header and list stand whole in bytes, each at its address plus the base; neither address is the undefined one of the offset size,
 --               which a reading skips (document 02, P2)
---   ReadBack    all this of one pair of blocks
---   RoundTrip   of every pair that was written
+--   ReadBack         all this of one pair of blocks
+--   RoundTrip        of every pair that was written
 use Rattle.std.specs.Prelude.{ℕ, ◌+◌, ◌-◌, ◌*◌, ◌/◌, ◌%◌, ◌^◌, ◌≤◌, ◌<◌, ◌≡◌, List, [], ◌∷◌, ◌++◌, length, take}
 use Rattle.error.specs.Outcome.{answer}
 use Rattle.error.specs.Lent.{with, over}
@@ -24,7 +24,7 @@ use Rattle.fsm_sections.specs.Sections.{decode, flat, space, times, by_size_then
 use Rattle.fsm_blocks.specs.declared.header.FsmHeader.{FsmHeader}
 use Rattle.fsm_blocks.specs.Fshd.{kept, parsed_fshd}
 use Rattle.fsm_blocks.specs.declared.checks.Reading.{Reading}
-use Rattle.fsm_blocks.specs.Reading.{readManager, parsed_fsse, persisted}
+use Rattle.fsm_blocks.specs.Reading.{read_manager, parsed_fsse, persisted}
 use Rattle.fsm_blocks.specs.Named.{manager_count}
 use Rattle.fsm_writer.specs.Serializing.{written_fshd, written_fsse}
 
@@ -44,18 +44,18 @@ module _ (O : ℕ) (sections : List FreeSection) (fshd fsse : ℕ) (header list 
     pub short : length bytes < 2 ^ 64
     pub fshd_defined : fshd ≡ undefined_addr O → ⊥
     pub fsse_defined : fsse ≡ undefined_addr O → ⊥
-    pub header-there : window (fshd + base) (length header) bytes ≡ header
+    pub header_there : window (fshd + base) (length header) bytes ≡ header
     pub list-there : window (fsse + base) (length list) bytes ≡ list
 
   pub record ReadBack : Type 0 where
     pub every : (s : FreeSection) → times s (by_size_then_addr sections) ≡ times s sections
     pub ordered : Sorted (by_size_then_addr sections)
-    pub header-parsed : (rest : List ℕ) → kept (parsed_fshd O (header ++ rest)) ≡ answer fields_of
-    pub list-parsed : (out : List ℕ) → length out % 2 ≡ 0 → length sections ≤ length out / 2
+    pub header_parsed : (rest : List ℕ) → kept (parsed_fshd O (header ++ rest)) ≡ answer fields_of
+    pub list_parsed : (out : List ℕ) → length out % 2 ≡ 0 → length sections ≤ length out / 2
         → parsed_fsse fields_of O list out ≡ answer (with (length sections) (over 0 (flat (by_size_then_addr sections)) out))
-    pub manager-read : (how : Reading) (base : ℕ) (bytes : List ℕ) → Standing base bytes → readManager how O base fshd bytes ≡ answer (by_size_then_addr sections)
-    pub manager-counted : (how : Reading) (base : ℕ) (bytes : List ℕ) → Standing base bytes → manager_count how O base fshd bytes ≡ answer (length sections)
-    pub persisted-read : (how : Reading) (base : ℕ) (bytes : List ℕ) → Standing base bytes → (out : List ℕ) → length out % 2 ≡ 0 → length sections ≤ length out / 2
+    pub manager_read : (how : Reading) (base : ℕ) (bytes : List ℕ) → Standing base bytes → read_manager how O base fshd bytes ≡ answer (by_size_then_addr sections)
+    pub manager_counted : (how : Reading) (base : ℕ) (bytes : List ℕ) → Standing base bytes → manager_count how O base fshd bytes ≡ answer (length sections)
+    pub persisted_read : (how : Reading) (base : ℕ) (bytes : List ℕ) → Standing base bytes → (out : List ℕ) → length out % 2 ≡ 0 → length sections ≤ length out / 2
         → persisted how (fshd ∷ []) base O bytes out ≡ answer (with (length sections) (over 0 (flat (by_size_then_addr sections)) out))
 
 -- whatever is written: a and b are the lengths that the serializers answer, x and y the bytes that were lent to them, u and v the same afterwards

@@ -19,7 +19,7 @@ use Rattle.fsm_sections.specs.Runs.{wide, any_wide}
 use Rattle.fsm_writer.specs.declared.writer.Written.{Written}
 use Rattle.fsm_writer.specs.declared.writer.Written.TheVariants as written
 use Rattle.fsm_blocks.specs.Fshd.{fshd_bytes, fshd_size}
-use Rattle.fsm_blocks.specs.Settings.{starting_set, headerFor, fsseFor, fsseUsed, blocks_size}
+use Rattle.fsm_blocks.specs.Settings.{starting_set, header_for, fsse_for, fsse_used, blocks_size}
 
 abbrev pub written_outcome : Written → Outcome ℕ
 written_outcome (written.Bytes n) = answer n
@@ -44,13 +44,13 @@ written_fshd O run n fsse out =
     (when (wide O fsse) WideAddress
     ∷ when (ltb (length out) (fshd_size O)) (OverCapacity (fshd_size O) (length out))
     ∷ [])
-    (answer (with (fshd_size O) (over 0 (fshd_bytes lookup3 O (headerFor O (starting_set O) fsse l)) out))))
+    (answer (with (fshd_size O) (over 0 (fshd_bytes lookup3 O (header_for O (starting_set O) fsse l)) out))))
 
 unfoldable pub written_fsse : ℕ → List ℕ → ℕ → ℕ → ℕ → List ℕ → Outcome (With ℕ (List ℕ))
 written_fsse O run n fshd class out =
     and_then (of_run O run n)
     (λ l. first_of
     (when (wide O fshd || any_wide O l) WideAddress
-    ∷ when (ltb (length out) (fsseUsed O (starting_set O) l)) (OverCapacity (fsseUsed O (starting_set O) l) (length out))
+    ∷ when (ltb (length out) (fsse_used O (starting_set O) l)) (OverCapacity (fsse_used O (starting_set O) l) (length out))
     ∷ [])
-    (answer (with (fsseUsed O (starting_set O) l) (over 0 (fsseFor O (starting_set O) lookup3 fshd class l) out))))
+    (answer (with (fsse_used O (starting_set O) l) (over 0 (fsse_for O (starting_set O) lookup3 fshd class l) out))))

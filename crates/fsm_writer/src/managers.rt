@@ -8,10 +8,10 @@ ghost use Rattle.fsm_sections.specs.Chains.{sections_of};
 ghost use Rattle.fsm_sections.specs.Sources.{chains_of, Given};
 ghost use Rattle.fsm_sections.specs.Passes.{Numbers};
 ghost use Rattle.fsm_blocks.specs.Settings.{starting_set};
-ghost use Rattle.fsm_plan.specs.Managers.{manager, managerBytes};
-ghost use Rattle.fsm_plan.specs.Blocks.{measure_of, plannedBlocks, blocks_outcome};
+ghost use Rattle.fsm_plan.specs.Managers.{manager, manager_bytes};
+ghost use Rattle.fsm_plan.specs.Blocks.{measure_of, planned_blocks, blocks_outcome};
 ghost use Rattle.fsm_writer.specs.Writing.{Narrow};
-ghost use Rattle.fsm_writer.specs.Paged.{managersBytes, writtenManagers};
+ghost use Rattle.fsm_writer.specs.Paged.{managers_bytes, written_managers};
 
 use crate::writer::{SectionList, write_fshd, write_fsse};
 use error::Refusal;
@@ -40,7 +40,7 @@ fn put_blocks(
     requires measure { m ≡ measure_of offset_size (sections_of (chains_of s a.now b.now c.now)) }
     requires room { (address + m.len ≤ top) × (m.len ≤ length out.old) }
     ensures { out.new ≡ over 0
-        (managerBytes offset_size (starting_set offset_size) lookup3 address
+        (manager_bytes offset_size (starting_set offset_size) lookup3 address
         (manager class (sections_of (chains_of s a.now b.now c.now)))) out.old }
 {
     if m.count == 0 {
@@ -72,10 +72,10 @@ fn put_managers(
     offset_size: u8,
     out: &mut [u8],
 )
-    requires plan { plannedBlocks meta.now raw.now unclassified.now n page start offset_size ≡ answer p }
+    requires plan { planned_blocks meta.now raw.now unclassified.now n page start offset_size ≡ answer p }
     requires room { p.managers.end_of_managers ≤ start + length out.old }
     ensures { out.new
-        ≡ over 0 (managersBytes meta.now raw.now unclassified.now n page start offset_size) out.old }
+        ≡ over 0 (managers_bytes meta.now raw.now unclassified.now n page start offset_size) out.old }
 {
     let m = p.measures;
     let raw_at = m.slot0.len;
@@ -132,7 +132,7 @@ pub fn serialize_paged_managers(
     out: &mut [u8],
 ) -> BlocksPlanned
     ensures { left (blocks_outcome result) out.new
-        ≡ leaving out.old (writtenManagers meta.now raw.now unclassified.now n page start offset_size
+        ≡ leaving out.old (written_managers meta.now raw.now unclassified.now n page start offset_size
         out.old) }
 {
     let planned = plan_blocks(meta, raw, unclassified, n, page, start, offset_size);

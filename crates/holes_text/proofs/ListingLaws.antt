@@ -43,8 +43,8 @@ module _ (slot n : ℕ) (run : List ℕ) where
 -- ---- the loop that writes the slots: those before slot i are written, and the pairs of the others begin at `from`
 
 module _ (counts run : List ℕ) where
-  abbrev pub slotsFrom : ℕ → ℕ → List ℕ
-  slotsFrom i from = slots_text i (slots_of (drop i counts) (drop from run))
+  abbrev pub slots_from : ℕ → ℕ → List ℕ
+  slots_from i from = slots_text i (slots_of (drop i counts) (drop from run))
 
   -- past its end a run has nothing
   drop-least : (k : ℕ) → drop k run ≡ drop (min k (length run)) run
@@ -58,7 +58,7 @@ module _ (counts run : List ℕ) where
       (le-or-lt k (length run))
 
   slots_next : (i from : ℕ) → i < length counts
-      → slotsFrom i from ≡ slot_text i (decode (get_or counts i 0) (drop from run)) ++ slotsFrom (i + 1) (min (from + 2 * get_or counts i 0) (length run))
+      → slots_from i from ≡ slot_text i (decode (get_or counts i 0) (drop from run)) ++ slots_from (i + 1) (min (from + 2 * get_or counts i 0) (length run))
   unfolding slots_text slots_of
   slots_next i from h =
       let n = get_or counts i 0 in
@@ -66,16 +66,16 @@ module _ (counts run : List ℕ) where
       ∙ ap₂ (λ (j : ℕ) (m : List ℕ). slot_text i (decode n (drop from run)) ++ slots_text j (slots_of (drop j counts) m)) (sym (add-one i))
       (drop-drop (2 * n) from run ∙ drop-least (from + 2 * n))
 
-  pub slots_step : {whole : With ℕ (List ℕ)} (i from to : ℕ) (out : List ℕ) {r next : ℕ} {m : List ℕ} → i < length counts → Printing whole to (slotsFrom i from) out
+  pub slots_step : {whole : With ℕ (List ℕ)} (i from to : ℕ) (out : List ℕ) {r next : ℕ} {m : List ℕ} → i < length counts → Printing whole to (slots_from i from) out
       → with r m ≡ written to (slot_text i (decode (get_or counts i 0) (take (length run - from) (drop from run)))) out
-      → next ≡ min (from + 2 * get_or counts i 0) (length run) → Printing whole r (slotsFrom (i + 1) next) m
+      → next ≡ min (from + 2 * get_or counts i 0) (length run) → Printing whole r (slots_from (i + 1) next) m
   slots_step {whole} i from to out {r} {next} {m} h p e q =
-      subst (λ (k : ℕ). Printing whole r (slotsFrom (i + 1) k) m) (sym q)
-      (piece to (slot_text i (decode (get_or counts i 0) (drop from run))) (slotsFrom (i + 1) (min (from + 2 * get_or counts i 0) (length run))) out
+      subst (λ (k : ℕ). Printing whole r (slots_from (i + 1) k) m) (sym q)
+      (piece to (slot_text i (decode (get_or counts i 0) (drop from run))) (slots_from (i + 1) (min (from + 2 * get_or counts i 0) (length run))) out
       (subst (λ (t : List ℕ). Printing whole to t out) (slots_next i from h) p)
       (e ∙ ap (λ (t : List ℕ). written to (slot_text i (decode (get_or counts i 0) t)) out) (part_to_end run from)))
 
-  pub slots_end : {whole : With ℕ (List ℕ)} (i from to : ℕ) (out : List ℕ) → length counts ≤ i → Printing whole to (slotsFrom i from) out → with to out ≡ whole
+  pub slots_end : {whole : With ℕ (List ℕ)} (i from to : ℕ) (out : List ℕ) → length counts ≤ i → Printing whole to (slots_from i from) out → with to out ≡ whole
   unfolding slots_text slots_of
   slots_end {whole} i from to out h p =
       printed to out (subst (λ (l : List ℕ). Printing whole to (slots_text i (slots_of l (drop from run))) out) (drop_of_length-le counts h) p)

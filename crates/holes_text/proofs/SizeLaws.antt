@@ -14,7 +14,7 @@ use Rattle.error.specs.Outcome.{Outcome, answer, nothing, refuse, refused}
 use Rattle.error.specs.Lent.{With, with, Left, left, leaving, over}
 use Rattle.error.proofs.OutcomeLaws.{refuses, passes}
 use Rattle.fsm_sections.specs.declared.FreeSection.{FreeSection}
-use Rattle.fsm_blocks.specs.Reading.{readManager, read_slots, joined}
+use Rattle.fsm_blocks.specs.Reading.{read_manager, read_slots, joined}
 use Rattle.fsm_blocks.proofs.ThenLaws.{Holds, holds-when, holds_then}
 use Rattle.file_space_info.specs.Message.{fixed_len, fixed_read, present}
 use Rattle.file_space_info.proofs.ReadLaws.{length-numbers}
@@ -43,7 +43,7 @@ as_many : (slots image : List ℕ) → Holds (Slots (length slots)) (read_slots 
 unfolding read_slots
 as_many [] image = omega arith
 as_many (a ∷ slots) image =
-    holds_then (Slots (suc (length slots))) (readManager Loose 8 0 a image) _ (each (λ _. Unit {0}) (readManager Loose 8 0 a image) (λ _. tt))
+    holds_then (Slots (suc (length slots))) (read_manager Loose 8 0 a image) _ (each (λ _. Unit {0}) (read_manager Loose 8 0 a image) (λ _. tt))
     (λ l _. holds_then (Slots (suc (length slots))) (read_slots Loose 8 0 slots image) _ (as_many slots image) (λ ls h. omega arith))
 
 few-present : (n : ℕ) (persist : Bool) → n ≤ 125 → present 8 8 n persist ≤ 12

@@ -16,7 +16,7 @@ use Rattle.error.proofs.OverLaws.{over_zeros, front-next}
 use Rattle.fsm_sections.specs.declared.FreeSection.{FreeSection}
 use Rattle.fsm_blocks.specs.declared.checks.Reading.{Reading}
 use Rattle.fsm_blocks.specs.declared.checks.Reading.TheVariants.{Loose}
-use Rattle.fsm_blocks.specs.Reading.{readManager, read_slots}
+use Rattle.fsm_blocks.specs.Reading.{read_manager, read_slots}
 use Rattle.fsm_blocks.specs.Parts.{got, Accepted, counted}
 use Rattle.fsm_blocks.specs.Named.{manager_count}
 use Rattle.fsm_blocks.proofs.AlikeLaws.{accepted-alike}
@@ -34,11 +34,11 @@ none-counted (refuse m ws) n vs e = refl
 module _ (image : List ℕ) (slot : ℕ) {r : Number} (e : number_outcome r ≡ manager_count Loose 8 0 slot image) where
   pub counted_is : (n : ℕ) → r ≡ number.Is n → n ≡ sections_in image slot
   unfolding manager_count first_of
-  counted_is n q = sym (sized_is (readManager Loose 8 0 slot image) length n (sym e ∙ ap number_outcome q)).1
+  counted_is n q = sym (sized_is (read_manager Loose 8 0 slot image) length n (sym e ∙ ap number_outcome q)).1
 
   pub counted_none : (x : Refusal) → r ≡ number.Refused x → 0 ≡ sections_in image slot
   unfolding manager_count first_of
-  counted_none x q = none-counted (readManager Loose 8 0 slot image) _ _ (sym e ∙ ap number_outcome q)
+  counted_none x q = none-counted (read_manager Loose 8 0 slot image) _ _ (sym e ∙ ap number_outcome q)
 
 -- ---- the slots in order
 
@@ -75,7 +75,7 @@ module _ (image : List ℕ) where
   unfolding read_slots
   slot_lengths [] a = refl
   slot_lengths (s ∷ slots) a =
-      let p = both_accepted (readManager Loose 8 0 s image) (read_slots Loose 8 0 slots image) a in
+      let p = both_accepted (read_manager Loose 8 0 s image) (read_slots Loose 8 0 slots image) a in
       ap (λ (l : List ℕ). sections_in image s ∷ l) (slot_lengths slots p.0.1) ∙ sym (ap (map length) p.1)
 
   -- what a reading accepts is read loosely alike, so that its slots are counted without its checks

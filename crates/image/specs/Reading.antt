@@ -21,7 +21,7 @@ use Rattle.fields.specs.Layout.{window}
 use Rattle.fsm_sections.specs.declared.FreeSection.{FreeSection}
 use Rattle.fsm_blocks.specs.declared.checks.Reading.{Reading}
 use Rattle.fsm_blocks.specs.declared.checks.Reading.TheVariants.{Loose}
-use Rattle.fsm_blocks.specs.Reading.{readManager, read_slots, joined, into_run}
+use Rattle.fsm_blocks.specs.Reading.{read_manager, read_slots, joined, into_run}
 use Rattle.fsm_blocks.specs.Parts.{got}
 use Rattle.file_space_info.specs.declared.FileSpaceInfo.{FileSpaceInfo}
 use Rattle.file_space_info.specs.Message.{message_len, fixed_len, fixed_read, present, numbers_at}
@@ -68,4 +68,4 @@ image_into how place image out = read_into out (read_image how place image)
 -- ---- one slot
 
 abbrev pub sections_in : List ℕ → ℕ → ℕ
-sections_in image slot = length (got (readManager Loose 8 0 slot image))
+sections_in image slot = length (got (read_manager Loose 8 0 slot image))

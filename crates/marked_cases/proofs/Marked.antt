@@ -13,19 +13,19 @@ use Rattle.fsm_sections.specs.Sections.{space, of_size, distinct}
 use Rattle.fsm_sections.specs.Pages.{pieces_from, pieces, split, below_page, from_page}
 use Rattle.fsm_lengths.specs.Lengths.{fsse_len}
 use Rattle.fsm_pages.specs.Split.{split_into}
-use Rattle.fsm_plan.specs.Managers.{size_of, slotsFrom}
+use Rattle.fsm_plan.specs.Managers.{size_of, slots_from}
 use Rattle.file_space_info.specs.Message.{present, numbers_at, parsed}
 use Rattle.marked_cases.specs.Marked.{Marked}
 
 pub marked : Marked
-unfolding enc_size least_from fshd_len first_of fsse_len space of_size distinct lists_after freed allocated allocated_units last_multiple first_multiple range_taken is_list stored split_into split pieces pieces_from below_page from_page size_of slotsFrom parsed present numbers_at layout le_bytes le_value
+unfolding enc_size least_from fshd_len first_of fsse_len space of_size distinct lists_after freed allocated allocated_units last_multiple first_multiple range_taken is_list stored split_into split pieces pieces_from below_page from_page size_of slots_from parsed present numbers_at layout le_bytes le_value
 marked = record {
   m1 = refl;
   m2 = refl;
   m3 = refl;
   m4 = refl;
   m5 = refl;
-  m5-front = refl;
+  m5_front = refl;
   m6 = refl;
   m7 = refl;
   m8 = refl;

@@ -3,10 +3,10 @@
 --   gives     the outcome of a call that gives an address and leaves a record and a run
 --   lent      lent runs of any numbers
 --   freeing   a `free` on the first list
---   m4_lists   three lists begun empty after the calls of M4 on the first
+--   m4_lists  three lists begun empty after the calls of M4 on the first
 --   m9_regions   their regions after the one call of M9
 --   m10_message   the message of M10
---   m10_bytes  124 bytes of a message with persist
+--   m10_bytes 124 bytes of a message with persist
 --   Marked    the table
 use Rattle.std.specs.Prelude.{ℕ, ◌+◌, ◌-◌, ◌^◌, ◌≡◌, List, [], ◌∷◌, map, take, replicate}
 use Rattle.error.specs.Outcome.{Outcome, answer}
@@ -29,7 +29,7 @@ use Rattle.file_space_info.specs.declared.WithSlots.{WithSlots}
 use Rattle.file_space_info.specs.Infos.{persistent_single_manager}
 use Rattle.file_space_info.specs.Message.{message_bytes, parsed}
 use Rattle.save_step.specs.Steps.{stores}
-use Rattle.save.specs.Saving.{small, smallRaw, large, block_len, slotAddrs}
+use Rattle.save.specs.Saving.{small, small_raw, large, block_len, slot_addrs}
 
 abbrev pub of : ℕ → ℕ → FreeList
 of n t = record { count = n; total = t }
@@ -64,13 +64,13 @@ pub record Marked : Type 0 where
   pub m3 : map (fsse_len 8) ([] ∷ (16 ∷ 16 ∷ 32 ∷ []) ∷ replicate 255 16 ∷ replicate 256 16 ∷ []) ≡ answer 17 ∷ answer 62 ∷ answer 2321 ∷ answer 2331 ∷ []
   pub m4 : regions_of (m4_lists Metadata) ≡ region 100 150 ∷ []
   pub m5 : allocated (0 ∷ 16 ∷ 100 ∷ 16 ∷ []) (of 2 32) 16 ≡ gives 0 (of 1 16) (100 ∷ 16 ∷ 0 ∷ 0 ∷ [])
-  pub m5-front : allocated (0 ∷ 64 ∷ 100 ∷ 16 ∷ []) (of 2 80) 10 ≡ gives 100 (of 2 70) (0 ∷ 64 ∷ 110 ∷ 6 ∷ [])
+  pub m5_front : allocated (0 ∷ 64 ∷ 100 ∷ 16 ∷ []) (of 2 80) 10 ≡ gives 100 (of 2 70) (0 ∷ 64 ∷ 110 ∷ 6 ∷ [])
   pub m6 : allocated_units (5000 ∷ 10000 ∷ 0 ∷ 0 ∷ []) (of 1 10000) 4096 4096 ≡ gives 8192 (of 2 5904) (5000 ∷ 3192 ∷ 12288 ∷ 2712 ∷ [])
   pub m7 : range_taken (90 ∷ 40 ∷ 0 ∷ 0 ∷ []) (of 1 40) 100 10 ≡ answer (with (of 2 30) (90 ∷ 10 ∷ 110 ∷ 20 ∷ []))
   pub m8 : split_into (4000 ∷ 5000 ∷ []) 1 4096 (replicate 6 0) ≡ answer (with 3 (4000 ∷ 96 ∷ 4096 ∷ 4096 ∷ 8192 ∷ 808 ∷ []))
-  pub m9_sections : small 4096 m9_regions ∷ smallRaw 4096 m9_regions ∷ large 4096 m9_regions ∷ []
+  pub m9_sections : small 4096 m9_regions ∷ small_raw 4096 m9_regions ∷ large 4096 m9_regions ∷ []
       ≡ (section 4000 96 ∷ section 8192 808 ∷ []) ∷ [] ∷ (section 4096 4096 ∷ []) ∷ []
-  pub m9_slots : slotAddrs 4096 20000 m9_regions ≡ 20000 ∷ top ∷ top ∷ top ∷ top ∷ top ∷ 20135 ∷ top ∷ top ∷ top ∷ top ∷ top ∷ []
+  pub m9_slots : slot_addrs 4096 20000 m9_regions ≡ 20000 ∷ top ∷ top ∷ top ∷ top ∷ top ∷ 20135 ∷ top ∷ top ∷ top ∷ top ∷ top ∷ []
   pub m9_end : 20000 + block_len 4096 m9_regions ≡ 20252
   pub m9_stores : stores (block_len 4096 m9_regions) ≡ 378
   pub m10 : parsed m10_bytes 8 8 (replicate 11 0) ≡ answer (with (record { info = m10_message.info; count = 11 }) (20000 ∷ replicate 10 top))

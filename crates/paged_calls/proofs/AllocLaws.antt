@@ -89,7 +89,7 @@ module _ (page len : ℕ) (s : PagedLists) where
 
   module _ (pos : page ≡ 0 → ⊥) (n : ℕ) (tells : Tells n (not (are_lists s.lists)) false (shared_byte (regions_in s.lists))) where
     pub test_no_list : n ≡ 3 → (k : PageType) → paged_alloc page k len s ≡ refused NotAList
-    test_no_list e k = alloc-unsound page k len s pos (no_lists page s (tells.is-three e))
+    test_no_list e k = alloc-unsound page k len s pos (no_lists page s (tells.is_three e))
 
     module _ (three : n ≡ 3 → ⊥) where
       lists : not (are_lists s.lists) ≡ false
@@ -110,7 +110,7 @@ module _ (page len : ℕ) (s : PagedLists) where
 
         module _ (w : ℕ) (e : answer w ≡ aligned_up len page) where
           pub test_shared : n ≡ 5 → (k : PageType) → paged_alloc page k len s ≡ refused SharedAddress
-          test_shared five k = alloc-shared page k len s pos sound w e (tells.is-five lists refl five)
+          test_shared five k = alloc-shared page k len s pos sound w e (tells.is_five lists refl five)
 
           pub test_past : (n ≡ 5 → ⊥) → AllocPast page len s w
           test_past five =

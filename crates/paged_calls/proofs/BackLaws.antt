@@ -120,7 +120,7 @@ module _ (page : ℕ) (f : Freed) (ranged : Ranged page f) (l : LentList) (r : F
   whole_is : (x : ℕ) → In r x → whole_page page (regions_of l) (x / page) ≡ whole_in (x / page)
   whole_is x t =
       subst (λ (q : FreeRegion). whole_page page (regions_of l) (x / page) ≡ (leb q.addr (x / page * page) && leb (x / page * page + page) (end q))) folded.is
-      (whole-at page ranged.page-some (region 0 0) 0 top folded.place x (regions_of l) within folded.below (subst⁻¹ (λ (q : FreeRegion). In q x) folded.is t))
+      (whole-at page ranged.page_some (region 0 0) 0 top folded.place x (regions_of l) within folded.below (subst⁻¹ (λ (q : FreeRegion). In q x) folded.is t))
 
   from_is : {p : ℕ} → p ≡ cond (whole_in f.first) f.first (suc f.first) → whole_from page (regions_of l) f.addr ≡ p
   from_is e =
@@ -140,7 +140,7 @@ module _ (page : ℕ) (f : Freed) (ranged : Ranged page f) (l : LentList) (r : F
       go : (t : Bool) → whole_in f.first ≡ t → r.addr ≤ cond t f.first (suc f.first) * page
       go true t = leb-true r.addr (f.first * page) (and_true (leb r.addr (f.first * page)) _ t).0
       go false t =
-          let h = page-lt page ranged.page-some f.addr in
+          let h = page-lt page ranged.page_some f.addr in
           let q : f.first * page ≡ f.addr / page * page = ap (λ (n : ℕ). n * page) ranged.first-is in
           omega (arith, suc-mul f.first page, folded.from)
 
@@ -152,7 +152,7 @@ module _ (page : ℕ) (f : Freed) (ranged : Ranged page f) (l : LentList) (r : F
           let h = leb-true (f.last * page + page) (end r) (and_true (leb r.addr (f.last * page)) _ t).1 in
           omega (arith, suc-mul f.last page)
       go false t =
-          let h = page-le page ranged.page-some (f.addr + f.len - 1) in
+          let h = page-le page ranged.page_some (f.addr + f.len - 1) in
           let q : f.last * page ≡ last_page page f.addr f.len * page = ap (λ (n : ℕ). n * page) ranged.last-is in
           omega (arith, folded.upto, ranged.some)
 
@@ -162,7 +162,7 @@ module _ (page : ℕ) (f : Freed) (ranged : Ranged page f) (l : LentList) (r : F
     span = let s : p + (e - p) ≡ e = omega arith in sym (add-mul p (e - p) page) ∙ ap (λ (n : ℕ). n * page) s
 
     bytes-some : 0 < (e - p) * page
-    bytes-some = mul-pos {m = e - p} {n = page} (omega arith) ranged.page-some
+    bytes-some = mul-pos {m = e - p} {n = page} (omega arith) ranged.page_some
 
     pages-fit : p * page + (e - p) * page ≤ top
     pages-fit = omega (arith, span, region-ends)
@@ -306,13 +306,13 @@ module _ (page : ℕ) (f : Freed) (own shared : LentList) (ranged : Ranged page 
 
   pub first-low : (f.first * page ≤ end r) × (f.first < top)
   first-low =
-      let h = page-le page ranged.page-some f.addr in
+      let h = page-le page ranged.page_some f.addr in
       let g : f.first * page ≡ f.addr / page * page = ap (λ (n : ℕ). n * page) ranged.first-is in
       (omega (arith, in_l.upto), omega (arith, ranged.first-is, div-le_self f.addr page, ranged.within, ranged.some))
 
   pub last-low : (f.last * page ≤ end r) × (f.last < top)
   last-low =
-      let h = page-le page ranged.page-some (f.addr + f.len - 1) in
+      let h = page-le page ranged.page_some (f.addr + f.len - 1) in
       let g : f.last * page ≡ last_page page f.addr f.len * page = ap (λ (n : ℕ). n * page) ranged.last-is in
       (omega (arith, in_l.upto, ranged.some), omega (arith, ranged.last-is, div-le_self (f.addr + f.len - 1) page, ranged.within, ranged.some))
 

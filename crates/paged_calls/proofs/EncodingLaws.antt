@@ -43,4 +43,4 @@ calls-fit (Alloc k n ∷ ds) f = (lit< tt, (kind_fits k, (f.0, (lit< tt, calls-f
 calls-fit (Free k a n ∷ ds) f = (lit< tt, (kind_fits k, (f.0.0, (f.0.1, calls-fit ds f.1))))
 
 pub encodes : (rs : List FreeRegion) (ds : List PagedCall) → Encodes rs ds
-encodes rs ds = record { frees_again = frees_decoded rs; calls-again = calls_decoded ds; frees_lendable = ranges_fit rs; calls-lendable = calls-fit ds }
+encodes rs ds = record { frees_again = frees_decoded rs; calls_again = calls_decoded ds; frees_lendable = ranges_fit rs; calls_lendable = calls-fit ds }

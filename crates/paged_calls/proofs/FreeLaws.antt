@@ -71,7 +71,7 @@ module _ (page a len : ℕ) (s : PagedLists) where
     p = ne_eqb page 0 pos
 
     pub free_no_list : n ≡ 3 → (k : PageType) → paged_free page k a len s ≡ refused NotAList
-    free_no_list e k = is-unsound k p (no_lists page s (tells.is-three e))
+    free_no_list e k = is-unsound k p (no_lists page s (tells.is_three e))
 
     module _ (three : n ≡ 3 → ⊥) where
       lists : not (are_lists s.lists) ≡ false
@@ -88,23 +88,23 @@ module _ (page a len : ℕ) (s : PagedLists) where
         u = lists-marked page s free-lists marks
 
         pub free-over : n ≡ 4 → (k : PageType) → paged_free page k a len s ≡ refused Overflow
-        free-over e k = is-over k p u (tells.is-four lists e)
+        free-over e k = is-over k p u (tells.is_four lists e)
 
         module _ (four : n ≡ 4 → ⊥) where
           o : ltb top (a + len) ≡ false
-          o = tells.not-four lists four
+          o = tells.not_four lists four
 
           pub free-shared : n ≡ 5 → (k : PageType) → paged_free page k a len s ≡ refused SharedAddress
-          free-shared e k = is-shared k p u o (tells.is-five lists o e)
+          free-shared e k = is-shared k p u o (tells.is_five lists o e)
 
           pub free-past : (n ≡ 5 → ⊥) → FreePast page a len s
-          free-past five = record { page-some = pos; are_lists = free-lists; sound = u; fits = o; apart = tells.not_five lists o five }
+          free-past five = record { page_some = pos; are_lists = free-lists; sound = u; fits = o; apart = tells.not_five lists o five }
 
   -- ---- past them
 
   module _ (q : FreePast page a len s) (k : PageType) where
     some-page : eqb page 0 ≡ false
-    some-page = ne_eqb page 0 q.page-some
+    some-page = ne_eqb page 0 q.page_some
 
     pub free-fits : a + len ≤ top
     free-fits = ltb-false top (a + len) q.fits
@@ -123,7 +123,7 @@ module _ (page a len : ℕ) (s : PagedLists) where
       pub pages_rise : f.first ≤ f.last
       pages_rise =
           subst⁻¹ (λ (x : ℕ). x ≤ f.last) ranged.first-is (subst⁻¹ (λ (x : ℕ). f.addr / page ≤ x) ranged.last-is
-          (page_mono page ranged.page-some f.addr (f.addr + f.len - 1) (omega (arith, ranged.some))))
+          (page_mono page ranged.page_some f.addr (f.addr + f.len - 1) (omega (arith, ranged.some))))
 
       pub pages-few : f.last < top
       pages-few = omega (arith, ranged.last-is, div-le_self (f.addr + f.len - 1) page, ranged.within, ranged.some)

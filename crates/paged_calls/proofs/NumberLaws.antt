@@ -55,35 +55,35 @@ tells : {A : Type 0} (a b c : Bool) (x : Outcome A) (n : ℕ) → n ≡ number_o
     → (a ≡ false → b ≡ false → c ≡ false → Late x) → Tells n a b c
 unfolding first_of
 tells true b c x n e late = record {
-  is-three = λ h. refl;
+  is_three = λ h. refl;
   not_three = λ h. absurd (h e);
-  is-four = λ t h. absurd (true_not_false true refl t);
-  not-four = λ t h. absurd (true_not_false true refl t);
-  is-five = λ t u h. absurd (true_not_false true refl t);
+  is_four = λ t h. absurd (true_not_false true refl t);
+  not_four = λ t h. absurd (true_not_false true refl t);
+  is_five = λ t u h. absurd (true_not_false true refl t);
   not_five = λ t u h. absurd (true_not_false true refl t);
 }
 tells false true c x n e late = record {
-  is-three = λ h. absurd (omega arith);
+  is_three = λ h. absurd (omega arith);
   not_three = λ h. refl;
-  is-four = λ t h. refl;
-  not-four = λ t h. absurd (h e);
-  is-five = λ t u h. absurd (true_not_false true refl u);
+  is_four = λ t h. refl;
+  not_four = λ t h. absurd (h e);
+  is_five = λ t u h. absurd (true_not_false true refl u);
   not_five = λ t u h. absurd (true_not_false true refl u);
 }
 tells false false true x n e late = record {
-  is-three = λ h. absurd (omega arith);
+  is_three = λ h. absurd (omega arith);
   not_three = λ h. refl;
-  is-four = λ t h. absurd (omega arith);
-  not-four = λ t h. refl;
-  is-five = λ t u h. refl;
+  is_four = λ t h. absurd (omega arith);
+  not_four = λ t h. refl;
+  is_five = λ t u h. refl;
   not_five = λ t u h. absurd (h e);
 }
 tells false false false x n e late = record {
-  is-three = λ h. absurd (⊎_elim (λ p. omega arith) (λ p. omega arith) (late refl refl refl));
+  is_three = λ h. absurd (⊎_elim (λ p. omega arith) (λ p. omega arith) (late refl refl refl));
   not_three = λ h. refl;
-  is-four = λ t h. absurd (⊎_elim (λ p. omega arith) (λ p. omega arith) (late refl refl refl));
-  not-four = λ t h. refl;
-  is-five = λ t u h. absurd (⊎_elim (λ p. omega arith) (λ p. omega arith) (late refl refl refl));
+  is_four = λ t h. absurd (⊎_elim (λ p. omega arith) (λ p. omega arith) (late refl refl refl));
+  not_four = λ t h. refl;
+  is_five = λ t u h. absurd (⊎_elim (λ p. omega arith) (λ p. omega arith) (late refl refl refl));
   not_five = λ t u h. refl;
 }
 

@@ -192,11 +192,11 @@ ReachesAll e ls =
 
 -- they are told the number of the refusal of the kind's list: 3, or else 4, or else 5
 pub record Tells (n : ℕ) (three four five : Bool) : Type 0 where
-  pub is-three : n ≡ 3 → three ≡ true
+  pub is_three : n ≡ 3 → three ≡ true
   pub not_three : (n ≡ 3 → ⊥) → three ≡ false
-  pub is-four : three ≡ false → n ≡ 4 → four ≡ true
-  pub not-four : three ≡ false → (n ≡ 4 → ⊥) → four ≡ false
-  pub is-five : three ≡ false → four ≡ false → n ≡ 5 → five ≡ true
+  pub is_four : three ≡ false → n ≡ 4 → four ≡ true
+  pub not_four : three ≡ false → (n ≡ 4 → ⊥) → four ≡ false
+  pub is_five : three ≡ false → four ≡ false → n ≡ 5 → five ≡ true
   pub not_five : three ≡ false → four ≡ false → (n ≡ 5 → ⊥) → five ≡ false
 
 -- w is the length in whole pages
@@ -215,7 +215,7 @@ abbrev pub is_shared : ℕ → ℕ → Lists → Bool
 is_shared a len ls = shared_byte (regions_in ls) || is_held a len ls
 
 pub record FreePast (page a len : ℕ) (s : PagedLists) : Type 0 where
-  pub page-some : page ≡ 0 → ⊥
+  pub page_some : page ≡ 0 → ⊥
   pub are_lists : are_lists s.lists ≡ true
   pub sound : unsound page s ≡ false
   pub fits : ltb top (a + len) ≡ false
@@ -226,7 +226,7 @@ FreeTested page a len s (checked.Refused r) = (k : PageType) → paged_free page
 FreeTested page a len s checked.Passed = FreePast page a len s
 
 pub record Ranged (page : ℕ) (f : Freed) : Type 0 where
-  pub page-some : 0 < page
+  pub page_some : 0 < page
   pub some : 0 < f.len
   pub within : f.addr + f.len ≤ top
   pub first-is : f.first ≡ f.addr / page

@@ -84,6 +84,6 @@ AllFit (d ∷ ds) = Fits d × AllFit ds
 
 pub record Encodes (rs : List FreeRegion) (ds : List PagedCall) : Type 0 where
   pub frees_again : frees_of (flat rs) ≡ freeing rs
-  pub calls-again : paged_calls_of (encoded ds) ≡ ds
+  pub calls_again : paged_calls_of (encoded ds) ≡ ds
   pub frees_lendable : RangesFit rs → InWord (flat rs)
-  pub calls-lendable : AllFit ds → InWord (encoded ds)
+  pub calls_lendable : AllFit ds → InWord (encoded ds)

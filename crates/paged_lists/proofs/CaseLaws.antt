@@ -14,21 +14,21 @@ pub cases : Cases
 unfolding first_of and_then first_multiple last_multiple is_list stored freed allocated allocated_units range_taken lists_after own_bytes new_pages paged_alloc returned paged_free paged_after
 cases = record {
   given_answers = refl;
-  given-stands = refl;
+  given_stands = refl;
   used_answers = refl;
-  used-stands = refl;
+  used_stands = refl;
   back_answers = refl;
-  back-stands = refl;
+  back_stands = refl;
   all_back = refl;
   part_stays = refl;
-  other-later = refl;
+  other_later = refl;
   held_later = refl;
-  full-take = refl;
-  full-rest = refl;
-  full-shared = refl;
-  over-four = refl;
+  full_take = refl;
+  full_rest = refl;
+  full_shared = refl;
+  over_four = refl;
   mark_three = refl;
-  short-marks = refl;
-  page-zero = refl;
+  short_marks = refl;
+  page_zero = refl;
   free-none = refl;
 }

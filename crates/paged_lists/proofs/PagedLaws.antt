@@ -21,7 +21,7 @@ use Rattle.free_lists.specs.declared.calls.Which.TheVariants.{Unclassified}
 use Rattle.free_lists.specs.declared.calls.ListCall.{ListCall}
 use Rattle.free_lists.specs.Lists.{LentList, regions_of, Lists}
 use Rattle.free_lists.specs.History.{mapped, CallOn, on, next, lists_after, empty_lists}
-use Rattle.free_lists.proofs.FreeBytesLaws.{adds-up}
+use Rattle.free_lists.proofs.FreeBytesLaws.{adds_up}
 use Rattle.free_lists.proofs.HistoryLaws.{history}
 use Rattle.paged_lists.specs.declared.PageType.{PageType}
 use Rattle.paged_lists.specs.declared.PageType.TheVariants.{Meta, Raw}
@@ -128,8 +128,8 @@ same_total l m e = ap (λ (i : LentList). free_bytes i.list) e
 less-total : (l m : LentList) (p w : ℕ) → is_list l.run l.list ≡ true → is_list m.run m.list ≡ true
     → ((x : ℕ) → Free (regions_of l) x → Between p (p + w) x ⊎ Free (regions_of m) x) → free_bytes l.list ≤ free_bytes m.list + w
 less-total l m p w i j h =
-    let a = adds-up l.run l.list i in
-    let b = adds-up m.run m.list j in
+    let a = adds_up l.run l.list i in
+    let b = adds_up m.run m.list j in
     omega (arith, a.total, b.total, sum-le top p w (regions_of l) (regions_of m) a.order b.order h)
 
 drew_total : (page : ℕ) (c : PagedCall) (l m : LentList) → Drew c page l m → Drawn page c (free_bytes l.list) (free_bytes m.list)

@@ -28,7 +28,7 @@ use Rattle.free_lists.specs.Lists.{LentList, regions_of, same, regions_in, are_l
 use Rattle.free_lists.specs.Decided.{is_held}
 use Rattle.free_lists.specs.CallsSay.{Refuses}
 use Rattle.free_lists.specs.CallsSay as calls
-use Rattle.free_lists.proofs.FreeBytesLaws.{adds-up}
+use Rattle.free_lists.proofs.FreeBytesLaws.{adds_up}
 use Rattle.free_lists.proofs.RunLaws.{shared, none-shared}
 use Rattle.paged_lists.specs.declared.PageType.{PageType}
 use Rattle.paged_lists.specs.declared.PageType.TheVariants.{Meta, Raw}
@@ -73,7 +73,7 @@ module _ (R : ℕ → List ℕ → Type 0) (c : ListCall) (l : LentList) {over p
 -- a range of free bytes ends within 64 bits
 range-within : (l : LentList) (a n : ℕ) → is_list l.run l.list ≡ true → 0 < n → ((x : ℕ) → Between a (a + n) x → Free (regions_of l) x) → top < a + n → ⊥
 range-within l a n ok some f h =
-    omega (arith, free-between 0 top (a + n - 1) (regions_of l) (adds-up l.run l.list ok).order (f (a + n - 1) (omega arith, omega arith)))
+    omega (arith, free-between 0 top (a + n - 1) (regions_of l) (adds_up l.run l.list ok).order (f (a + n - 1) (omega arith, omega arith)))
 
 -- ---- past the tests
 

@@ -20,7 +20,7 @@ use Rattle.free_lists.specs.declared.calls.Which.TheVariants.{Metadata, Raw, Unc
 use Rattle.free_lists.specs.Lists.{LentList, regions_of, Lists, are_lists}
 use Rattle.free_lists.specs.Decided.{is_held}
 use Rattle.free_lists.specs.ListsSay.{FreeInAny}
-use Rattle.free_lists.proofs.FreeBytesLaws.{adds-up}
+use Rattle.free_lists.proofs.FreeBytesLaws.{adds_up}
 use Rattle.paged_lists.specs.Pages.{marks_fit, pages_fit}
 use Rattle.paged_lists.specs.PagedCalls.{PagedLists, unsound}
 use Rattle.paged_lists.specs.RefusalsSay.{Unsound}
@@ -95,7 +95,7 @@ module _ (page : ℕ) (s : PagedLists) where
     where
       without : are_lists s.lists ≡ true → (i : Which) → fit i ≡ false → Unsound page s
       without ok i e =
-          let q = unmarked page (length s.marks) 0 _ (regions_of (s.lists i)) (adds-up (s.lists i).run (s.lists i).list (lists-ok s.lists ok i)).order e in
+          let q = unmarked page (length s.marks) 0 _ (regions_of (s.lists i)) (adds_up (s.lists i).run (s.lists i).list (lists-ok s.lists ok i)).order e in
           inr (inr (q.0, (i, q.1), q.2))
 
       by_pages : are_lists s.lists ≡ true → (m : Bool) → fit Metadata ≡ m → (r : Bool) → fit Raw ≡ r → (m && (r && fit Unclassified)) ≡ false → Unsound page s

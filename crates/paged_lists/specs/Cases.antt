@@ -85,26 +85,26 @@ tight a n b m ms =
 
 pub record Cases : Type 0 where
   pub given_answers : firsts 4 given pages ≡ nothing ∷ answer 0 ∷ answer 4 ∷ []
-  pub given-stands : shown after_given ≡ stands (region 1 3 ∷ []) (region 9 3 ∷ []) [] (1 ∷ 2 ∷ 2 ∷ [])
+  pub given_stands : shown after_given ≡ stands (region 1 3 ∷ []) (region 9 3 ∷ []) [] (1 ∷ 2 ∷ 2 ∷ [])
   pub used_answers : firsts 4 used after_given
       ≡ answer 1 ∷ nothing ∷ answer 9 ∷ refused OtherKind ∷ refused OtherKind ∷ refused OtherKind ∷ answer 1 ∷ []
-  pub used-stands : shown after_used ≡ stands (region 1 3 ∷ []) [] [] (1 ∷ 2 ∷ 2 ∷ [])
+  pub used_stands : shown after_used ≡ stands (region 1 3 ∷ []) [] [] (1 ∷ 2 ∷ 2 ∷ [])
   pub back_answers : firsts 4 back after_used ≡ answer 0 ∷ refused SharedAddress ∷ answer 4 ∷ []
-  pub back-stands : shown after_back ≡ stands [] (region 4 3 ∷ []) (region 0 4 ∷ []) (0 ∷ 2 ∷ 2 ∷ [])
+  pub back_stands : shown after_back ≡ stands [] (region 4 3 ∷ []) (region 0 4 ∷ []) (0 ∷ 2 ∷ 2 ∷ [])
   pub all_back : shown (paged_after 4 (Free Raw 7 5 ∷ []) after_back) ≡ stands [] [] (region 0 12 ∷ []) (0 ∷ 0 ∷ 0 ∷ [])
   -- a page of a freed range that stays in part, a byte of another kind after the first, a byte after the first that the shared list holds
   pub part_stays : shown (paged_after 4 (Free Meta 2 6 ∷ []) (tight 1 1 8 4 (1 ∷ 1 ∷ 0 ∷ [])))
       ≡ stands (region 1 3 ∷ []) [] (region 4 8 ∷ []) (1 ∷ 0 ∷ 0 ∷ [])
-  pub other-later : first (paged 4 (Free Meta 3 2) (tight 8 1 12 4 (1 ∷ 2 ∷ 1 ∷ 0 ∷ []))) ≡ refused OtherKind
+  pub other_later : first (paged 4 (Free Meta 3 2) (tight 8 1 12 4 (1 ∷ 2 ∷ 1 ∷ 0 ∷ []))) ≡ refused OtherKind
   pub held_later : first (paged 4 (Free Meta 3 2) (tight 8 1 4 1 (1 ∷ 1 ∷ 1 ∷ []))) ≡ refused SharedAddress
   -- full lists: by the page taken out of the middle, by what is left of a page, by the whole pages of a part page
-  pub full-take : first (paged 4 (Free Meta 4 5) (tight 2 2 20 4 (1 ∷ 1 ∷ 1 ∷ 0 ∷ 0 ∷ 0 ∷ []))) ≡ refused (OverCapacity 2 1)
-  pub full-rest : first (paged 4 (Alloc Meta 2) (tight 1 1 8 4 (1 ∷ 1 ∷ 0 ∷ []))) ≡ refused (OverCapacity 2 1)
-  pub full-shared : first (paged 4 (Alloc Meta 4) (tight 20 1 1 10 (0 ∷ 0 ∷ 0 ∷ 0 ∷ 0 ∷ 1 ∷ []))) ≡ refused (OverCapacity 2 1)
+  pub full_take : first (paged 4 (Free Meta 4 5) (tight 2 2 20 4 (1 ∷ 1 ∷ 1 ∷ 0 ∷ 0 ∷ 0 ∷ []))) ≡ refused (OverCapacity 2 1)
+  pub full_rest : first (paged 4 (Alloc Meta 2) (tight 1 1 8 4 (1 ∷ 1 ∷ 0 ∷ []))) ≡ refused (OverCapacity 2 1)
+  pub full_shared : first (paged 4 (Alloc Meta 4) (tight 20 1 1 10 (0 ∷ 0 ∷ 0 ∷ 0 ∷ 0 ∷ 1 ∷ []))) ≡ refused (OverCapacity 2 1)
   -- the order of refusals
-  pub over-four : first (paged 6 (Alloc Meta top) pages) ≡ refused Overflow
+  pub over_four : first (paged 6 (Alloc Meta top) pages) ≡ refused Overflow
   pub mark_three : first (paged 6 (Alloc Meta top) (tight 20 1 1 10 (0 ∷ 3 ∷ 0 ∷ 0 ∷ []))) ≡ refused NotAList
-  pub short-marks : first (paged 4 (Alloc Meta 0) (tight 0 1 4 4 (0 ∷ []))) ≡ refused NotAList
-  pub page-zero : first (paged 0 (Alloc Meta 0) pages) ≡ refused Page
+  pub short_marks : first (paged 4 (Alloc Meta 0) (tight 0 1 4 4 (0 ∷ []))) ≡ refused NotAList
+  pub page_zero : first (paged 0 (Alloc Meta 0) pages) ≡ refused Page
   -- length 0, after all refusals
   pub free-none : first (paged 4 (Free Meta 0 0) pages) ≡ nothing

@@ -68,7 +68,7 @@ pub record Form (A : Type 0) : Type 0 where
   pub first : A → ℕ
   pub second : A → ℕ
   pub first_made : (a b : ℕ) → first (make a b) ≡ a
-  pub second-made : (a b : ℕ) → second (make a b) ≡ b
+  pub second_made : (a b : ℕ) → second (make a b) ≡ b
   pub made : (r : A) → make (first r) (second r) ≡ r
 
 module _ {A : Type 0} (f : Form A) where
@@ -101,7 +101,7 @@ module _ {A : Type 0} (f : Form A) where
   flat-decode (suc n) [] h = absurd (omega arith)
   flat-decode (suc n) (a ∷ []) h = absurd (omega arith)
   flat-decode (suc n) (a ∷ b ∷ xs) h =
-      rw (double, f.first_made a b, f.second-made a b) (ap (λ (l : List ℕ). a ∷ b ∷ l) (flat-decode n xs (omega arith)))
+      rw (double, f.first_made a b, f.second_made a b) (ap (λ (l : List ℕ). a ∷ b ∷ l) (flat-decode n xs (omega arith)))
 
   pub decode-flat : (rs : List A) (xs : List ℕ) → into (length rs) (out rs ++ xs) ≡ rs
   decode-flat [] xs = refl

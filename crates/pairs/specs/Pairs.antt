@@ -1,8 +1,8 @@
 -- Lent runs of pairs of numbers, and the records of two numbers that they hold. Assumes nothing.
 --   capacity   how many pairs a run has room for (document 01, "The list": "Capacity is half the run")
---   is_even     a run of pairs has even length: document 01's refusal 3 for runs of sections, and for a lent output run
---   is_run      a run of pairs and a count: even, and no more than its capacity
---   pair_at     the i-th pair as a record, by the record's constructor; a number that the run does not have is 0
+--   is_even    a run of pairs has even length: document 01's refusal 3 for runs of sections, and for a lent output run
+--   is_run     a run of pairs and a count: even, and no more than its capacity
+--   pair_at    the i-th pair as a record, by the record's constructor; a number that the run does not have is 0
 --   decode     the first n pairs as records, by the record's constructor
 --   flat       records as a run, by their two fields: first, second, first, second, ..
 --   pair       the code's record of a pair

@@ -27,5 +27,5 @@ module _ (numbers run₀ : List ℕ) where
       let e : i ≡ length numbers = omega arith in
       f.same ∙ ap (λ (k : ℕ). over 0 (take k numbers) run₀) e ∙ ap (λ (l : List ℕ). over 0 l run₀) (take-length numbers)
 
-  pub front-full : (i : ℕ) (run : List ℕ) → Front i run → length run ≤ i → run ≡ over 0 numbers run₀
-  front-full i run f h = f.same ∙ over-cut 0 i numbers run₀ (omega (arith, front_length i run f))
+  pub front_full : (i : ℕ) (run : List ℕ) → Front i run → length run ≤ i → run ≡ over 0 numbers run₀
+  front_full i run f h = f.same ∙ over-cut 0 i numbers run₀ (omega (arith, front_length i run f))

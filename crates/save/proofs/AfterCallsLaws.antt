@@ -36,11 +36,11 @@ every-cut-after-calls runs calls page start place image scratch save lent p64 s6
       nothing_stored = s.nothing_stored;
       in_between = s.in_between;
       after_last = s.after_last;
-      each-once = λ b. s.each-once b ∙ ap (λ (t : Bool). cond t 1 0) (free-by_history runs calls b);
+      each_once = λ b. s.each_once b ∙ ap (λ (t : Bool). cond t 1 0) (free-by_history runs calls b);
       outside = s.outside;
-      fresh-begins = s.fresh-begins;
-      fresh-ends = λ k h scratch₂ r.
-          let q = s.fresh-ends k h scratch₂ r in
+      fresh_begins = s.fresh_begins;
+      fresh_ends = λ k h scratch₂ r.
+          let q = s.fresh_ends k h scratch₂ r in
           (q.0, l.passes start place _ scratch₂ ∙ q.1, q.2);
       into = s.into;
       bookkeeping = s.bookkeeping;

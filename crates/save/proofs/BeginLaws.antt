@@ -27,7 +27,7 @@ use Rattle.free_lists.specs.Lists.{Lists, regions_of, Regions, regions_in}
 use Rattle.fsm_sections.specs.Sections.{space}
 use Rattle.save_step.specs.declared.Save.{Save}
 use Rattle.file_space_info.specs.Message.{message_len}
-use Rattle.save.specs.Saving.{small, smallRaw, large, block_len, message_in, regionTests, list_tests, firstRecord, filled, begunOf, begun}
+use Rattle.save.specs.Saving.{small, small_raw, large, block_len, message_in, region_tests, list_tests, first_record, filled, begun_of, begun}
 
 -- ---- the facts
 
@@ -35,7 +35,7 @@ pub record Planned (rs : Regions) (page start : ℕ) : Type 0 where
   pub some : 0 < page
   pub valid : (i : Which) → ok_from 0 (rs i) ≡ true
   pub sum0 : space (small page rs) ≤ top
-  pub sum2 : space (smallRaw page rs) ≤ top
+  pub sum2 : space (small_raw page rs) ≤ top
   pub sum6 : space (large page rs) ≤ top
   pub last : start + block_len page rs ≤ top
   pub apart01 : share_bytes (rs Metadata) (rs Raw) ≡ false
@@ -56,14 +56,14 @@ apart start place L e h =
     ⊎_elim (λ (k : place + message_len ≤ start). inl k) (λ (k : start < place + message_len). inr (omega arith)) (le-or-lt (place + message_len) start)
 
 module _ (rs : Regions) (page start place : ℕ) (image : List ℕ) (given : ℕ) (some : 0 < page) (valid : (i : Which) → ok_from 0 (rs i) ≡ true)
-    (h : NoneHolds (regionTests rs page start place image given)) where
+    (h : NoneHolds (region_tests rs page start place image given)) where
   abbrev L : ℕ
   L = block_len page rs
 
   planned : Planned rs page start
   planned =
       let t0 = or_false (ltb top (space (small page rs))) _ h.0 in
-      let t2 = or_false (ltb top (space (smallRaw page rs))) _ t0.1 in
+      let t2 = or_false (ltb top (space (small_raw page rs))) _ t0.1 in
       let t6 = or_false (ltb top (space (large page rs))) _ t2.1 in
       let s0 = or_false (share_bytes (rs Metadata) (rs Raw)) _ h.1.0 in
       let s1 = or_false (share_bytes (rs Metadata) (rs Unclassified)) _ s0.1 in
@@ -71,7 +71,7 @@ module _ (rs : Regions) (page start place : ℕ) (image : List ℕ) (given : ℕ
         some = some;
         valid = valid;
         sum0 = ltb-false top (space (small page rs)) t0.0;
-        sum2 = ltb-false top (space (smallRaw page rs)) t2.0;
+        sum2 = ltb-false top (space (small_raw page rs)) t2.0;
         sum6 = ltb-false top (space (large page rs)) t6.0;
         last = ltb-false top (start + L) t6.1;
         apart01 = s0.0;
@@ -100,11 +100,11 @@ module _ (rs : Regions) (page start place : ℕ) (image : List ℕ) (given : ℕ
   room = ltb-false given (L + message_len) h.1.1.1.1.1.0
 
   -- with any scratch that has room
-  begun-again : (scratch : List ℕ) → L + message_len ≤ length scratch
-      → begunOf rs page start place image scratch ≡ answer (with (firstRecord rs page start place) (filled page start rs scratch))
-  unfolding begunOf
-  begun-again scratch r =
-      first_pass (regionTests rs page start place image (length scratch)) _
+  begun_again : (scratch : List ℕ) → L + message_len ≤ length scratch
+      → begun_of rs page start place image scratch ≡ answer (with (first_record rs page start place) (filled page start rs scratch))
+  unfolding begun_of
+  begun_again scratch r =
+      first_pass (region_tests rs page start place image (length scratch)) _
       (h.0, (h.1.0, (h.1.1.0, (h.1.1.1.0, (h.1.1.1.1.0, (le-ltb (length scratch) (L + message_len) r, tt))))))
 
 -- ---- an accepted beginning
@@ -113,23 +113,23 @@ pub record Accepted (rs : Regions) (page start place : ℕ) (image scratch : Lis
   pub planned : Planned rs page start
   pub placed : Placed start place (block_len page rs) image
   pub room : block_len page rs + message_len ≤ length scratch
-  pub save-is : firstRecord rs page start place ≡ save
+  pub save_is : first_record rs page start place ≡ save
   pub lent_is : filled page start rs scratch ≡ lent
   pub begins : (scratch₂ : List ℕ) → block_len page rs + message_len ≤ length scratch₂
-      → begunOf rs page start place image scratch₂ ≡ answer (with (firstRecord rs page start place) (filled page start rs scratch₂))
+      → begun_of rs page start place image scratch₂ ≡ answer (with (first_record rs page start place) (filled page start rs scratch₂))
 
 pub accepted : (rs : Regions) (page start place : ℕ) (image scratch : List ℕ) (save : Save) (lent : List ℕ)
-    → 0 < page → ((i : Which) → ok_from 0 (rs i) ≡ true) → begunOf rs page start place image scratch ≡ answer (with save lent) → Accepted rs page start place image scratch save lent
-unfolding begunOf
+    → 0 < page → ((i : Which) → ok_from 0 (rs i) ≡ true) → begun_of rs page start place image scratch ≡ answer (with save lent) → Accepted rs page start place image scratch save lent
+unfolding begun_of
 accepted rs page start place image scratch save lent some valid e =
-    let q = first_answers (regionTests rs page start place image (length scratch)) _ _ e in
+    let q = first_answers (region_tests rs page start place image (length scratch)) _ _ e in
     record {
       planned = planned rs page start place image (length scratch) some valid q.0;
       placed = placed rs page start place image (length scratch) some valid q.0;
       room = room rs page start place image (length scratch) some valid q.0;
-      save-is = ap (λ (w : With Save (List ℕ)). w.value) q.1;
+      save_is = ap (λ (w : With Save (List ℕ)). w.value) q.1;
       lent_is = ap (λ (w : With Save (List ℕ)). w.memory) q.1;
-      begins = begun-again rs page start place image (length scratch) some valid q.0;
+      begins = begun_again rs page start place image (length scratch) some valid q.0;
     }
 
 pub filled_is : (blocks message scratch : List ℕ) → length blocks + length message ≤ length scratch
@@ -140,8 +140,8 @@ filled_is blocks message scratch h = over-is (blocks ++ message) scratch (rw len
 
 pub begun-same : (rs : Regions) (page start place : ℕ) (image image₂ scratch : List ℕ) → place + message_len ≤ length image → length image₂ ≡ length image
     → get_or image place 0 ≡ 1 → get_or image₂ place 0 ≡ 1 → get_or image (place + 1) 0 ≤ 3 → get_or image₂ (place + 1) 0 ≤ 3
-    → begunOf rs page start place image₂ scratch ≡ begunOf rs page start place image scratch
-unfolding begunOf first_of
+    → begun_of rs page start place image₂ scratch ≡ begun_of rs page start place image scratch
+unfolding begun_of first_of
 begun-same rs page start place image image₂ scratch i e v v₂ s s₂ =
     rw (e, v, v₂, le-ltb 3 (get_or image (place + 1) 0) s, le-ltb 3 (get_or image₂ (place + 1) 0) s₂, le-leb (place + message_len) (length image) i)
 
@@ -151,14 +151,14 @@ begun-same rs page start place image image₂ scratch i e v v₂ s s₂ =
 pub record Listed (ls : Lists) (page : ℕ) : Type 0 where
   pub some : 0 < page
   pub valid : (i : Which) → ok_from 0 (regions_of (ls i)) ≡ true
-  pub passes : (start place : ℕ) (image scratch : List ℕ) → begun ls page start place image scratch ≡ begunOf (regions_in ls) page start place image scratch
+  pub passes : (start place : ℕ) (image scratch : List ℕ) → begun ls page start place image scratch ≡ begun_of (regions_in ls) page start place image scratch
 
 pub listed-lists : (ls : Lists) (page start place : ℕ) (image scratch : List ℕ) (w : With Save (List ℕ))
     → begun ls page start place image scratch ≡ answer w → Listed ls page
-unfolding begun begunOf
+unfolding begun begun_of
 listed-lists ls page start place image scratch w e =
-    let h = (first_answers (list_tests ls page ++ regionTests (regions_in ls) page start place image (length scratch)) _ w
-    (first-append (list_tests ls page) (regionTests (regions_in ls) page start place image (length scratch)) _ ∙ e)).0 in
+    let h = (first_answers (list_tests ls page ++ region_tests (regions_in ls) page start place image (length scratch)) _ w
+    (first-append (list_tests ls page) (region_tests (regions_in ls) page start place image (length scratch)) _ ∙ e)).0 in
     let v0 = and_true (is_list (ls Metadata).run (ls Metadata).list) _ (not-false _ h.1.0) in
     let v1 = and_true (is_list (ls Raw).run (ls Raw).list) _ v0.1 in
     record {

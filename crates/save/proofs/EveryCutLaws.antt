@@ -39,10 +39,10 @@ use Rattle.save_step.proofs.CutLaws.{Savable}
 use Rattle.save_step.proofs.StoreLaws.{after-suc}
 use Rattle.save_step.proofs.RowLaws.{step_is, steps_are, step_after, steps-end}
 use Rattle.fsm_plan.proofs.PlannedLaws.{holding-sorted, length-slots, length_blocks}
-use Rattle.save.specs.Saving.{as_sections, small, smallRaw, large, plan, block_len, blockBytes, slotAddrs, messageOf, filled, begunOf}
+use Rattle.save.specs.Saving.{as_sections, small, small_raw, large, plan, block_len, block_bytes, slot_addrs, message_of, filled, begun_of}
 use Rattle.fsm_blocks.specs.declared.checks.Reading.{Reading}
 use Rattle.image.specs.Reading.{Listed, in_slot, listed as listedFrom, read_image, counts_of}
-use Rattle.save.specs.EveryCut.{OneSave, one_save, afterSteps, imageAfter, metadataSlot, rawSlot, largeSlot, plannedInSlots, plannedSections, plannedCounts, OneStoreAStep, ReadInto, EveryCut, in_list, free_in, EveryCutOfLists}
+use Rattle.save.specs.EveryCut.{OneSave, one_save, after_steps, image_after, metadata_slot, raw_slot, large_slot, planned_in_slots, planned_sections, planned_counts, OneStoreAStep, ReadInto, EveryCut, in_list, free_in, EveryCutOfLists}
 use Rattle.stored_managers.proofs.SlotsLaws.{slots_read, sorted}
 use Rattle.save.proofs.FitLaws.{Ends, list-ends, plan_fits, slots-fit, small_plan}
 use Rattle.save.proofs.BeginLaws.{Planned, Accepted, accepted, filled_is, begun-same}
@@ -55,15 +55,15 @@ module _ (s : OneSave) where
   abbrev found : List (List FreeSection)
   found = map sorted (plan s.page s.regions)
 
-  slots-listed : listedFrom 0 found ≡ plannedInSlots s
+  slots-listed : listedFrom 0 found ≡ planned_in_slots s
   unfolding by_size_then_addr
-  slots-listed = ap (λ (r : List Listed). in_slot 0 (metadataSlot s) ++ (in_slot 2 (rawSlot s) ++ r)) (append-nil (in_slot 6 (largeSlot s)))
+  slots-listed = ap (λ (r : List Listed). in_slot 0 (metadata_slot s) ++ (in_slot 2 (raw_slot s) ++ r)) (append-nil (in_slot 6 (large_slot s)))
 
-  slots-joined : joined found ≡ plannedSections s
+  slots-joined : joined found ≡ planned_sections s
   unfolding by_size_then_addr joined
-  slots-joined = ap (λ (r : List FreeSection). metadataSlot s ++ (rawSlot s ++ r)) (append-nil (largeSlot s))
+  slots-joined = ap (λ (r : List FreeSection). metadata_slot s ++ (raw_slot s ++ r)) (append-nil (large_slot s))
 
-  slots-counted : counts_of found ≡ plannedCounts s
+  slots-counted : counts_of found ≡ planned_counts s
   unfolding by_size_then_addr
   slots-counted = refl
 
@@ -87,21 +87,21 @@ module _ (s : OneSave) (p : Planned s.regions s.page s.start) where
   not_both : (i j : Which) (b : ℕ) → share_bytes (s.regions i) (s.regions j) ≡ false → lies i b ≡ true → lies j b ≡ true → ⊥
   not_both i j b e x y = in_both (s.regions i) (s.regions j) b e ((in_list_lem (s.regions i) b).1 x) ((in_list_lem (s.regions j) b).1 y)
 
-  held_once : (b : ℕ) → holding b (found_in (plannedInSlots s)) ≡ cond (free_in s.regions b) 1 0
+  held_once : (b : ℕ) → holding b (found_in (planned_in_slots s)) ≡ cond (free_in s.regions b) 1 0
   held_once b =
       let M : List FreeSection = as_sections (s.regions Metadata) in
       let W : List FreeSection = as_sections (s.regions Raw) in
       let U : List FreeSection = as_sections (s.regions Unclassified) in
-      let all : holding b (found_in (plannedInSlots s)) ≡ holding b M + (holding b W + holding b U) =
-      ap (λ (r : List Listed). holding b (found_in (in_slot 0 (metadataSlot s) ++ (in_slot 2 (rawSlot s) ++ r)))) (sym (append-nil (in_slot 6 (largeSlot s))))
+      let all : holding b (found_in (planned_in_slots s)) ≡ holding b M + (holding b W + holding b U) =
+      ap (λ (r : List Listed). holding b (found_in (in_slot 0 (metadata_slot s) ++ (in_slot 2 (raw_slot s) ++ r)))) (sym (append-nil (in_slot 6 (large_slot s))))
       ∙ omega (
         arith,
-        holding-slot b 0 (metadataSlot s) (in_slot 2 (rawSlot s) ++ (in_slot 6 (largeSlot s) ++ [])),
-        holding-slot b 2 (rawSlot s) (in_slot 6 (largeSlot s) ++ []),
-        holding-slot b 6 (largeSlot s) [],
+        holding-slot b 0 (metadata_slot s) (in_slot 2 (raw_slot s) ++ (in_slot 6 (large_slot s) ++ [])),
+        holding-slot b 2 (raw_slot s) (in_slot 6 (large_slot s) ++ []),
+        holding-slot b 6 (large_slot s) [],
         holding-nothing b,
         holding-sorted b (small s.page s.regions),
-        holding-sorted b (smallRaw s.page s.regions),
+        holding-sorted b (small_raw s.page s.regions),
         holding-sorted b (large s.page s.regions),
         slots_hold s.page M W U b p.some,
       ) in
@@ -117,10 +117,10 @@ module _ (s : OneSave) (p : Planned s.regions s.page s.start) where
 module _ (rs : Regions) (page start place : ℕ) (image scratch : List ℕ) (save : Save) (lent : List ℕ) (p64 : page < 2 ^ 64) (s64 : start < 2 ^ 64)
     (a : Accepted rs page start place image scratch save lent) where
   abbrev B : List ℕ
-  B = blockBytes page start rs
+  B = block_bytes page start rs
 
   abbrev M : List ℕ
-  M = messageOf page start rs
+  M = message_of page start rs
 
   abbrev L : ℕ
   L = length B
@@ -151,7 +151,7 @@ module _ (rs : Regions) (page start place : ℕ) (image scratch : List ℕ) (sav
   s : Savable place start B M image
   unfolding layout le_bytes
   s = record {
-    message_long = length-twelve (made true strategy.Page 1 page start) (slotAddrs page start rs) refl (length-slots 8 (starting_set 8) (plan page rs) start);
+    message_long = length-twelve (made true strategy.Page 1 page start) (slot_addrs page start rs) refl (length-slots 8 (starting_set 8) (plan page rs) start);
     new_persist = refl;
     message_in = a.placed.inside;
     blocks_in = rw len a.placed.blocks_in;
@@ -168,7 +168,7 @@ module _ (rs : Regions) (page start place : ℕ) (image scratch : List ℕ) (sav
   unfolding layout le_bytes
   strategy_kept k = ⊎_elim (λ e. rw e a.placed.strategy) (λ e. rw e (lit≤ tt)) (c.strategy_byte place start B M image s k)
 
-  begins-same : (k : ℕ) (rs₂ : Regions) (page₂ start₂ : ℕ) (scratch₂ : List ℕ) → begunOf rs₂ page₂ start₂ place (img k) scratch₂ ≡ begunOf rs₂ page₂ start₂ place image scratch₂
+  begins-same : (k : ℕ) (rs₂ : Regions) (page₂ start₂ : ℕ) (scratch₂ : List ℕ) → begun_of rs₂ page₂ start₂ place (img k) scratch₂ ≡ begun_of rs₂ page₂ start₂ place image scratch₂
   begins-same k rs₂ page₂ start₂ scratch₂ =
       begun-same rs₂ page₂ start₂ place image (img k) scratch₂ a.placed.inside (c.cut-length place start B M image s k)
       a.placed.version (version-kept k) a.placed.strategy (strategy_kept k)
@@ -185,7 +185,7 @@ module _ (rs : Regions) (page start place : ℕ) (image scratch : List ℕ) (sav
 
   all_saved : (how : Reading) → read_image how place (img T) ≡ answer (found one)
   all_saved how =
-      reads_slots how place (img T) (made true strategy.Page 1 page start) (slotAddrs page start rs) refl
+      reads_slots how place (img T) (made true strategy.Page 1 page start) (slot_addrs page start rs) refl
       (lit< tt, (lit< tt, (lit< tt, (lit< tt, (p64, (lit< tt, (s64, slots-fit (plan page rs) start a.planned.last)))))))
       (c.message_stands place start B M image s)
       ∙ slots_read 8 (starting_set 8) 0 how (img T) (plan page rs) start stand
@@ -199,20 +199,20 @@ module _ (rs : Regions) (page start place : ℕ) (image scratch : List ℕ) (sav
   row_is : (scratch₂ : List ℕ) → block_len page rs + message_len ≤ length scratch₂ → filled page start rs scratch₂ ≡ row scratch₂
   row_is scratch₂ r = filled_is B M scratch₂ (omega (arith, len, s.message_long))
 
-  steps-made : (k : ℕ) → k ≤ T → afterSteps one k ≡ saving (recorded k) (img k)
+  steps-made : (k : ℕ) → k ≤ T → after_steps one k ≡ saving (recorded k) (img k)
   steps-made k h = steps_are place start B M image s (more scratch) k h
 
-  image-made : (k : ℕ) → k ≤ T → imageAfter one k ≡ img k
+  image-made : (k : ℕ) → k ≤ T → image_after one k ≡ img k
   image-made k h = ap (λ (x : Saving). x.image) (steps-made k h)
 
   -- after the last store
-  ended_at : (k : ℕ) → T ≤ k → afterSteps one k ≡ saving (recorded T) (img T)
+  ended_at : (k : ℕ) → T ≤ k → after_steps one k ≡ saving (recorded T) (img T)
   ended_at k h = steps-end place start B M image s (more scratch) k h
 
   -- the same save over what a cut left
   over-again : (k : ℕ) (scratch₂ : List ℕ) → L + message_len ≤ length scratch₂
       → (lent₂ : List ℕ)
-      × (begunOf rs page start place (img k) scratch₂ ≡ answer (with (recorded 0) lent₂))
+      × (begun_of rs page start place (img k) scratch₂ ≡ answer (with (recorded 0) lent₂))
       × (steps T lent₂ (saving (recorded 0) (img k)) ≡ saving (recorded T) (img T))
   over-again k scratch₂ r = (
     row scratch₂,
@@ -248,26 +248,26 @@ module _ (rs : Regions) (page start place : ℕ) (image scratch : List ℕ) (sav
     long = λ k h. rw (image-made k h) (c.cut-length place start B M image s k);
   }
 
-  holds : EveryCut one (free_in rs) (begunOf rs page start place)
+  holds : EveryCut one (free_in rs) (begun_of rs page start place)
   unfolding steps
   holds = record {
     nothing_stored = λ how. refl;
     in_between = λ how k h l. rw (image-made k (omega arith)) (listed-is how place (img k) [] (none_between how k h l));
     after_last = λ how. rw (image-made T (le_refl T)) (listed-is how place (img T) (found one) (all_saved how) ∙ ap answer (slots-listed one));
-    each-once = held_once one a.planned;
+    each_once = held_once one a.planned;
     outside = λ k h j p b. rw (image-made k h) (c.frame place start B M image s k j b p);
-    fresh-begins = λ k h rs₂ page₂ start₂ scratch₂. rw (image-made k h) (begins-same k rs₂ page₂ start₂ scratch₂);
-    fresh-ends = λ k h scratch₂ r. rw (image-made k h, steps-made T (le_refl T)) (over-again k scratch₂ r);
+    fresh_begins = λ k h rs₂ page₂ start₂ scratch₂. rw (image-made k h) (begins-same k rs₂ page₂ start₂ scratch₂);
+    fresh_ends = λ k h scratch₂ r. rw (image-made k h, steps-made T (le_refl T)) (over-again k scratch₂ r);
     into = readings;
     bookkeeping = one-store_a_step;
   }
 
   -- record and scratch are those that the beginning gave
-  held : EveryCut (one_save rs page start place image save lent) (free_in rs) (begunOf rs page start place)
+  held : EveryCut (one_save rs page start place image save lent) (free_in rs) (begun_of rs page start place)
   held =
-      subst (λ (x : Save). EveryCut (one_save rs page start place image x lent) (free_in rs) (begunOf rs page start place))
-      (ap (λ (n : ℕ). record { start = start; place = place; len = n; done = 0 }) len ∙ a.save-is)
-      (subst (λ (l : List ℕ). EveryCut (one_save rs page start place image (recorded 0) l) (free_in rs) (begunOf rs page start place)) (sym (row_is scratch a.room) ∙ a.lent_is) holds)
+      subst (λ (x : Save). EveryCut (one_save rs page start place image x lent) (free_in rs) (begun_of rs page start place))
+      (ap (λ (n : ℕ). record { start = start; place = place; len = n; done = 0 }) len ∙ a.save_is)
+      (subst (λ (l : List ℕ). EveryCut (one_save rs page start place image (recorded 0) l) (free_in rs) (begun_of rs page start place)) (sym (row_is scratch a.room) ∙ a.lent_is) holds)
 
 pub every-cut-of-lists : EveryCutOfLists
 every-cut-of-lists rs page start place image scratch save lent p64 s64 some valid e =

@@ -27,9 +27,9 @@ use Rattle.fsm_plan.specs.declared.blocks.BlocksPlan.{BlocksPlan}
 use Rattle.fsm_plan.specs.declared.blocks.BlocksPlanned.{BlocksPlanned}
 use Rattle.fsm_plan.specs.declared.blocks.BlocksPlanned.TheVariants as blocks
 use Rattle.fsm_plan.specs.Order.{repeats}
-use Rattle.fsm_plan.specs.Blocks.{blocks_at, plannedBlocks, blocks_outcome, slots_by}
+use Rattle.fsm_plan.specs.Blocks.{blocks_at, planned_blocks, blocks_outcome, slots_by}
 use Rattle.fsm_plan.proofs.PlannedLaws.{length_blocks, plan_slots}
-use Rattle.fsm_writer.specs.Paged.{writtenManagers}
+use Rattle.fsm_writer.specs.Paged.{written_managers}
 use Rattle.fsm_writer.proofs.RowLaws.{over-after}
 use Rattle.checksum.specs.Lookup3.{lookup3}
 use Rattle.file_space_info.specs.declared.FileSpaceInfo.{FileSpaceInfo}
@@ -40,10 +40,10 @@ use Rattle.file_space_info.specs.Message.{message_bytes, serialized}
 use Rattle.file_space_info.proofs.MessageLaws.{length-twelve}
 use Rattle.free_lists.specs.declared.calls.Which.TheVariants.{Metadata, Raw, Unclassified}
 use Rattle.save_step.specs.declared.Save.{Save}
-use Rattle.save.specs.Saving.{as_sections, large, block_len, blockBytes, messageOf, plan, tooLarge, blocks_out}
+use Rattle.save.specs.Saving.{as_sections, large, block_len, block_bytes, message_of, plan, too_large, blocks_out}
 use Rattle.save.specs.Beginning.{counts_in, message_by, begun_after}
 use Rattle.save.proofs.PlaceLaws.{not_longer}
-use Rattle.save.proofs.TieLaws.{M, later, wideTest, end_is, planned-is, written_is}
+use Rattle.save.proofs.TieLaws.{M, later, wide_test, end_is, planned-is, written_is}
 
 -- ---- the message
 
@@ -67,29 +67,29 @@ module _ (page start : ℕ) (p : PagedManagerPlan) (w : WithSlots) (we : w ≡ p
 -- ---- a plan whose 4 comes first
 
 module _ (xs ys zs : List ℕ) (f : FileLists) (page start : ℕ) (some : 0 < page) (lists : are_lists (lists_in xs ys zs f) ≡ true)
-    (x : BlocksPlanned) (xe : blocks_outcome x ≡ plannedBlocks xs ys zs (counts_in f) page start 8) (early : Refusal) where
+    (x : BlocksPlanned) (xe : blocks_outcome x ≡ planned_blocks xs ys zs (counts_in f) page start 8) (early : Refusal) where
   abbrev rs : Regions
   rs = regions_in (lists_in xs ys zs f)
 
   abbrev four : Bool → Outcome Save
   four t = first_of (when t Overflow ∷ []) (refused early)
 
-  outcome-is : blocks_outcome x ≡ first_of (when (tooLarge page start rs) Overflow ∷ later page start rs) (answer (blocks_at 8 start (M page start rs)))
+  outcome-is : blocks_outcome x ≡ first_of (when (too_large page start rs) Overflow ∷ later page start rs) (answer (blocks_at 8 start (M page start rs)))
   outcome-is = xe ∙ planned-is xs ys zs f page start some lists
 
   -- of a plan: the end is not too large
-  pub early_plan : (p : BlocksPlan) → x ≡ blocks.Plan p → refused early ≡ four (tooLarge page start rs)
+  pub early_plan : (p : BlocksPlan) → x ≡ blocks.Plan p → refused early ≡ four (too_large page start rs)
   unfolding first_of
-  early_plan p h = pick (tooLarge page start rs) (sym (ap blocks_outcome h) ∙ outcome-is)
+  early_plan p h = pick (too_large page start rs) (sym (ap blocks_outcome h) ∙ outcome-is)
     where
       pick : (t : Bool) → answer p ≡ cond t (refused Overflow) (first_of (later page start rs) (answer (blocks_at 8 start (M page start rs)))) → refused early ≡ four t
       pick true e = let z : ◌≡◌ {A = ℕ} 0 1 = cc in absurd (omega arith)
       pick false e = refl
 
   module _ (r : Refusal) (h : x ≡ blocks.Refused r) where
-    pub early_four : number_of r ≡ 4 → refused Overflow ≡ four (tooLarge page start rs)
+    pub early_four : number_of r ≡ 4 → refused Overflow ≡ four (too_large page start rs)
     unfolding first_of
-    early_four k = pick (tooLarge page start rs) (repeats (large page rs)) (wideTest page start rs) (sym (ap blocks_outcome h) ∙ outcome-is)
+    early_four k = pick (too_large page start rs) (repeats (large page rs)) (wide_test page start rs) (sym (ap blocks_outcome h) ∙ outcome-is)
       where
         pick : (t u v : Bool) → refused r ≡ cond t (refused Overflow) (cond u (refused SharedAddress) (cond v (refused WideAddress) (answer (blocks_at 8 start (M page start rs))))) → refused Overflow ≡ four t
         pick true u v e = refl
@@ -97,9 +97,9 @@ module _ (xs ys zs : List ℕ) (f : FileLists) (page start : ℕ) (some : 0 < pa
         pick false false true e = let z : number_of r ≡ 12 = cc in absurd (omega arith)
         pick false false false e = let z : ◌≡◌ {A = ℕ} 0 1 = cc in absurd (omega arith)
 
-    pub early_other : (number_of r ≡ 4 → ⊥) → refused early ≡ four (tooLarge page start rs)
+    pub early_other : (number_of r ≡ 4 → ⊥) → refused early ≡ four (too_large page start rs)
     unfolding first_of
-    early_other k = pick (tooLarge page start rs) (sym (ap blocks_outcome h) ∙ outcome-is)
+    early_other k = pick (too_large page start rs) (sym (ap blocks_outcome h) ∙ outcome-is)
       where
         pick : (t : Bool) → refused r ≡ cond t (refused Overflow) (first_of (later page start rs) (answer (blocks_at 8 start (M page start rs)))) → refused early ≡ four t
         pick true e = let z : number_of r ≡ 4 = cc in absurd (k z)
@@ -146,13 +146,13 @@ module _ (xs ys zs : List ℕ) (f : FileLists) (page start place : ℕ) (image d
   L = block_len page Rs
 
   abbrev T : Bool
-  T = tooLarge page start Rs
+  T = too_large page start Rs
 
   abbrev B : BlocksPlan
   B = blocks_at 8 start (M page start Rs)
 
   abbrev bytes : List ℕ
-  bytes = blockBytes page start Rs
+  bytes = block_bytes page start Rs
 
   long : length bytes ≡ L
   long = length_blocks 8 (starting_set 8) lookup3 (plan page Rs) start
@@ -163,7 +163,7 @@ module _ (xs ys zs : List ℕ) (f : FileLists) (page start place : ℕ) (image d
   abbrev whole : Outcome (With Save (List ℕ))
   whole = begun_after Rs page start place image d
 
-  module _ (x : BlocksPlanned) (ys' : List ℕ) (e : left (blocks_outcome x) ys' ≡ leaving (take lent d) (writtenManagers xs ys zs (counts_in f) page start 8 (take lent d))) where
+  module _ (x : BlocksPlanned) (ys' : List ℕ) (e : left (blocks_outcome x) ys' ≡ leaving (take lent d) (written_managers xs ys zs (counts_in f) page start 8 (take lent d))) where
     abbrev after : List ℕ
     after = ys' ++ drop lent d
 
@@ -328,7 +328,7 @@ module _ (xs ys zs : List ℕ) (f : FileLists) (page start place : ℕ) (image d
         pub message_room : p.managers.end_of_managers - start + 125 ≤ length after
         message_room = omega (arith, plan_len, after-long, is-put.1)
 
-        message_is : message_by page start p.managers ≡ messageOf page start Rs
+        message_is : message_by page start p.managers ≡ message_of page start Rs
         message_is =
             ap (λ (q : BlocksPlan). message_bytes 8 8 (made true strategy.Page 1 page start) (slots_by q.managers)) plan_is
             ∙ ap (λ (s : List ℕ). message_bytes 8 8 (made true strategy.Page 1 page start) s)
@@ -338,9 +338,9 @@ module _ (xs ys zs : List ℕ) (f : FileLists) (page start place : ℕ) (image d
             → left (answer (record { start = start; place = place; len = p.managers.end_of_managers - start; done = 0 })) z ≡ leaving d whole
         unfolding begun_after
         begun z ze =
-            let m : z ≡ over 0 (bytes ++ messageOf page start Rs) d =
+            let m : z ≡ over 0 (bytes ++ message_of page start Rs) d =
             ze ∙ ap₂ (λ (n : ℕ) (u : List ℕ). over n u after) (plan_len ∙ sym long) message_is
-            ∙ ap (over (length bytes) (messageOf page start Rs)) is-put.3 ∙ over-after bytes (messageOf page start Rs) d in
+            ∙ ap (over (length bytes) (message_of page start Rs)) is-put.3 ∙ over-after bytes (message_of page start Rs) d in
             ap₂ (λ (n : ℕ) (q : List ℕ). left (answer (record { start = start; place = place; len = n; done = 0 })) q) plan_len m
             ∙ ap (leaving d)
             (sym (first_passes _ Overflow _ _ is-put.0 ∙ first_passes _ Place _ _ (out L ∙ le-ltb room L (omega (arith, is-put.1)))

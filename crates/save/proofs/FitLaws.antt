@@ -23,10 +23,10 @@ use Rattle.fsm_sections.specs.Pages.{end, cut_at, pieces_from, pieces, split, be
 use Rattle.fsm_sections.specs.Runs.{any_of, any_wide}
 use Rattle.fsm_sections.proofs.AllLaws.{all_append, all_map}
 use Rattle.fsm_blocks.specs.Fshd.{fshd_size}
-use Rattle.fsm_blocks.specs.Settings.{Settings, starting_set, fsseUsed}
-use Rattle.fsm_plan.specs.Managers.{Manager, managerSize, size_of, slotsFrom}
+use Rattle.fsm_blocks.specs.Settings.{Settings, starting_set, fsse_used}
+use Rattle.fsm_plan.specs.Managers.{Manager, manager_size, size_of, slots_from}
 use Rattle.file_space_info.specs.Message.{address_row}
-use Rattle.save.specs.Saving.{as_sections, small, smallRaw, large, plan}
+use Rattle.save.specs.Saving.{as_sections, small, small_raw, large, plan}
 use Rattle.stored_managers.proofs.SlotsLaws.{ManagerFits, PlanFits}
 use Rattle.stored_managers.proofs.StoredLaws.{pair_fits}
 
@@ -93,17 +93,17 @@ narrow-all (s ∷ l) h = rw (lt-leb (256 ^ 8) s.addr (omega (arith, h.0))) (narr
 pub plan_fits : (ms : List Manager) (a : ℕ) → a + size_of 8 set8 ms ≤ top → All Small ms → PlanFits 8 set8 0 a ms
 unfolding size_of
 plan_fits [] a h s = tt
-plan_fits (m ∷ ms) a h s = (fit (eqb (length m.sections) 0) (eqb-true (length m.sections) 0) (omega arith), plan_fits ms (a + managerSize 8 set8 m) (omega arith) s.1)
+plan_fits (m ∷ ms) a h s = (fit (eqb (length m.sections) 0) (eqb-true (length m.sections) 0) (omega arith), plan_fits ms (a + manager_size 8 set8 m) (omega arith) s.1)
   where
-    fit : (t : Bool) → (t ≡ true → length m.sections ≡ 0) → a + cond t 0 (fshd_size 8 + (fsseUsed 8 set8 m.sections + 0)) ≤ top
+    fit : (t : Bool) → (t ≡ true → length m.sections ≡ 0) → a + cond t 0 (fshd_size 8 + (fsse_used 8 set8 m.sections + 0)) ≤ top
         → 0 < length m.sections → ManagerFits 8 set8 0 a m.sections
     fit true f k n = let z : length m.sections ≡ 0 = f refl in absurd (omega arith)
     fit false f k n = pair_fits 8 0 a m.sections (lit≤ tt) (lit≤ tt) (omega arith) (omega arith) s.0.0 (narrow-all m.sections s.0.1)
 
-pub slots-fit : (ms : List Manager) (a : ℕ) → a + size_of 8 set8 ms ≤ top → AllFit (address_row 8 (slotsFrom 8 set8 a ms))
-unfolding size_of slotsFrom
+pub slots-fit : (ms : List Manager) (a : ℕ) → a + size_of 8 set8 ms ≤ top → AllFit (address_row 8 (slots_from 8 set8 a ms))
+unfolding size_of slots_from
 slots-fit [] a h = tt
-slots-fit (m ∷ ms) a h = (fit (eqb (length m.sections) 0), slots-fit ms (a + managerSize 8 set8 m) (omega arith))
+slots-fit (m ∷ ms) a h = (fit (eqb (length m.sections) 0), slots-fit ms (a + manager_size 8 set8 m) (omega arith))
   where
     fit : (t : Bool) → cond t (undefined_addr 8) a < 256 ^ 8
     fit true = lit< tt
@@ -121,7 +121,7 @@ module _ (page : ℕ) (rs : Regions) (ends : (i : Which) → All (Ends top) (as_
   abbrev U : List FreeSection
   U = as_sections (rs Unclassified)
 
-  pub small_plan : space (small page rs) ≤ top → space (smallRaw page rs) ≤ top → space (large page rs) ≤ top → All Small (plan page rs)
+  pub small_plan : space (small page rs) ≤ top → space (small_raw page rs) ≤ top → space (large page rs) ≤ top → All Small (plan page rs)
   unfolding space
   small_plan a b c =
       let m : All (Ends top) (split page M) = split-end page top M (ends Metadata) in

@@ -20,8 +20,8 @@ use Rattle.fsm_blocks.specs.declared.checks.Reading.{Reading}
 use Rattle.fsm_sections.specs.Pages.{pieces_from, pieces, split, below_page, from_page}
 use Rattle.fsm_plan.specs.Managers.{size_of}
 use Rattle.save_step.specs.declared.Save.{Save}
-use Rattle.save.specs.Saving.{filled, begunOf, begun}
-use Rattle.save.specs.EveryCut.{OneSave, one_save, storeCount, imageAfter, EveryCut}
+use Rattle.save.specs.Saving.{filled, begun_of, begun}
+use Rattle.save.specs.EveryCut.{OneSave, one_save, store_count, image_after, EveryCut}
 use Rattle.image.specs.Reading.{image_into}
 use Rattle.save.proofs.AfterCallsLaws.{every-cut-after-calls}
 
@@ -51,7 +51,7 @@ abbrev lent : List ℕ
 lent = filled 100 260 (regions_in lists) scratch
 
 accepted : begun lists 100 260 0 image scratch ≡ answer (with save lent)
-unfolding begun begunOf lists_after calls runs freed first_of is_list stored pieces_from pieces split below_page from_page size_of distinct of_size enc_size least_from space
+unfolding begun begun_of lists_after calls runs freed first_of is_list stored pieces_from pieces split below_page from_page size_of distinct of_size enc_size least_from space
 accepted = refl
 
 abbrev pub one : OneSave
@@ -64,6 +64,6 @@ met = every-cut-after-calls runs calls 100 260 0 image scratch save lent (lit< t
 abbrev pub counts : List ℕ
 counts = 1 ∷ 0 ∷ 0 ∷ 0 ∷ 0 ∷ 0 ∷ 0 ∷ 0 ∷ 0 ∷ 0 ∷ 0 ∷ 0 ∷ []
 
-pub read : (how : Reading) → image_into how 0 (imageAfter one (storeCount one)) (7 ∷ 7 ∷ []) ≡ answer (with counts (200 ∷ 50 ∷ []))
+pub read : (how : Reading) → image_into how 0 (image_after one (store_count one)) (7 ∷ 7 ∷ []) ≡ answer (with counts (200 ∷ 50 ∷ []))
 unfolding lists_after calls runs freed first_of is_list stored pieces_from pieces split below_page from_page insert by_size_then_addr
 read how = met.into.after_last how (7 ∷ 7 ∷ []) (refl, lit≤ tt)

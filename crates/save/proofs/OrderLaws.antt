@@ -21,8 +21,8 @@ use Rattle.free_lists.specs.declared.FileLists.{FileLists}
 use Rattle.free_lists.specs.Lists.{together, Lists, Regions, lists_in, regions_in, are_lists, shared_byte}
 use Rattle.file_space_info.specs.Message.{message_len}
 use Rattle.save_step.specs.declared.Save.{Save}
-use Rattle.save.specs.Saving.{block_len, tooLarge, message_in, blocks_out, any_in_the_way, lateTests, firstRecord, filled, begunOf, begun}
-use Rattle.save.specs.Beginning.{awayTests, earlyTests, begun_after}
+use Rattle.save.specs.Saving.{block_len, too_large, message_in, blocks_out, any_in_the_way, late_tests, first_record, filled, begun_of, begun}
+use Rattle.save.specs.Beginning.{away_tests, early_tests, begun_after}
 
 -- ---- refusals 8, 9 and 13 in their order, for any tests
 
@@ -61,7 +61,7 @@ module _ (rs : Regions) (start place : ℕ) (image : List ℕ) where
   str = get_or image (place + 1) 0
 
   abbrev F : Outcome (Unit {0})
-  F = first_of (awayTests rs start place image) (answer tt)
+  F = first_of (away_tests rs start place image) (answer tt)
 
   abbrev bi : Bool
   bi = message_in place image
@@ -170,32 +170,32 @@ module _ (ls : Lists) (page start place : ℕ) (image scratch : List ℕ) where
       pub begin_asks : (0 < page) × (are_lists ls ≡ true)
       begin_asks = (omega arith, sym ue ∙ t)
 
-      regions_only : whole ≡ begunOf rs page start place image scratch
+      regions_only : whole ≡ begun_of rs page start place image scratch
       unfolding begun
       regions_only = first_passes _ Page _ _ (ne_eqb page 0 n) ∙ first_passes _ NotAList _ _ (ap not begin_asks.1) ∙ first-none _
 
       abbrev y : Outcome (With Save (List ℕ))
-      y = answer (with (firstRecord rs page start place) (filled page start rs scratch))
+      y = answer (with (first_record rs page start place) (filled page start rs scratch))
 
       abbrev short : Condition
       short = when (ltb (length scratch) (block_len page rs + message_len)) (OverCapacity (block_len page rs + message_len) (length scratch))
 
       abbrev four : Condition
-      four = when (tooLarge page start rs) Overflow
+      four = when (too_large page start rs) Overflow
 
-      in_two : whole ≡ first_of (four ∷ []) (first_of (lateTests rs (block_len page rs) start place image (length scratch)) y)
-      unfolding begunOf
-      in_two = regions_only ∙ first-append (four ∷ []) (lateTests rs (block_len page rs) start place image (length scratch)) y
+      in_two : whole ≡ first_of (four ∷ []) (first_of (late_tests rs (block_len page rs) start place image (length scratch)) y)
+      unfolding begun_of
+      in_two = regions_only ∙ first-append (four ∷ []) (late_tests rs (block_len page rs) start place image (length scratch)) y
 
-      module _ (c : Checked) (ce : checked_outcome c ≡ first_of (earlyTests rs start place image) (answer tt)) where
+      module _ (c : Checked) (ce : checked_outcome c ≡ first_of (early_tests rs start place image) (answer tt)) where
         pub begin_early : (r : Refusal) → c ≡ checked.Refused r → (q : Refusal) → ◌≡◌ {A = Outcome Save} (refused q) (first_of (four ∷ []) (refused r))
             → left (refused q) scratch ≡ leaving scratch whole
         unfolding first_of
         begin_early r h q e =
-            let l : refused r ≡ first_of (lateTests rs (block_len page rs) start place image (length scratch)) y =
-            first_refuses (earlyTests rs start place image) tt r _ (sym (ap checked_outcome h) ∙ ce)
+            let l : refused r ≡ first_of (late_tests rs (block_len page rs) start place image (length scratch)) y =
+            first_refuses (early_tests rs start place image) tt r _ (sym (ap checked_outcome h) ∙ ce)
             ∙ among (MessageVersion (get_or image place 0)) (Strategy (get_or image (place + 1) 0)) short (shared_byte rs) (message_in place image) (not (eqb (get_or image place 0) 1)) (ltb 3 (get_or image (place + 1) 0)) (blocks_out (block_len page rs) start place image) (any_in_the_way start place rs) y in
-            ap (leaving scratch) (alike (tooLarge page start rs) e ∙ ap (first_of (four ∷ [])) l ∙ sym in_two)
+            ap (leaving scratch) (alike (too_large page start rs) e ∙ ap (first_of (four ∷ [])) l ∙ sym in_two)
           where
             alike : (t : Bool) → ◌≡◌ {A = Outcome Save} (refused q) (first_of (when t Overflow ∷ []) (refused r)) → ◌≡◌ {A = Outcome (With Save (List ℕ))} (refused q) (first_of (when t Overflow ∷ []) (refused r))
             alike true e =
@@ -208,8 +208,8 @@ module _ (ls : Lists) (page start place : ℕ) (image scratch : List ℕ) where
                 ap₂ refuse n v
 
         module _ (h : c ≡ checked.Passed) where
-          none : NoneHolds (earlyTests rs start place image)
-          none = (first_answers (earlyTests rs start place image) tt tt (sym ce ∙ ap checked_outcome h)).0
+          none : NoneHolds (early_tests rs start place image)
+          none = (first_answers (early_tests rs start place image) tt tt (sym ce ∙ ap checked_outcome h)).0
 
           pub begin_apart : shared_byte rs ≡ false
           begin_apart = none.0

@@ -36,11 +36,11 @@ use Rattle.fsm_plan.specs.declared.blocks.Measures.{Measures}
 use Rattle.fsm_plan.specs.declared.blocks.BlocksPlan.{BlocksPlan}
 use Rattle.fsm_plan.specs.Managers.{managers_of, size_of, blocks_from}
 use Rattle.fsm_plan.specs.Order.{repeats}
-use Rattle.fsm_plan.specs.Blocks.{paged, inSlot0, inSlot2, inLarge, measure_of, measuresOf, slotsMeasured, size_tests, end_at, managers_at, blocks_at, wide_managers, runTests, plannedFrom, plannedBlocks}
+use Rattle.fsm_plan.specs.Blocks.{paged, in_slot0, in_slot2, in_large, measure_of, measures_of, slots_measured, size_tests, end_at, managers_at, blocks_at, wide_managers, run_tests, planned_from, planned_blocks}
 use Rattle.fsm_plan.proofs.LimitLaws.{managers_narrow}
 use Rattle.fsm_plan.proofs.PlannedLaws.{plan_size}
-use Rattle.fsm_writer.specs.Paged.{writtenManagers}
-use Rattle.save.specs.Saving.{as_sections, small, smallRaw, large, block_len, blockBytes, tooLarge}
+use Rattle.fsm_writer.specs.Paged.{written_managers}
+use Rattle.save.specs.Saving.{as_sections, small, small_raw, large, block_len, block_bytes, too_large}
 use Rattle.save.specs.Beginning.{counts_in}
 use Rattle.save.proofs.FitLaws.{Ends, list-ends, narrow-all, small_plan}
 use Rattle.save.proofs.OnceLaws.{slot6-once}
@@ -115,7 +115,7 @@ module _ (page start : ℕ) (rs : Regions) where
   S = small page rs
 
   abbrev R : List FreeSection
-  R = smallRaw page rs
+  R = small_raw page rs
 
   abbrev G : List FreeSection
   G = large page rs
@@ -136,7 +136,7 @@ module _ (page start : ℕ) (rs : Regions) where
     pub sum6 : space G ≤ top
     pub last : start + block_len page rs ≤ top
 
-  pub sums : tooLarge page start rs ≡ false → Sums
+  pub sums : too_large page start rs ≡ false → Sums
   sums e =
       let p = or_false (ltb top (space S)) _ e in
       let q = or_false (ltb top (space R)) _ p.1 in
@@ -148,14 +148,14 @@ module _ (page start : ℕ) (rs : Regions) where
         last = ltb-false top (start + block_len page rs) r.1;
       }
 
-  abbrev pub wideTest : Bool
-  wideTest = wide_managers top (managers_at 8 start M) || (any_wide 8 S || (any_wide 8 R || any_wide 8 G))
+  abbrev pub wide_test : Bool
+  wide_test = wide_managers top (managers_at 8 start M) || (any_wide 8 S || (any_wide 8 R || any_wide 8 G))
 
   abbrev pub later : List Condition
-  later = when (repeats G) SharedAddress ∷ when wideTest WideAddress ∷ []
+  later = when (repeats G) SharedAddress ∷ when wide_test WideAddress ∷ []
 
   in_four : first_of (size_tests 8 S) (first_of (size_tests 8 R) (first_of (size_tests 8 G) (first_of (when (ltb top (end_at start M)) Overflow ∷ later) (answer (blocks_at 8 start M)))))
-      ≡ first_of (when (tooLarge page start rs) Overflow ∷ later) (answer (blocks_at 8 start M))
+      ≡ first_of (when (too_large page start rs) Overflow ∷ later) (answer (blocks_at 8 start M))
   in_four =
       ap (λ (n : ℕ). first_of (size_tests 8 S) (first_of (size_tests 8 R) (first_of (size_tests 8 G) (first_of (when (ltb top n) Overflow ∷ later) (answer (blocks_at 8 start M)))))) end_is
       ∙ seven (ltb top (space S)) (ltb top (blocks_size 8 S)) (ltb top (space R)) (ltb top (blocks_size 8 R)) (ltb top (space G)) (ltb top (blocks_size 8 G))
@@ -165,7 +165,7 @@ module _ (page start : ℕ) (rs : Regions) where
       (λ t. let k = ltb-true top (blocks_size 8 G) t in lt-ltb top (start + block_len page rs) (omega (arith, len_is)))
 
   module _ (ends : (i : Which) → All (Ends top) (as_sections (rs i))) where
-    no_wide : tooLarge page start rs ≡ false → wideTest ≡ false
+    no_wide : too_large page start rs ≡ false → wide_test ≡ false
     no_wide e =
         let s = sums e in
         let p = small_plan page rs ends s.sum0 s.sum2 s.sum6 in
@@ -181,7 +181,7 @@ module _ (xs ys zs : List ℕ) (f : FileLists) (page start : ℕ) (some : 0 < pa
   abbrev n : Counts
   n = counts_in f
 
-  runs_pass : NoneHolds (runTests xs ys zs n page 8)
+  runs_pass : NoneHolds (run_tests xs ys zs n page 8)
   runs_pass =
       let v = each-list xs ys zs f lists in
       let p = fine xs f.metadata v.0 in
@@ -222,15 +222,15 @@ module _ (xs ys zs : List ℕ) (f : FileLists) (page start : ℕ) (some : 0 < pa
       ∷ [])
       (answer (blocks_at 8 start (Ms m r u))))))
 
-  pub planned-is : plannedBlocks xs ys zs n page start 8 ≡ first_of (when (tooLarge page start rs) Overflow ∷ later page start rs) (answer (blocks_at 8 start (M page start rs)))
-  unfolding plannedBlocks slotsMeasured plannedFrom and_then
+  pub planned-is : planned_blocks xs ys zs n page start 8 ≡ first_of (when (too_large page start rs) Overflow ∷ later page start rs) (answer (blocks_at 8 start (M page start rs)))
+  unfolding planned_blocks slots_measured planned_from and_then
   planned-is =
-      first_pass (runTests xs ys zs n page 8) _ runs_pass
-      ∙ then_first (size_tests 8 (inSlot0 (paged n page) xs ys zs)) _ (λ m. plannedFrom xs ys zs top (paged n page) m start 8)
-      ∙ ap (first_of (size_tests 8 (inSlot0 (paged n page) xs ys zs)))
-      (then_first (size_tests 8 (inSlot2 (paged n page) xs ys zs)) _ (λ m. plannedFrom xs ys zs top (paged n page) m start 8)
-      ∙ ap (first_of (size_tests 8 (inSlot2 (paged n page) xs ys zs)))
-      (then_first (size_tests 8 (inLarge (paged n page) xs ys zs)) (answer (measuresOf (paged n page) xs ys zs 8)) (λ m. plannedFrom xs ys zs top (paged n page) m start 8)))
+      first_pass (run_tests xs ys zs n page 8) _ runs_pass
+      ∙ then_first (size_tests 8 (in_slot0 (paged n page) xs ys zs)) _ (λ m. planned_from xs ys zs top (paged n page) m start 8)
+      ∙ ap (first_of (size_tests 8 (in_slot0 (paged n page) xs ys zs)))
+      (then_first (size_tests 8 (in_slot2 (paged n page) xs ys zs)) _ (λ m. planned_from xs ys zs top (paged n page) m start 8)
+      ∙ ap (first_of (size_tests 8 (in_slot2 (paged n page) xs ys zs)))
+      (then_first (size_tests 8 (in_large (paged n page) xs ys zs)) (answer (measures_of (paged n page) xs ys zs 8)) (λ m. planned_from xs ys zs top (paged n page) m start 8)))
       ∙ (λ i. plan_of (e0 i) (e2 i) (e6 i))
       ∙ in_four page start rs
 
@@ -240,7 +240,7 @@ module _ (xs ys zs : List ℕ) (f : FileLists) (page start : ℕ) (some : 0 < pa
     abbrev L : ℕ
     L = block_len page rs
 
-    none-later : tooLarge page start rs ≡ false → NoneHolds (later page start rs)
+    none-later : too_large page start rs ≡ false → NoneHolds (later page start rs)
     none-later e = (slot6-once page rs some valid apart, (no_wide page start rs ends e, tt))
 
     after_first : {A : Type 0} (t : Bool) (cs : List Condition) (y : Outcome A) → (t ≡ false → NoneHolds cs) → first_of (when t Overflow ∷ cs) y ≡ first_of (when t Overflow ∷ []) y
@@ -249,23 +249,23 @@ module _ (xs ys zs : List ℕ) (f : FileLists) (page start : ℕ) (some : 0 < pa
     after_first false cs y h = first_pass cs y (h refl)
 
     abbrev short : BlocksPlan → Outcome (With BlocksPlan (List ℕ))
-    short p = first_of (when (ltb (length d) L) (OverCapacity L (length d)) ∷ []) (answer (with p (over 0 (blockBytes page start rs) d)))
+    short p = first_of (when (ltb (length d) L) (OverCapacity L (length d)) ∷ []) (answer (with p (over 0 (block_bytes page start rs) d)))
 
-    pub written_is : writtenManagers xs ys zs n page start 8 d
-        ≡ first_of (when (tooLarge page start rs) Overflow ∷ when (ltb (length d) L) (OverCapacity L (length d)) ∷ [])
-        (answer (with (blocks_at 8 start (M page start rs)) (over 0 (blockBytes page start rs) d)))
-    unfolding writtenManagers and_then
+    pub written_is : written_managers xs ys zs n page start 8 d
+        ≡ first_of (when (too_large page start rs) Overflow ∷ when (ltb (length d) L) (OverCapacity L (length d)) ∷ [])
+        (answer (with (blocks_at 8 start (M page start rs)) (over 0 (block_bytes page start rs) d)))
+    unfolding written_managers and_then
     written_is =
         (λ i. let ms = managers_of page (e0 i) (e2 i) (e6 i) in
         and_then (planned-is i)
         (λ p. first_of (when (ltb (length d) (size_of 8 (starting_set 8) ms)) (OverCapacity (size_of 8 (starting_set 8) ms) (length d)) ∷ [])
         (answer (with p (over 0 (blocks_from 8 (starting_set 8) lookup3 start ms) d)))))
-        ∙ then_first (when (tooLarge page start rs) Overflow ∷ later page start rs) (answer (blocks_at 8 start (M page start rs))) short
+        ∙ then_first (when (too_large page start rs) Overflow ∷ later page start rs) (answer (blocks_at 8 start (M page start rs))) short
         ∙ last
       where
-        last : first_of (when (tooLarge page start rs) Overflow ∷ later page start rs) (and_then (answer (blocks_at 8 start (M page start rs))) short)
-            ≡ first_of (when (tooLarge page start rs) Overflow ∷ when (ltb (length d) L) (OverCapacity L (length d)) ∷ [])
-            (answer (with (blocks_at 8 start (M page start rs)) (over 0 (blockBytes page start rs) d)))
+        last : first_of (when (too_large page start rs) Overflow ∷ later page start rs) (and_then (answer (blocks_at 8 start (M page start rs))) short)
+            ≡ first_of (when (too_large page start rs) Overflow ∷ when (ltb (length d) L) (OverCapacity L (length d)) ∷ [])
+            (answer (with (blocks_at 8 start (M page start rs)) (over 0 (block_bytes page start rs) d)))
         last =
-            after_first (tooLarge page start rs) (later page start rs) (short (blocks_at 8 start (M page start rs))) none-later
-            ∙ sym (first-append (when (tooLarge page start rs) Overflow ∷ []) (when (ltb (length d) L) (OverCapacity L (length d)) ∷ []) _)
+            after_first (too_large page start rs) (later page start rs) (short (blocks_at 8 start (M page start rs))) none-later
+            ∙ sym (first-append (when (too_large page start rs) Overflow ∷ []) (when (ltb (length d) L) (OverCapacity L (length d)) ∷ []) _)

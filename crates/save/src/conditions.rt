@@ -7,7 +7,7 @@ ghost use Rattle.free_regions.specs.Regions.{region, meets};
 ghost use Rattle.free_space.specs.Runs.{regions, is_list};
 ghost use Rattle.free_lists.specs.Lists.{lists_in, regions_in, are_lists};
 ghost use Rattle.save.specs.Saving.{in_the_way, message_in, blocks_out, any_in_the_way};
-ghost use Rattle.save.specs.Beginning.{earlyTests};
+ghost use Rattle.save.specs.Beginning.{early_tests};
 
 use crate::{Request, Target};
 use error::{Checked, Refusal};
@@ -107,7 +107,7 @@ pub(crate) fn test_early(
 ) -> Checked
     requires lists { are_lists (lists_in meta.now raw.now unclassified.now q.lists) ≡ true }
     ensures { checked_outcome result ≡ first_of
-        (earlyTests (regions_in (lists_in meta.now raw.now unclassified.now q.lists)) q.to.start q.to.place
+        (early_tests (regions_in (lists_in meta.now raw.now unclassified.now q.lists)) q.to.start q.to.place
         image.now) (answer tt) }
 {
     let shared = check_lists(meta, raw, unclassified, q.lists);

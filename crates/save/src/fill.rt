@@ -6,7 +6,7 @@ ghost use Rattle.error.specs.Lent.{left, leaving, over};
 ghost use Rattle.fields.specs.Ranges.{top};
 ghost use Rattle.free_lists.specs.Lists.{lists_in, regions_in, are_lists, shared_byte};
 ghost use Rattle.save_step.specs.declared.Save.{Save};
-ghost use Rattle.save.specs.Saving.{tooLarge, message_in, begin_outcome};
+ghost use Rattle.save.specs.Saving.{too_large, message_in, begin_outcome};
 ghost use Rattle.save.specs.Beginning.{counts_in, message_by, begun_after};
 
 use crate::conditions::block_room;
@@ -58,7 +58,7 @@ pub(crate) fn refuse_early(
 ) -> Refusal
     requires { (0 < q.to.page) × (are_lists (lists_in meta.now raw.now unclassified.now q.lists) ≡ true) }
     ensures { ◌≡◌ {A = Outcome Save} (refused result)
-        (first_of (when (tooLarge q.to.page q.to.start
+        (first_of (when (too_large q.to.page q.to.start
         (regions_in (lists_in meta.now raw.now unclassified.now q.lists))) Overflow ∷ []) (refused early)) }
 {
     let n = counts_of(q.lists);

@@ -1,22 +1,22 @@
 -- A step of a save, which makes one store, and steps in a row. Assumes nothing.
 -- In quotes: document 01's words, from "The save" or from the heading named.
 --   Progress      what a step says: that it made a store, with the record after it, or finished
---   step_outcome   the outcome that an answer of the code stands for ("Language forms": "for every case of the enum")
+--   step_outcome  the outcome that an answer of the code stands for ("Language forms": "for every case of the enum")
 --   stores        how many stores a save with L block bytes has: "That is L+126"
---   all_made       all stores of the record's save are made
+--   all_made      all stores of the record's save are made
 --   leaves        message or blocks of the record leave an image of a length, or a scratch of a length lacks bytes of them: "an earlier step
 --                 whose places leave its image or scratch is 13"
 --   Inside        what it means that they do not, for proofs
---   next_store     the store that a step makes ("the stores are, one a step"): number `done` of the save whose blocks are the first bytes of the
+--   next_store    the store that a step makes ("the stores are, one a step"): number `done` of the save whose blocks are the first bytes of the
 --                 scratch and whose message stands after them
---   one_more       the record with one store more
+--   one_more      the record with one store more
 --   stepped       a step: "A step after the last changes nothing and says finished"; before, it is refusal 13 where places leave, and else makes
 --                 one store
 --   Saving        a save's record and image, "as the beginning or the last step left them"
 --   saving        the pair of a record and an image
---   record_after   the record that a step leaves
---   go_on          record and image that a step leaves; after a refusal they are as before
---   step_on        record and image after one step
+--   record_after  the record that a step leaves
+--   go_on         record and image that a step leaves; after a refusal they are as before
+--   step_on       record and image after one step
 --   steps         record and image after k steps in a row: "the image is the one before the save with those k stores made"
 use Rattle.std.specs.Prelude.{ℕ, zero, suc, ◌+◌, ◌≤◌, ◌<◌, Bool, cond, ◌&&◌, ◌||◌, List, [], ◌∷◌, ltb, leb, length, get_or, take}
 use Rattle.error.specs.declared.Refusal.TheVariants.{Place}

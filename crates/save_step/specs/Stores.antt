@@ -1,14 +1,14 @@
 -- Stores of single bytes into an image, and the stores of a save in their order. Assumes nothing.
 -- In quotes: document 01's words, from "The save" or from the heading named.
---   Store, store   a byte and the place in the image that it goes to; the store of a place and a byte
---   no_store      what stands for a store where a list has none
+--   Store, store a byte and the place in the image that it goes to; the store of a place and a byte
+--   no_store     what stands for a store where a list has none
 --   make         the image with a store made ("a byte being stored is old or new, never junk")
---   make_all      the image with stores made, one after another
+--   make_all     the image with stores made, one after another
 --   after        what a cut leaves: the image with "the first k stores" made "and nothing of the others"
 --   ascending    the stores of bytes one after another, from a place up
 --   but          stores without number i of them
 --   persist      which of them is the persist byte: number 2, after version and strategy ("The message")
---   save_stores   the stores of a save: "0 to the persist byte; blocks ascending; message bytes but persist ascending; 1 to persist"
+--   save_stores  the stores of a save: "0 to the persist byte; blocks ascending; message bytes but persist ascending; 1 to persist"
 use Rattle.std.specs.Prelude.{ℕ, suc, ◌+◌, List, [], ◌∷◌, ◌++◌, take, drop, set}
 use Rattle.save_step.specs.declared.Store.{Store}
 

@@ -102,8 +102,8 @@ module _ (xs : List ℕ) (n page : ℕ) where
 
   module _ (ys : List FreeSection) (m : ℕ) (now : Ready (length ys) m) where
     module _ (k i d : ℕ) (here : drop k all ≡ pieces_left page n xs i d) (h : k < m) where
-      pub left-some : 0 < length (pieces_left page n xs i d)
-      left-some = let e : length (drop k all) ≡ length (pieces_left page n xs i d) = ap length here in omega (arith, length-drop k all, now.whole)
+      pub left_some : 0 < length (pieces_left page n xs i d)
+      left_some = let e : length (drop k all) ≡ length (pieces_left page n xs i d) = ap length here in omega (arith, length-drop k all, now.whole)
 
       module _ (p : FreeSection) (j c : ℕ) (cut : pieces_left page n xs i d ≡ p ∷ pieces_left page n xs j c) where
         heads : get_or all k (section 0 0) ∷ drop (suc k) all ≡ p ∷ pieces_left page n xs j c
@@ -115,8 +115,8 @@ module _ (xs : List ℕ) (n page : ℕ) where
         piece_is : get_or all k (section 0 0) ≡ p
         piece_is = let e = heads in cc
 
-        pub store-piece : set (shown ys k) k p ≡ shown ys (suc k)
-        store-piece =
+        pub store_piece : set (shown ys k) k p ≡ shown ys (suc k)
+        store_piece =
             ap (λ (l : List FreeSection). set (take k all ++ l) k p) (drop-cons ys k (section 0 0) (omega (arith, now.space)))
             ∙ set_at (take k all) (get_or ys k (section 0 0)) (drop (suc k) ys) p k (length-take-le k all (omega (arith, now.whole)))
             ∙ sym (append_snoc (take k all) p (drop (suc k) ys))

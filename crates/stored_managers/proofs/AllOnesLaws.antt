@@ -16,45 +16,45 @@ use Rattle.fsm_sections.specs.declared.FreeSection.{FreeSection}
 use Rattle.fsm_blocks.specs.Fshd.{Header, fshd_size, parse_fshd}
 use Rattle.fsm_blocks.specs.Checks.{fshd_checks}
 use Rattle.fsm_blocks.specs.declared.checks.Reading.{Reading}
-use Rattle.fsm_blocks.specs.Reading.{listAt, readNamed, managerAt, readManager}
+use Rattle.fsm_blocks.specs.Reading.{list_at, read_named, manager_at, read_manager}
 use Rattle.fsm_plan.proofs.LimitLaws.{same-at_8}
 use Rattle.stored_managers.specs.AllOnes.{AllOnes}
 use Rattle.stored_managers.proofs.PlanLaws.{plan_is}
 use Rattle.stored_managers.proofs.StoredLaws.{stored_plan}
 
 module _ (how : Reading) (O base : ℕ) (bytes : List ℕ) where
-  slot_skipped : readManager how O base (undefined_addr O) bytes ≡ answer []
-  unfolding readManager
+  slot_skipped : read_manager how O base (undefined_addr O) bytes ≡ answer []
+  unfolding read_manager
   slot_skipped = rw (eq-eqb (undefined_addr O) (undefined_addr O) refl)
 
-  list_skipped : (slot : ℕ) (h : Header) → h.fsse ≡ undefined_addr O → readNamed how O base slot h bytes ≡ answer []
-  unfolding readNamed
+  list_skipped : (slot : ℕ) (h : Header) → h.fsse ≡ undefined_addr O → read_named how O base slot h bytes ≡ answer []
+  unfolding read_named
   list_skipped slot h e = rw (eq-eqb h.fsse (undefined_addr O) e)
 
-  slot-other : (slot : ℕ) → (slot ≡ undefined_addr O → ⊥) → readManager how O base slot bytes ≡ managerAt how O base slot bytes
-  unfolding readManager
+  slot-other : (slot : ℕ) → (slot ≡ undefined_addr O → ⊥) → read_manager how O base slot bytes ≡ manager_at how O base slot bytes
+  unfolding read_manager
   slot-other slot d = rw (ne_eqb slot (undefined_addr O) d)
 
-  list-other : (slot : ℕ) (h : Header) → (h.fsse ≡ undefined_addr O → ⊥) → readNamed how O base slot h bytes ≡ listAt how O base slot h bytes
-  unfolding readNamed
+  list-other : (slot : ℕ) (h : Header) → (h.fsse ≡ undefined_addr O → ⊥) → read_named how O base slot h bytes ≡ list_at how O base slot h bytes
+  unfolding read_named
   list-other slot h d = rw (ne_eqb h.fsse (undefined_addr O) d)
 
-  list-there : (slot : ℕ) (h : Header) (l : List FreeSection) → (h.fsse ≡ undefined_addr O → ⊥) → readNamed how O base slot h bytes ≡ answer l → h.fsse + base + h.used ≤ length bytes
+  list-there : (slot : ℕ) (h : Header) (l : List FreeSection) → (h.fsse ≡ undefined_addr O → ⊥) → read_named how O base slot h bytes ≡ answer l → h.fsse + base + h.used ≤ length bytes
   list-there slot h l d e =
       let q = first_shows _ _ l (sym (list-other slot h d) ∙ e) in
       ltb-false (length bytes) (h.fsse + base + h.used) q.0.1.0
 
-  slot-there : (slot : ℕ) (l : List FreeSection) → (slot ≡ undefined_addr O → ⊥) → readManager how O base slot bytes ≡ answer l → slot + base + fshd_size O ≤ length bytes
+  slot-there : (slot : ℕ) (l : List FreeSection) → (slot ≡ undefined_addr O → ⊥) → read_manager how O base slot bytes ≡ answer l → slot + base + fshd_size O ≤ length bytes
   slot-there slot l d e =
       let q = first_shows _ _ l (sym (slot-other slot d) ∙ e) in
-      let r = then_answers (parse_fshd O (drop (slot + base) bytes)) (λ h. readNamed how O base slot h bytes) l q.1 in
+      let r = then_answers (parse_fshd O (drop (slot + base) bytes)) (λ h. read_named how O base slot h bytes) l q.1 in
       let t = first_shows _ _ r.0 r.1 in
       let k : fshd_size O ≤ length (drop (slot + base) bytes) = ltb-false (length (drop (slot + base) bytes)) (fshd_size O) t.0.0 in
       let i : slot + base ≤ length bytes = ltb-false (length bytes) (slot + base) q.0.1.0 in
       omega (arith, length-drop (slot + base) bytes)
 
   -- 2^64 - 1 lies past all bytes
-  greatest-refused : O < 8 → length bytes < top → readManager how O base top bytes ≡ refused InvalidManager
+  greatest-refused : O < 8 → length bytes < top → read_manager how O base top bytes ≡ refused InvalidManager
   greatest-refused o short =
       let m : O ≤ 7 = omega arith in
       let p : 256 ^ O ≤ 256 ^ 7 = pow-le-pow_right (lit≤ tt) m in
@@ -66,12 +66,12 @@ module _ (how : Reading) (O base : ℕ) (bytes : List ℕ) where
       past false x = first_passes _ InvalidManager _ x refl ∙ first_holds _ InvalidManager _ x (lt-ltb (length bytes) (top + base) (omega arith))
 
 -- at 8 bytes, by computation
-slot-at_8 : (how : Reading) (base slot : ℕ) (bytes : List ℕ) → readManager how 8 base slot bytes ≡ cond (eqb slot top) (answer []) (managerAt how 8 base slot bytes)
-unfolding readManager
+slot-at_8 : (how : Reading) (base slot : ℕ) (bytes : List ℕ) → read_manager how 8 base slot bytes ≡ cond (eqb slot top) (answer []) (manager_at how 8 base slot bytes)
+unfolding read_manager
 slot-at_8 how base slot bytes = refl
 
-list-at_8 : (how : Reading) (base slot : ℕ) (h : Header) (bytes : List ℕ) → readNamed how 8 base slot h bytes ≡ cond (eqb h.fsse top) (answer []) (listAt how 8 base slot h bytes)
-unfolding readNamed
+list-at_8 : (how : Reading) (base slot : ℕ) (h : Header) (bytes : List ℕ) → read_named how 8 base slot h bytes ≡ cond (eqb h.fsse top) (answer []) (list_at how 8 base slot h bytes)
+unfolding read_named
 list-at_8 how base slot h bytes = refl
 
 pub all_ones : AllOnes

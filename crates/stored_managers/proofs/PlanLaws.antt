@@ -20,7 +20,7 @@ use Rattle.fsm_plan.specs.declared.blocks.PagedManagerBlock.{PagedManagerBlock}
 use Rattle.fsm_plan.specs.declared.blocks.PagedManagerPlan.{PagedManagerPlan}
 use Rattle.fsm_plan.specs.declared.blocks.BlocksPlan.{BlocksPlan}
 use Rattle.fsm_plan.specs.Order.{repeats}
-use Rattle.fsm_plan.specs.Blocks.{paged, inLarge, wideSections, slotsMeasured, end_at, managers_at, blocks_at, wide_block, wide_managers, runTests, plannedFrom, plannedBelow, plannedBlocks}
+use Rattle.fsm_plan.specs.Blocks.{paged, in_large, wide_sections, slots_measured, end_at, managers_at, blocks_at, wide_block, wide_managers, run_tests, planned_from, planned_below, planned_blocks}
 use Rattle.stored_managers.specs.AllOnes.{begins_at, any_begins_at}
 
 -- ---- an address that is not below a limit is the limit, or not below the next
@@ -84,23 +84,23 @@ module _ (a b c : List ℕ) (start O : ℕ) where
   abbrev test : BlocksPlan → Outcome BlocksPlan
   test p = first_of (when (any_begins_at (undefined_addr O) p.managers) WideAddress ∷ []) (answer p)
 
-  from_is : (s : Paged) (m : Measures) → plannedFrom a b c (undefined_addr O) s m start O ≡ and_then (plannedFrom a b c (256 ^ O) s m start O) test
-  unfolding plannedFrom and_then
+  from_is : (s : Paged) (m : Measures) → planned_from a b c (undefined_addr O) s m start O ≡ and_then (planned_from a b c (256 ^ O) s m start O) test
+  unfolding planned_from and_then
   from_is s m =
       let q = managers_at O start m in
       let l = ltb top (end_at start m) in
-      let r = repeats (inLarge s a b c) in
-      let w = wideSections s a b c O in
+      let r = repeats (in_large s a b c) in
+      let w = wide_sections s a b c O in
       let x = blocks_at O start m in
       rw (managers_next (256 ^ O) (some_power O) q)
       (later l r (wide_managers (256 ^ O) q) (any_begins_at (undefined_addr O) q) w x
       ∙ sym (then_first (when l Overflow ∷ when r SharedAddress ∷ when (wide_managers (256 ^ O) q || w) WideAddress ∷ []) (answer x) test))
 
-  pub plan_is : (n : Counts) (page : ℕ) → plannedBlocks a b c n page start O ≡ and_then (plannedBelow a b c (256 ^ O) n page start O) test
-  unfolding plannedBlocks
+  pub plan_is : (n : Counts) (page : ℕ) → planned_blocks a b c n page start O ≡ and_then (planned_below a b c (256 ^ O) n page start O) test
+  unfolding planned_blocks
   plan_is n page =
       let s = paged n page in
-      ap (first_of (runTests a b c n page O))
-      (then_same (slotsMeasured s a b c O) _ _ (from_is s)
-      ∙ sym (then_then (slotsMeasured s a b c O) (λ m. plannedFrom a b c (256 ^ O) s m start O) test))
-      ∙ sym (then_first (runTests a b c n page O) _ test)
+      ap (first_of (run_tests a b c n page O))
+      (then_same (slots_measured s a b c O) _ _ (from_is s)
+      ∙ sym (then_then (slots_measured s a b c O) (λ m. planned_from a b c (256 ^ O) s m start O) test))
+      ∙ sym (then_first (run_tests a b c n page O) _ test)

@@ -22,13 +22,13 @@ use Rattle.fsm_sections.specs.declared.FreeSection.{FreeSection}
 use Rattle.fsm_sections.specs.Sections.{by_size_then_addr, All}
 use Rattle.fsm_blocks.specs.Fshd.{fshd_row, fshd_bytes, fshd_size}
 use Rattle.fsm_blocks.specs.Groups.{SectionFits}
-use Rattle.fsm_blocks.specs.Settings.{Settings, widthsFor, headerFor, fsseFor, fsseUsed}
+use Rattle.fsm_blocks.specs.Settings.{Settings, widths_for, header_for, fsse_for, fsse_used}
 use Rattle.fsm_blocks.specs.declared.checks.Reading.{Reading}
-use Rattle.fsm_blocks.specs.Reading.{readManager, read_slots}
+use Rattle.fsm_blocks.specs.Reading.{read_manager, read_slots}
 use Rattle.fsm_blocks.proofs.WrittenLaws.{length_fshd}
-use Rattle.fsm_blocks.proofs.ImageLaws.{manager-read, slots-none, slots-more}
-use Rattle.fsm_plan.specs.Managers.{Manager, manager, managerSize, size_of, slotsFrom, managerBytes, blocks_from}
-use Rattle.fsm_plan.proofs.PlannedLaws.{filled, pairSize, pairBytes, length-list, length_both, length-manager, length_blocks}
+use Rattle.fsm_blocks.proofs.ImageLaws.{manager_read, slots-none, slots-more}
+use Rattle.fsm_plan.specs.Managers.{Manager, manager, manager_size, size_of, slots_from, manager_bytes, blocks_from}
+use Rattle.fsm_plan.proofs.PlannedLaws.{filled, pair_size, pair_bytes, length-list, length_both, length-manager, length_blocks}
 
 -- ---- two runs that stand side by side
 
@@ -46,66 +46,66 @@ sorted m = by_size_then_addr m.sections
 
 module _ (O : ℕ) (set : Settings) (base : ℕ) where
   pub record ManagerFits (a : ℕ) (l : List FreeSection) : Type 0 where
-    pub room : a + base + (fshd_size O + fsseUsed O set l) ≤ top
+    pub room : a + base + (fshd_size O + fsse_used O set l) ≤ top
     pub defined : a + fshd_size O < undefined_addr O
-    pub header : All FieldFits (fshd_row O (headerFor O set (a + fshd_size O) l))
-    pub bits-some : 0 < set.bits
+    pub header : All FieldFits (fshd_row O (header_for O set (a + fshd_size O) l))
+    pub bits_some : 0 < set.bits
     pub bits-few : set.bits ≤ 64
-    pub sections-fit : All (SectionFits (widthsFor O set (length l))) l
+    pub sections-fit : All (SectionFits (widths_for O set (length l))) l
 
   abbrev pub PlanFits : ℕ → List Manager → Type 0
   PlanFits a [] = Unit {0}
-  PlanFits a (m ∷ ms) = (0 < length m.sections → ManagerFits a m.sections) × PlanFits (a + managerSize O set m) ms
+  PlanFits a (m ∷ ms) = (0 < length m.sections → ManagerFits a m.sections) × PlanFits (a + manager_size O set m) ms
 
   module _ (how : Reading) (image : List ℕ) where
     -- FSHD at a with its FSSE after it
-    pair_read : (a class : ℕ) (l : List FreeSection) → window (a + base) (pairSize O set l) image ≡ pairBytes O set lookup3 a class l → ManagerFits a l
-        → readManager how O base a image ≡ answer (by_size_then_addr l)
+    pair_read : (a class : ℕ) (l : List FreeSection) → window (a + base) (pair_size O set l) image ≡ pair_bytes O set lookup3 a class l → ManagerFits a l
+        → read_manager how O base a image ≡ answer (by_size_then_addr l)
     pair_read a class l e f =
-        let u : ℕ = fsseUsed O set l + set.surplus in
-        let A : List ℕ = fshd_bytes lookup3 O (headerFor O set (a + fshd_size O) l) in
-        let B : List ℕ = fsseFor O set lookup3 a class l in
+        let u : ℕ = fsse_used O set l + set.surplus in
+        let A : List ℕ = fshd_bytes lookup3 O (header_for O set (a + fshd_size O) l) in
+        let B : List ℕ = fsse_for O set lookup3 a class l in
         let Z : List ℕ = replicate set.surplus 0 in
-        let lenA : length A ≡ fshd_size O = length_fshd lookup3 O (headerFor O set (a + fshd_size O) l) in
-        let lenB : length B ≡ fsseUsed O set l = length-list O set lookup3 a class l in
+        let lenA : length A ≡ fshd_size O = length_fshd lookup3 O (header_for O set (a + fshd_size O) l) in
+        let lenB : length B ≡ fsse_used O set l = length-list O set lookup3 a class l in
         let lenBZ : length (B ++ Z) ≡ u = length_both O set lookup3 a class l in
         let list-there : window (a + base + fshd_size O) u image ≡ B ++ Z = second-stands (a + base) (fshd_size O) u image A (B ++ Z) e lenA lenBZ in
         let order : a + fshd_size O + base ≡ a + base + fshd_size O = omega arith in
-        manager-read O base set a (a + fshd_size O) class l image (record {
+        manager_read O base set a (a + fshd_size O) class l image (record {
           slot_defined = λ z. omega (arith, f.defined);
           fsse_defined = λ z. omega (arith, f.defined);
           slot-fits = omega (arith, f.defined);
           slot_near = omega (arith, f.room);
           fsse_near = omega (arith, f.room);
-          header-fits = f.header;
-          bits-some = f.bits-some;
+          header_fits = f.header;
+          bits_some = f.bits_some;
           bits-few = f.bits-few;
           sections-fit = f.sections-fit;
-          header-there = first-stands (a + base) (fshd_size O) u image A (B ++ Z) e lenA lenBZ;
-          list-there = ap (λ (q : ℕ). window q (fsseUsed O set l) image) order
-              ∙ first-stands (a + base + fshd_size O) (fsseUsed O set l) set.surplus image B Z list-there lenB (length-replicate set.surplus 0);
+          header_there = first-stands (a + base) (fshd_size O) u image A (B ++ Z) e lenA lenBZ;
+          list-there = ap (λ (q : ℕ). window q (fsse_used O set l) image) order
+              ∙ first-stands (a + base + fshd_size O) (fsse_used O set l) set.surplus image B Z list-there lenB (length-replicate set.surplus 0);
         }) how
 
-    slot_read : (a class : ℕ) (l : List FreeSection) → window (a + base) (managerSize O set (manager class l)) image ≡ managerBytes O set lookup3 a (manager class l)
-        → (0 < length l → ManagerFits a l) → readManager how O base (cond (eqb (length l) 0) (undefined_addr O) a) image ≡ answer (by_size_then_addr l)
-    unfolding by_size_then_addr readManager
+    slot_read : (a class : ℕ) (l : List FreeSection) → window (a + base) (manager_size O set (manager class l)) image ≡ manager_bytes O set lookup3 a (manager class l)
+        → (0 < length l → ManagerFits a l) → read_manager how O base (cond (eqb (length l) 0) (undefined_addr O) a) image ≡ answer (by_size_then_addr l)
+    unfolding by_size_then_addr read_manager
     slot_read a class [] e f = rw (eq-eqb (undefined_addr O) (undefined_addr O) refl)
     slot_read a class (s ∷ l) e f = rw (filled s l) (pair_read a class (s ∷ l) (rw (filled s l) at e) (f (zero-lt-suc (length l))))
 
     -- each slot of managers whose blocks stand in the image, one after another
     pub slots_read : (ms : List Manager) (a : ℕ) → window (a + base) (size_of O set ms) image ≡ blocks_from O set lookup3 a ms → PlanFits a ms
-        → read_slots how O base (slotsFrom O set a ms) image ≡ answer (map sorted ms)
-    unfolding size_of slotsFrom blocks_from
+        → read_slots how O base (slots_from O set a ms) image ≡ answer (map sorted ms)
+    unfolding size_of slots_from blocks_from
     slots_read [] a e f = slots-none how O base image
     slots_read (m ∷ ms) a e f =
-        let z : ℕ = managerSize O set m in
-        let M : List ℕ = managerBytes O set lookup3 a m in
+        let z : ℕ = manager_size O set m in
+        let M : List ℕ = manager_bytes O set lookup3 a m in
         let B : List ℕ = blocks_from O set lookup3 (a + z) ms in
         let lenM : length M ≡ z = length-manager O set lookup3 a m.class m.sections in
         let lenB : length B ≡ size_of O set ms = length_blocks O set lookup3 ms (a + z) in
         let order : a + z + base ≡ a + base + z = omega arith in
         let rest : window (a + z + base) (size_of O set ms) image ≡ B =
         ap (λ (q : ℕ). window q (size_of O set ms) image) order ∙ second-stands (a + base) z (size_of O set ms) image M B e lenM lenB in
-        slots-more how O base image _ (slotsFrom O set (a + z) ms) (sorted m) (map sorted ms)
+        slots-more how O base image _ (slots_from O set (a + z) ms) (sorted m) (map sorted ms)
         (slot_read a m.class m.sections (first-stands (a + base) z (size_of O set ms) image M B e lenM lenB) f.0)
         (slots_read ms (a + z) rest f.1)

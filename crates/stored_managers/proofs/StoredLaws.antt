@@ -21,7 +21,7 @@ use Rattle.fsm_sections.specs.declared.FreeSection.{FreeSection}
 use Rattle.fsm_sections.specs.Sections.{decode, flat, space}
 use Rattle.fsm_sections.specs.Runs.{any_wide}
 use Rattle.fsm_blocks.specs.Fshd.{fshd_size}
-use Rattle.fsm_blocks.specs.Settings.{starting_set, fsseUsed, blocks_size}
+use Rattle.fsm_blocks.specs.Settings.{starting_set, fsse_used, blocks_size}
 use Rattle.fsm_blocks.specs.declared.checks.Reading.{Reading}
 use Rattle.fsm_blocks.specs.Reading.{read_slots, joined, persisted}
 use Rattle.fsm_blocks.proofs.ImageLaws.{held}
@@ -32,14 +32,14 @@ use Rattle.fsm_plan.specs.declared.blocks.Measures.{Measures}
 use Rattle.fsm_plan.specs.declared.blocks.PagedManagerBlock.{PagedManagerBlock}
 use Rattle.fsm_plan.specs.declared.blocks.PagedManagerPlan.{PagedManagerPlan}
 use Rattle.fsm_plan.specs.declared.blocks.BlocksPlan.{BlocksPlan}
-use Rattle.fsm_plan.specs.Managers.{manager, managerSize, slotsFrom}
-use Rattle.fsm_plan.specs.Blocks.{paged, inSlot0, inSlot2, inLarge, measure_of, measuresOf, block_at, managers_at, wide_block, plannedBlocks}
+use Rattle.fsm_plan.specs.Managers.{manager, manager_size, slots_from}
+use Rattle.fsm_plan.specs.Blocks.{paged, in_slot0, in_slot2, in_large, measure_of, measures_of, block_at, managers_at, wide_block, planned_blocks}
 use Rattle.fsm_plan.proofs.BlocksLaws.{Accepted, accepted}
 use Rattle.fsm_plan.proofs.LimitLaws.{block_below}
 use Rattle.fsm_plan.proofs.PlannedLaws.{size_is, plan_size, plan_slots, length_blocks}
-use Rattle.fsm_writer.specs.Paged.{managersIn, managersBytes}
+use Rattle.fsm_writer.specs.Paged.{managers_in, managers_bytes}
 use Rattle.fsm_writer.proofs.RoundTripLaws.{row_fits, sections-fit}
-use Rattle.stored_managers.specs.Storing.{stored_in, stored_slots, sectionsBySlot}
+use Rattle.stored_managers.specs.Storing.{stored_in, stored_slots, sections_by_slot}
 use Rattle.stored_managers.specs.AllOnes.{Begins, StoredPlan}
 use Rattle.stored_managers.proofs.SlotsLaws.{ManagerFits, PlanFits, slots_read}
 
@@ -72,20 +72,20 @@ stored_head O l x h f = pick (eqb (length l) 0) (eqb-false (length l) 0)
 
 -- ---- the blocks of a slot fit
 
-pub pair_fits : (O base a : ℕ) (l : List FreeSection) → 1 ≤ O → O ≤ 8 → a + base + (fshd_size O + fsseUsed O (starting_set O) l) ≤ top → a + fshd_size O < undefined_addr O
+pub pair_fits : (O base a : ℕ) (l : List FreeSection) → 1 ≤ O → O ≤ 8 → a + base + (fshd_size O + fsse_used O (starting_set O) l) ≤ top → a + fshd_size O < undefined_addr O
     → space l ≤ top → any_wide O l ≡ false → ManagerFits O (starting_set O) base a l
 pair_fits O base a l low high room below small narrow = record {
   room = room;
   defined = below;
   header = row_fits O (a + fshd_size O) l high (omega arith) small (omega arith);
-  bits-some = omega arith;
+  bits_some = omega arith;
   bits-few = omega arith;
   sections-fit = rw (widths_are O (length l)) (sections-fit (enc_size (length l)) O l narrow small);
 }
 
 -- ---- an accepted plan
 
-module _ (a b c : List ℕ) (n : Counts) (page start O : ℕ) (p : BlocksPlan) (e : plannedBlocks a b c n page start O ≡ answer p) where
+module _ (a b c : List ℕ) (n : Counts) (page start O : ℕ) (p : BlocksPlan) (e : planned_blocks a b c n page start O ≡ answer p) where
   abbrev s : Paged
   s = paged n page
 
@@ -93,16 +93,16 @@ module _ (a b c : List ℕ) (n : Counts) (page start O : ℕ) (p : BlocksPlan) (
   h = accepted a b c n page start O p e
 
   abbrev l0 : List FreeSection
-  l0 = inSlot0 s a b c
+  l0 = in_slot0 s a b c
 
   abbrev l2 : List FreeSection
-  l2 = inSlot2 s a b c
+  l2 = in_slot2 s a b c
 
   abbrev l6 : List FreeSection
-  l6 = inLarge s a b c
+  l6 = in_large s a b c
 
   abbrev m : Measures
-  m = measuresOf s a b c O
+  m = measures_of s a b c O
 
   abbrev q : PagedManagerPlan
   q = managers_at O start m
@@ -120,7 +120,7 @@ module _ (a b c : List ℕ) (n : Counts) (page start O : ℕ) (p : BlocksPlan) (
   low : (l : List FreeSection) (class x : ℕ) → wide_block limit (block_at O class x (measure_of O l)) ≡ false → (length l ≡ 0 → ⊥) → x + fshd_size O < limit
   low l class x w some = subst (λ (y : ℕ). y < limit) (rw (ne_eqb (length l) 0 some)) (block_below limit (block_at O class x (measure_of O l)) some w).1
 
-  slots_are : stored_slots O p.managers ≡ slotsFrom O (starting_set O) start (managersIn a b c n page)
+  slots_are : stored_slots O p.managers ≡ slots_from O (starting_set O) start (managers_in a b c n page)
   slots_are =
       let o = h.tested.high in
       let z = stored_ones O o in
@@ -133,11 +133,11 @@ module _ (a b c : List ℕ) (n : Counts) (page start O : ℕ) (p : BlocksPlan) (
   -- ---- its blocks in bytes
 
   abbrev blocks : List ℕ
-  blocks = managersBytes a b c n page start O
+  blocks = managers_bytes a b c n page start O
 
   total : length blocks ≡ blocks_size O l0 + blocks_size O l2 + blocks_size O l6
   total =
-      length_blocks O (starting_set O) lookup3 (managersIn a b c n page) start
+      length_blocks O (starting_set O) lookup3 (managers_in a b c n page) start
       ∙ plan_size O page (decode n.meta a) (decode n.raw b) (decode n.unclassified c)
 
   module _ (base : ℕ) (bytes : List ℕ) (short : length bytes < 2 ^ 64) (there : window (start + base) (length blocks) bytes ≡ blocks) where
@@ -149,12 +149,12 @@ module _ (a b c : List ℕ) (n : Counts) (page start O : ℕ) (p : BlocksPlan) (
         let r : 0 < length blocks → start + base + length blocks ≤ length bytes = held (start + base) (length blocks) bytes blocks there refl in
         pair_fits O base y l h.tested.low h.tested.high (omega (arith, z, r (omega (arith, z)))) (omega (arith, low l class x w k)) small wide
 
-    fits : PlanFits O (starting_set O) base start (managersIn a b c n page)
+    fits : PlanFits O (starting_set O) base start (managers_in a b c n page)
     fits =
         let x2 = start + blocks_size O l0 in
         let x6 = start + blocks_size O l0 + blocks_size O l2 in
-        let y2 = start + managerSize O (starting_set O) (manager 1 l0) + 0 in
-        let y6 = y2 + managerSize O (starting_set O) (manager 1 l2) + 0 + 0 + 0 in
+        let y2 = start + manager_size O (starting_set O) (manager 1 l0) + 0 in
+        let y6 = y2 + manager_size O (starting_set O) (manager 1 l2) + 0 + 0 + 0 in
         let f0 = slot-fits l0 1 start start refl h.low0 h.sum0 h.narrow0 (omega arith) (omega (arith, total)) in
         let f2 = slot-fits l2 1 x2 y2 (omega (arith, size_is O 1 l0)) h.low2 h.sum2 h.narrow2 (omega arith) (omega (arith, total)) in
         let f6 = slot-fits l6 2 x6 y6 (omega (arith, size_is O 1 l0, size_is O 1 l2)) h.low6 h.sum6 h.narrow6 (omega arith) (omega (arith, total)) in
@@ -163,14 +163,14 @@ module _ (a b c : List ℕ) (n : Counts) (page start O : ℕ) (p : BlocksPlan) (
         none : {y : ℕ} → 0 < 0 → ManagerFits O (starting_set O) base y []
         none k = absurd (omega arith)
 
-    reads : (how : Reading) → read_slots how O base (stored_slots O p.managers) bytes ≡ answer (sectionsBySlot a b c n page)
+    reads : (how : Reading) → read_slots how O base (stored_slots O p.managers) bytes ≡ answer (sections_by_slot a b c n page)
     reads how =
         rw slots_are
-        (slots_read O (starting_set O) base how bytes (managersIn a b c n page) start
-        (rw (← length_blocks O (starting_set O) lookup3 (managersIn a b c n page) start) there) fits)
+        (slots_read O (starting_set O) base how bytes (managers_in a b c n page) start
+        (rw (← length_blocks O (starting_set O) lookup3 (managers_in a b c n page) start) there) fits)
 
     abbrev all : List FreeSection
-    all = joined (sectionsBySlot a b c n page)
+    all = joined (sections_by_slot a b c n page)
 
     reads_into : (how : Reading) (out : List ℕ) → length out % 2 ≡ 0 → length all ≤ length out / 2
         → persisted how (stored_slots O p.managers) base O bytes out ≡ answer (with (length all) (over 0 (flat all) out))
@@ -185,5 +185,5 @@ module _ (a b c : List ℕ) (n : Counts) (page start O : ℕ) (p : BlocksPlan) (
     begins6 = begins (λ x. x.slot6) h.low6;
     slots = slots_are;
     read = λ how base bytes short there. reads base bytes short there how;
-    persisted-read = λ how base bytes short there. reads_into base bytes short there how;
+    persisted_read = λ how base bytes short there. reads_into base bytes short there how;
   }

@@ -21,10 +21,10 @@ use Rattle.fsm_blocks.proofs.LengthLaws.{part_back}
 use Rattle.fsm_plan.specs.declared.Counts.{Counts}
 use Rattle.fsm_plan.specs.declared.blocks.BlocksPlan.{BlocksPlan}
 use Rattle.fsm_plan.specs.Managers.{size_of}
-use Rattle.fsm_plan.specs.Blocks.{plannedBlocks}
+use Rattle.fsm_plan.specs.Blocks.{planned_blocks}
 use Rattle.fsm_plan.proofs.PlannedLaws.{length_blocks}
-use Rattle.fsm_writer.specs.Paged.{managersIn, managersBytes, writtenManagers}
-use Rattle.stored_managers.specs.Storing.{stored_slots, sectionsBySlot, storedManagers}
+use Rattle.fsm_writer.specs.Paged.{managers_in, managers_bytes, written_managers}
+use Rattle.stored_managers.specs.Storing.{stored_slots, sections_by_slot, stored_managers}
 use Rattle.stored_managers.proofs.StoredLaws.{stored_plan}
 
 -- ---- a run that is written over bytes
@@ -52,29 +52,29 @@ cut-place i r k n h e f = omega arith
 
 module _ (a b c : List ℕ) (n : Counts) (page start base O : ℕ) (bytes : List ℕ) (k : ℕ) (ke : k ≡ min (start + base) (length bytes)) where
   abbrev blocks : List ℕ
-  blocks = managersBytes a b c n page start O
+  blocks = managers_bytes a b c n page start O
 
   abbrev rest : List ℕ
   rest = drop (start + base) bytes
 
   abbrev written : List ℕ → Outcome (With BlocksPlan (List ℕ))
-  written = writtenManagers a b c n page start O
+  written = written_managers a b c n page start O
 
   record Wrote (w : With BlocksPlan (List ℕ)) : Type 0 where
-    plan : plannedBlocks a b c n page start O ≡ answer w.value
+    plan : planned_blocks a b c n page start O ≡ answer w.value
     room : length blocks ≤ length rest
     memory : w.memory ≡ over 0 blocks rest
 
   wrote : (w : With BlocksPlan (List ℕ)) → written rest ≡ answer w → Wrote w
-  unfolding writtenManagers
+  unfolding written_managers
   wrote w e =
-      let q = then_answers (plannedBlocks a b c n page start O) _ w e in
+      let q = then_answers (planned_blocks a b c n page start O) _ w e in
       let r = first_answers _ _ w q.2 in
       let v : q.0 ≡ w.value = ap (λ (x : With BlocksPlan (List ℕ)). x.value) r.1 in
       record {
         plan = q.1 ∙ ap answer v;
-        room = let l = ltb-false (length rest) (size_of O (starting_set O) (managersIn a b c n page)) r.0.0 in
-            omega (arith, length_blocks O (starting_set O) lookup3 (managersIn a b c n page) start);
+        room = let l = ltb-false (length rest) (size_of O (starting_set O) (managers_in a b c n page)) r.0.0 in
+            omega (arith, length_blocks O (starting_set O) lookup3 (managers_in a b c n page) start);
         memory = sym (ap (λ (x : With BlocksPlan (List ℕ)). x.memory) r.1);
       }
 
@@ -98,33 +98,33 @@ module _ (a b c : List ℕ) (n : Counts) (page start base O : ℕ) (bytes : List
     memory-is : {x : Left BlocksPlan (List ℕ)} → left o ys ≡ x → ys ≡ x.memory
     memory-is e = ap (λ (x : Left BlocksPlan (List ℕ)). x.memory) e
 
-    after-over : (vs : List ℕ) → ys ≡ over 0 vs rest → after ≡ over (start + base) vs bytes
-    after-over vs e = part_back bytes ys vs k (e ∙ ap (over 0 vs) (sym part_is)) ∙ cut-over (start + base) k bytes ke vs
+    after_over : (vs : List ℕ) → ys ≡ over 0 vs rest → after ≡ over (start + base) vs bytes
+    after_over vs e = part_back bytes ys vs k (e ∙ ap (over 0 vs) (sym part_is)) ∙ cut-over (start + base) k bytes ke vs
 
     unchanged : ys ≡ rest → after ≡ bytes
-    unchanged e = after-over [] (e ∙ sym (over-nil 0 rest)) ∙ over-nil (start + base) bytes
+    unchanged e = after_over [] (e ∙ sym (over-nil 0 rest)) ∙ over-nil (start + base) bytes
 
-    pub stored_is : left o after ≡ leaving bytes (storedManagers a b c n page start base O bytes)
-    unfolding storedManagers and_then
+    pub stored_is : left o after ≡ leaving bytes (stored_managers a b c n page start base O bytes)
+    unfolding stored_managers and_then
     stored_is = go (written rest) refl shown
       where
         go : (x : Outcome (With BlocksPlan (List ℕ))) → written rest ≡ x → left o ys ≡ leaving rest x
             → left o after ≡ leaving bytes (and_then x (λ w. answer (with w.value (over (start + base) blocks bytes))))
-        go (answer w) e s = λ i. left (outcome-is s i) (after-over blocks (memory-is s ∙ (wrote w e).memory) i)
+        go (answer w) e s = λ i. left (outcome-is s i) (after_over blocks (memory-is s ∙ (wrote w e).memory) i)
         go nothing e s = λ i. left (outcome-is s i) (unchanged (memory-is s) i)
         go (refuse m vs) e s = λ i. left (outcome-is s i) (unchanged (memory-is s) i)
 
     pub stored_reads : length bytes < 2 ^ 64 → (how : Reading) (p : BlocksPlan) → o ≡ answer p
-        → read_slots how O base (stored_slots O p.managers) after ≡ answer (sectionsBySlot a b c n page)
+        → read_slots how O base (stored_slots O p.managers) after ≡ answer (sections_by_slot a b c n page)
     stored_reads short how p oe = go (written rest) refl shown
       where
         go : (x : Outcome (With BlocksPlan (List ℕ))) → written rest ≡ x → left o ys ≡ leaving rest x
-            → read_slots how O base (stored_slots O p.managers) after ≡ answer (sectionsBySlot a b c n page)
+            → read_slots how O base (stored_slots O p.managers) after ≡ answer (sections_by_slot a b c n page)
         go (answer w) e s =
             let q = wrote w e in
             let v : answer w.value ≡ answer p = sym (outcome-is s) ∙ oe in
             let u : w.value ≡ p = cc in
-            let g : after ≡ over (start + base) blocks bytes = after-over blocks (memory-is s ∙ q.memory) in
+            let g : after ≡ over (start + base) blocks bytes = after_over blocks (memory-is s ∙ q.memory) in
             let z : length after ≡ length bytes = ap length g ∙ length_over (start + base) blocks bytes in
             let f = stored_plan a b c n page start O p (q.plan ∙ ap answer u) in
             f.read how base after (omega arith) (ap (window (start + base) (length blocks)) g ∙ there (start + base) blocks bytes q.room)

@@ -23,15 +23,15 @@ use Rattle.fsm_sections.specs.Sections.{flat}
 use Rattle.fsm_blocks.specs.Fshd.{Header, fshd_size}
 use Rattle.fsm_blocks.specs.Settings.{starting_set}
 use Rattle.fsm_blocks.specs.declared.checks.Reading.{Reading}
-use Rattle.fsm_blocks.specs.Reading.{listAt, readNamed, managerAt, readManager, read_slots, joined, persisted}
+use Rattle.fsm_blocks.specs.Reading.{list_at, read_named, manager_at, read_manager, read_slots, joined, persisted}
 use Rattle.fsm_plan.specs.declared.Counts.{Counts}
 use Rattle.fsm_plan.specs.declared.blocks.PagedManagerBlock.{PagedManagerBlock}
 use Rattle.fsm_plan.specs.declared.blocks.PagedManagerPlan.{PagedManagerPlan}
 use Rattle.fsm_plan.specs.declared.blocks.BlocksPlan.{BlocksPlan}
-use Rattle.fsm_plan.specs.Managers.{slotsFrom}
-use Rattle.fsm_plan.specs.Blocks.{plannedBelow, plannedBlocks}
-use Rattle.fsm_writer.specs.Paged.{managersIn, managersBytes}
-use Rattle.stored_managers.specs.Storing.{stored_slots, sectionsBySlot}
+use Rattle.fsm_plan.specs.Managers.{slots_from}
+use Rattle.fsm_plan.specs.Blocks.{planned_below, planned_blocks}
+use Rattle.fsm_writer.specs.Paged.{managers_in, managers_bytes}
+use Rattle.stored_managers.specs.Storing.{stored_slots, sections_by_slot}
 
 abbrev pub Begins : ℕ → PagedManagerBlock → Type 0
 Begins O b = (b.count ≡ 0 → ⊥) → (b.fshd_addr < undefined_addr O) × (b.fsse_addr < undefined_addr O)
@@ -39,19 +39,19 @@ Begins O b = (b.count ≡ 0 → ⊥) → (b.fshd_addr < undefined_addr O) × (b.
 -- a, b and c are runs of metadata, raw and unclassified regions, n says how many each has
 module _ (a b c : List ℕ) (n : Counts) (page start O : ℕ) where
   abbrev pub blocks : List ℕ
-  blocks = managersBytes a b c n page start O
+  blocks = managers_bytes a b c n page start O
 
   abbrev pub sections : List FreeSection
-  sections = joined (sectionsBySlot a b c n page)
+  sections = joined (sections_by_slot a b c n page)
 
   pub record StoredPlan (p : BlocksPlan) : Type 0 where
     pub begins0 : Begins O p.managers.slot0
     pub begins2 : Begins O p.managers.slot2
     pub begins6 : Begins O p.managers.slot6
-    pub slots : stored_slots O p.managers ≡ slotsFrom O (starting_set O) start (managersIn a b c n page)
+    pub slots : stored_slots O p.managers ≡ slots_from O (starting_set O) start (managers_in a b c n page)
     pub read : (how : Reading) (base : ℕ) (bytes : List ℕ) → length bytes < 2 ^ 64 → window (start + base) (length blocks) bytes ≡ blocks
-        → read_slots how O base (stored_slots O p.managers) bytes ≡ answer (sectionsBySlot a b c n page)
-    pub persisted-read : (how : Reading) (base : ℕ) (bytes : List ℕ) → length bytes < 2 ^ 64 → window (start + base) (length blocks) bytes ≡ blocks
+        → read_slots how O base (stored_slots O p.managers) bytes ≡ answer (sections_by_slot a b c n page)
+    pub persisted_read : (how : Reading) (base : ℕ) (bytes : List ℕ) → length bytes < 2 ^ 64 → window (start + base) (length blocks) bytes ≡ blocks
         → (out : List ℕ) → length out % 2 ≡ 0 → length sections ≤ length out / 2
         → persisted how (stored_slots O p.managers) base O bytes out ≡ answer (with (length sections) (over 0 (flat sections) out))
 
@@ -62,20 +62,20 @@ abbrev pub any_begins_at : ℕ → PagedManagerPlan → Bool
 any_begins_at x p = begins_at x p.slot0 || (begins_at x p.slot2 || begins_at x p.slot6)
 
 pub record AllOnes : Type 0 where
-  pub slot_skipped : (how : Reading) (O base : ℕ) (bytes : List ℕ) → readManager how O base (undefined_addr O) bytes ≡ answer []
-  pub slot-other : (how : Reading) (O base slot : ℕ) (bytes : List ℕ) → (slot ≡ undefined_addr O → ⊥) → readManager how O base slot bytes ≡ managerAt how O base slot bytes
-  pub slot-there : (how : Reading) (O base slot : ℕ) (bytes : List ℕ) (l : List FreeSection) → (slot ≡ undefined_addr O → ⊥) → readManager how O base slot bytes ≡ answer l
+  pub slot_skipped : (how : Reading) (O base : ℕ) (bytes : List ℕ) → read_manager how O base (undefined_addr O) bytes ≡ answer []
+  pub slot-other : (how : Reading) (O base slot : ℕ) (bytes : List ℕ) → (slot ≡ undefined_addr O → ⊥) → read_manager how O base slot bytes ≡ manager_at how O base slot bytes
+  pub slot-there : (how : Reading) (O base slot : ℕ) (bytes : List ℕ) (l : List FreeSection) → (slot ≡ undefined_addr O → ⊥) → read_manager how O base slot bytes ≡ answer l
       → slot + base + fshd_size O ≤ length bytes
-  pub list_skipped : (how : Reading) (O base slot : ℕ) (h : Header) (bytes : List ℕ) → h.fsse ≡ undefined_addr O → readNamed how O base slot h bytes ≡ answer []
-  pub list-other : (how : Reading) (O base slot : ℕ) (h : Header) (bytes : List ℕ) → (h.fsse ≡ undefined_addr O → ⊥) → readNamed how O base slot h bytes ≡ listAt how O base slot h bytes
-  pub list-there : (how : Reading) (O base slot : ℕ) (h : Header) (bytes : List ℕ) (l : List FreeSection) → (h.fsse ≡ undefined_addr O → ⊥) → readNamed how O base slot h bytes ≡ answer l
+  pub list_skipped : (how : Reading) (O base slot : ℕ) (h : Header) (bytes : List ℕ) → h.fsse ≡ undefined_addr O → read_named how O base slot h bytes ≡ answer []
+  pub list-other : (how : Reading) (O base slot : ℕ) (h : Header) (bytes : List ℕ) → (h.fsse ≡ undefined_addr O → ⊥) → read_named how O base slot h bytes ≡ list_at how O base slot h bytes
+  pub list-there : (how : Reading) (O base slot : ℕ) (h : Header) (bytes : List ℕ) (l : List FreeSection) → (h.fsse ≡ undefined_addr O → ⊥) → read_named how O base slot h bytes ≡ answer l
       → h.fsse + base + h.used ≤ length bytes
-  pub greatest-refused : (how : Reading) (O base : ℕ) (bytes : List ℕ) → O < 8 → length bytes < top → readManager how O base top bytes ≡ refused InvalidManager
-  pub stored : (a b c : List ℕ) (n : Counts) (page start O : ℕ) (p : BlocksPlan) → plannedBlocks a b c n page start O ≡ answer p
+  pub greatest-refused : (how : Reading) (O base : ℕ) (bytes : List ℕ) → O < 8 → length bytes < top → read_manager how O base top bytes ≡ refused InvalidManager
+  pub stored : (a b c : List ℕ) (n : Counts) (page start O : ℕ) (p : BlocksPlan) → planned_blocks a b c n page start O ≡ answer p
       → StoredPlan a b c n page start O p
-  pub plan_is : (a b c : List ℕ) (n : Counts) (page start O : ℕ) → plannedBlocks a b c n page start O
-      ≡ and_then (plannedBelow a b c (256 ^ O) n page start O)
+  pub plan_is : (a b c : List ℕ) (n : Counts) (page start O : ℕ) → planned_blocks a b c n page start O
+      ≡ and_then (planned_below a b c (256 ^ O) n page start O)
       (λ p. first_of (when (any_begins_at (undefined_addr O) p.managers) WideAddress ∷ []) (answer p))
-  pub slot-at_8 : (how : Reading) (base slot : ℕ) (bytes : List ℕ) → readManager how 8 base slot bytes ≡ cond (eqb slot top) (answer []) (managerAt how 8 base slot bytes)
-  pub list-at_8 : (how : Reading) (base slot : ℕ) (h : Header) (bytes : List ℕ) → readNamed how 8 base slot h bytes ≡ cond (eqb h.fsse top) (answer []) (listAt how 8 base slot h bytes)
-  pub plan_at_8 : (a b c : List ℕ) (n : Counts) (page start : ℕ) → plannedBlocks a b c n page start 8 ≡ plannedBelow a b c (256 ^ 8) n page start 8
+  pub slot-at_8 : (how : Reading) (base slot : ℕ) (bytes : List ℕ) → read_manager how 8 base slot bytes ≡ cond (eqb slot top) (answer []) (manager_at how 8 base slot bytes)
+  pub list-at_8 : (how : Reading) (base slot : ℕ) (h : Header) (bytes : List ℕ) → read_named how 8 base slot h bytes ≡ cond (eqb h.fsse top) (answer []) (list_at how 8 base slot h bytes)
+  pub plan_at_8 : (a b c : List ℕ) (n : Counts) (page start : ℕ) → planned_blocks a b c n page start 8 ≡ planned_below a b c (256 ^ 8) n page start 8

@@ -8,7 +8,7 @@ ghost use Rattle.fsm_blocks.specs.declared.checks.Reading.{Reading};
 ghost use Rattle.fsm_blocks.specs.Reading.{read_slots};
 ghost use Rattle.fsm_plan.specs.declared.blocks.BlocksPlan.{BlocksPlan};
 ghost use Rattle.fsm_plan.specs.Blocks.{blocks_outcome};
-ghost use Rattle.stored_managers.specs.Storing.{stored_slots, sectionsBySlot, storedManagers};
+ghost use Rattle.stored_managers.specs.Storing.{stored_slots, sections_by_slot, stored_managers};
 
 use fields::address::BaseAddress;
 use fsm_plan::Counts;
@@ -31,11 +31,11 @@ pub fn store_managers(
     bytes: &mut [u8],
 ) -> BlocksPlanned
     ensures stored { left (blocks_outcome result) bytes.new
-        ≡ leaving bytes.old (storedManagers meta.now raw.now unclassified.now n page start base.0
+        ≡ leaving bytes.old (stored_managers meta.now raw.now unclassified.now n page start base.0
         offset_size bytes.old) }
     ensures read { (how : Reading) (p : BlocksPlan) → blocks_outcome result ≡ answer p
         → read_slots how offset_size base.0 (stored_slots offset_size p.managers) bytes.new
-        ≡ answer (sectionsBySlot meta.now raw.now unclassified.now n page) }
+        ≡ answer (sections_by_slot meta.now raw.now unclassified.now n page) }
 {
     // Past the end of the bytes there is room for no block.
     let at = min(saturating_add(start, base.0), bytes.len() as u64) as usize;

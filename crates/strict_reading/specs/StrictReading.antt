@@ -22,10 +22,10 @@ use Rattle.checksum.specs.Trailing.{trailing}
 use Rattle.fsm_sections.specs.declared.FreeSection.{FreeSection}
 use Rattle.fsm_blocks.specs.declared.checks.Reading.TheVariants.{Loose, Strict}
 use Rattle.fsm_blocks.specs.Fshd.{Header, fshd_size, header_at}
-use Rattle.fsm_blocks.specs.Reading.{readManager, read_slots, persisted}
+use Rattle.fsm_blocks.specs.Reading.{read_manager, read_slots, persisted}
 use Rattle.fsm_plan.specs.declared.Counts.{Counts}
 use Rattle.fsm_plan.specs.declared.blocks.BlocksPlan.{BlocksPlan}
-use Rattle.fsm_plan.specs.Blocks.{plannedBlocks}
+use Rattle.fsm_plan.specs.Blocks.{planned_blocks}
 use Rattle.fsm_writer.specs.RoundTrip.{RoundTrip}
 use Rattle.stored_managers.specs.AllOnes.{StoredPlan}
 use Rattle.image.specs.Reading.{image_into}
@@ -56,8 +56,8 @@ Alike {A} strict first first' loose second second' = (a : A) → strict ≡ answ
 
 pub record StrictReading : Type 0 where
   pub exact : (O base slot : ℕ) (bytes : List ℕ) (l : List FreeSection) → (slot ≡ undefined_addr O → ⊥)
-      → (readManager Strict O base slot bytes ≡ answer l → (readManager Loose O base slot bytes ≡ answer l) × WholeManager O base slot bytes)
-      × ((readManager Loose O base slot bytes ≡ answer l) × WholeManager O base slot bytes → readManager Strict O base slot bytes ≡ answer l)
+      → (read_manager Strict O base slot bytes ≡ answer l → (read_manager Loose O base slot bytes ≡ answer l) × WholeManager O base slot bytes)
+      × ((read_manager Loose O base slot bytes ≡ answer l) × WholeManager O base slot bytes → read_manager Strict O base slot bytes ≡ answer l)
   pub slots-alike : (O base : ℕ) (slots bytes : List ℕ) (ls : List (List FreeSection)) → read_slots Strict O base slots bytes ≡ answer ls
       → read_slots Loose O base slots bytes ≡ answer ls
   pub persisted-alike : (slots : List ℕ) (base O : ℕ) (bytes out : List ℕ) (w : With ℕ (List ℕ)) → persisted Strict slots base O bytes out ≡ answer w
@@ -65,6 +65,6 @@ pub record StrictReading : Type 0 where
   pub image-alike : (place : ℕ) (image out : List ℕ) (w : With (List ℕ) (List ℕ)) → image_into Strict place image out ≡ answer w
       → image_into Loose place image out ≡ answer w
   pub written : RoundTrip
-  pub stored : (a b c : List ℕ) (n : Counts) (page start O : ℕ) (p : BlocksPlan) → plannedBlocks a b c n page start O ≡ answer p
+  pub stored : (a b c : List ℕ) (n : Counts) (page start O : ℕ) (p : BlocksPlan) → planned_blocks a b c n page start O ≡ answer p
       → StoredPlan a b c n page start O p
   pub saved : EveryCutAfterCalls

@@ -34,7 +34,7 @@ pages_of-f-requires c =
     let a = c.args in
     let s = paged_in a.metadata.now a.raw.now a.unclassified.now a.marks.now a.lists in
     let q = free_passed a.page a.kind a.addr a.len s _ c.test_free-tested.ensures c.in-Passed.is in
-    (omega (arith, q.page-some), omega (arith, c.if-len-eq0.false), free-fits a.page a.addr a.len s q a.kind)
+    (omega (arith, q.page_some), omega (arith, c.if-len-eq0.false), free-fits a.page a.addr a.len s q a.kind)
 
 pub overflow_sub-f : goal.overflow_sub-f
 overflow_sub-f c =

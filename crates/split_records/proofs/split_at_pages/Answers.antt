@@ -7,7 +7,7 @@ use Rattle.error.specs.Lent.{left}
 use Rattle.fsm_sections.specs.declared.FreeSection.{FreeSection}
 use Rattle.fsm_pages.specs.Split.{split_outcome}
 use Rattle.split_records.proofs.CutLaws.{all_left}
-use Rattle.split_records.proofs.RecordLaws.{shown, ready, left-some, next_here, store-piece, records_are}
+use Rattle.split_records.proofs.RecordLaws.{shown, ready, left_some, next_here, store_piece, records_are}
 use Rattle.split_records.proofs.split_at_pages.Goals as goal
 
 pub loop-k-init : goal.loop-k-init
@@ -20,7 +20,7 @@ next_piece-c-requires c =
     let a = c.args in
     let l = c.loop-k in
     let r = ready a.sections.now a.count a.page c.planned-answer.result (length a.out.now) _ l.k c.planned-answer.ensures c.pieces_in-n.ensures c.loop-k-test.true in
-    (r.some, r.run, r.fits, left-some a.sections.now a.count a.page a.out.now _ r l.k l.section l.done l.invariant.others c.loop-k-test.true)
+    (r.some, r.run, r.fits, left_some a.sections.now a.count a.page a.out.now _ r l.k l.section l.done l.invariant.others c.loop-k-test.true)
 
 pub bounds-out-k : goal.bounds-out-k
 bounds-out-k c =
@@ -38,7 +38,7 @@ loop-k-preserved c =
     record {
       few = omega arith;
       stored = rw add-one (ap (λ (o : List FreeSection). set o l.k p.piece) l.invariant.stored
-          ∙ store-piece a.sections.now a.count a.page a.out.now _ r l.k l.section l.done l.invariant.others c.loop-k-test.true p.piece p.section p.done c.next_piece-c.ensures);
+          ∙ store_piece a.sections.now a.count a.page a.out.now _ r l.k l.section l.done l.invariant.others c.loop-k-test.true p.piece p.section p.done c.next_piece-c.ensures);
       others = rw add-one (next_here a.sections.now a.count a.page a.out.now _ r l.k l.section l.done l.invariant.others c.loop-k-test.true p.piece p.section p.done c.next_piece-c.ensures);
     }
 

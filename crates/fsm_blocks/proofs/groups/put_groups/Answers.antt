@@ -51,7 +51,7 @@ put_entries-requires c =
     (head_some c.args.w c.requires.widths) c.loop-left-test.true _ c.field_at-count.ensures in
     let l = c.loop-left in
     let room : l.k + 2 * c.field_at-count.result ≤ length l.out = omega (arith, few, l.invariant.room) in
-    (c.requires.widths.addresses-few, omega (arith, head, entries), room)
+    (c.requires.widths.addresses_few, omega (arith, head, entries), room)
 
 pub overflow_mul-at : goal.overflow_mul-at
 overflow_mul-at c =

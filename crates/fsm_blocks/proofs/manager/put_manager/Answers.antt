@@ -11,7 +11,7 @@ use Rattle.fsm_sections.specs.declared.FreeSection.{FreeSection}
 use Rattle.fsm_sections.specs.Sections.{flat}
 use Rattle.fsm_blocks.specs.declared.checks.Reading.TheVariants.{Loose}
 use Rattle.fsm_blocks.specs.Parts.{got, Accepted, sections_by}
-use Rattle.fsm_blocks.specs.Reading.{readManager}
+use Rattle.fsm_blocks.specs.Reading.{read_manager}
 use Rattle.fsm_blocks.proofs.SlotsLaws.{inside-at, put-none, put_refused, list-is, list-total}
 use borrow.Author.Rules.{rules}
 use Rattle.fsm_blocks.proofs.manager.put_manager.Goals as goal
@@ -33,23 +33,23 @@ pub put_fsse-requires : goal.put_fsse-requires
 put_fsse-requires c =
     let sections : (let a = c.args in
     let g = c.in-At in
-    sections_by g.header a.offset_size (window g.start (g.start + g.header.fsse_used - g.start) a.bytes.now) ≡ readManager Loose a.offset_size a.base.0 a.slot a.bytes.now) = let a = c.args in
+    sections_by g.header a.offset_size (window g.start (g.start + g.header.fsse_used - g.start) a.bytes.now) ≡ read_manager Loose a.offset_size a.base.0 a.slot a.bytes.now) = let a = c.args in
     list-is Loose a.offset_size a.base.0 a.slot a.bytes.now _ c.locate-found.ensures.named c.in-At.start c.in-At.header c.in-At.is in
     let total : (let a = c.args in
-    length (got (readManager Loose a.offset_size a.base.0 a.slot a.bytes.now)) ≡ c.in-At.header.total_sections) = list-total Loose c.args.offset_size c.args.base.0 c.args.slot c.args.bytes.now _ c.locate-found.ensures.named c.in-At.start c.in-At.header c.in-At.is c.requires.accepted in
+    length (got (read_manager Loose a.offset_size a.base.0 a.slot a.bytes.now)) ≡ c.in-At.header.total_sections) = list-total Loose c.args.offset_size c.args.base.0 c.args.slot c.args.bytes.now _ c.locate-found.ensures.named c.in-At.start c.in-At.header c.in-At.is c.requires.accepted in
     let e = sections in
     record { width = c.requires.width; accepted = subst Accepted (sym e) c.requires.accepted; room = omega (arith, total, c.requires.room) }
 
 pub overflow_mul-result : goal.overflow_mul-result
 overflow_mul-result c =
     let total : (let a = c.args in
-    length (got (readManager Loose a.offset_size a.base.0 a.slot a.bytes.now)) ≡ c.in-At.header.total_sections) = list-total Loose c.args.offset_size c.args.base.0 c.args.slot c.args.bytes.now _ c.locate-found.ensures.named c.in-At.start c.in-At.header c.in-At.is c.requires.accepted in
+    length (got (read_manager Loose a.offset_size a.base.0 a.slot a.bytes.now)) ≡ c.in-At.header.total_sections) = list-total Loose c.args.offset_size c.args.base.0 c.args.slot c.args.bytes.now _ c.locate-found.ensures.named c.in-At.start c.in-At.header c.in-At.is c.requires.accepted in
     omega (arith, total, c.requires.room)
 
 pub overflow_add-result : goal.overflow_add-result
 overflow_add-result c =
     let total : (let a = c.args in
-    length (got (readManager Loose a.offset_size a.base.0 a.slot a.bytes.now)) ≡ c.in-At.header.total_sections) = list-total Loose c.args.offset_size c.args.base.0 c.args.slot c.args.bytes.now _ c.locate-found.ensures.named c.in-At.start c.in-At.header c.in-At.is c.requires.accepted in
+    length (got (read_manager Loose a.offset_size a.base.0 a.slot a.bytes.now)) ≡ c.in-At.header.total_sections) = list-total Loose c.args.offset_size c.args.base.0 c.args.slot c.args.bytes.now _ c.locate-found.ensures.named c.in-At.start c.in-At.header c.in-At.is c.requires.accepted in
     omega (arith, total, c.requires.room)
 
 pub returns-in-Nowhere : goal.returns-in-Nowhere
@@ -67,9 +67,9 @@ pub returns-in-At : goal.returns-in-At
 returns-in-At c =
     let sections : (let a = c.args in
     let g = c.in-At in
-    sections_by g.header a.offset_size (window g.start (g.start + g.header.fsse_used - g.start) a.bytes.now) ≡ readManager Loose a.offset_size a.base.0 a.slot a.bytes.now) = let a = c.args in
+    sections_by g.header a.offset_size (window g.start (g.start + g.header.fsse_used - g.start) a.bytes.now) ≡ read_manager Loose a.offset_size a.base.0 a.slot a.bytes.now) = let a = c.args in
     list-is Loose a.offset_size a.base.0 a.slot a.bytes.now _ c.locate-found.ensures.named c.in-At.start c.in-At.header c.in-At.is in
     let total : (let a = c.args in
-    length (got (readManager Loose a.offset_size a.base.0 a.slot a.bytes.now)) ≡ c.in-At.header.total_sections) = list-total Loose c.args.offset_size c.args.base.0 c.args.slot c.args.bytes.now _ c.locate-found.ensures.named c.in-At.start c.in-At.header c.in-At.is c.requires.accepted in
+    length (got (read_manager Loose a.offset_size a.base.0 a.slot a.bytes.now)) ≡ c.in-At.header.total_sections) = list-total Loose c.args.offset_size c.args.base.0 c.args.slot c.args.bytes.now _ c.locate-found.ensures.named c.in-At.start c.in-At.header c.in-At.is c.requires.accepted in
     let a = c.args in
     record { put = c.put_fsse.ensures ∙ ap (λ (o : Outcome (List FreeSection)). over a.from (flat (got o)) a.out.now) sections; next = omega (arith, total) }

@@ -1,15 +1,15 @@
 use Rattle.fsm_blocks.specs.declared.checks.Reading.TheVariants.{Loose}
-use Rattle.fsm_blocks.proofs.SlotsLaws.{store-start, store_step, store-end, slot-accepted, slot-room}
+use Rattle.fsm_blocks.proofs.SlotsLaws.{store_start, store_step, store_end, slot_accepted, slot_room}
 use Rattle.fsm_blocks.proofs.persisted.put_slots.Goals as goal
 
 pub loop-i-init : goal.loop-i-init
 loop-i-init c =
-    store-start Loose c.args.offset_size c.args.base.0 c.args.bytes.now c.args.slots.now c.args.out.now c.requires.accepted c.requires.room
+    store_start Loose c.args.offset_size c.args.base.0 c.args.bytes.now c.args.slots.now c.args.out.now c.requires.accepted c.requires.room
 
 pub put_manager-k-requires : goal.put_manager-k-requires
 put_manager-k-requires c =
     let l = c.loop-i in
-    record { width = c.requires.width; accepted = slot-accepted Loose c.args.offset_size c.args.base.0 c.args.bytes.now c.args.slots.now c.args.out.now l.out l.k l.i l.invariant c.loop-i-test.true; room = slot-room Loose c.args.offset_size c.args.base.0 c.args.bytes.now c.args.slots.now c.args.out.now l.out l.k l.i l.invariant c.loop-i-test.true }
+    record { width = c.requires.width; accepted = slot_accepted Loose c.args.offset_size c.args.base.0 c.args.bytes.now c.args.slots.now c.args.out.now l.out l.k l.i l.invariant c.loop-i-test.true; room = slot_room Loose c.args.offset_size c.args.base.0 c.args.bytes.now c.args.slots.now c.args.out.now l.out l.k l.i l.invariant c.loop-i-test.true }
 
 pub loop-i-preserved : goal.loop-i-preserved
 loop-i-preserved c =
@@ -25,4 +25,4 @@ pub returns : goal.returns
 returns c =
     let a = c.args in
     let l = c.loop-i in
-    store-end Loose a.offset_size a.base.0 a.bytes.now a.slots.now a.out.now l.out l.k l.i l.invariant c.loop-i-test.false
+    store_end Loose a.offset_size a.base.0 a.bytes.now a.slots.now a.out.now l.out l.k l.i l.invariant c.loop-i-test.false

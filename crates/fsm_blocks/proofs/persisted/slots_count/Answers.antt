@@ -1,13 +1,13 @@
-use Rattle.fsm_blocks.proofs.SlotsLaws.{sum-start, sum-refused, sum_step, sum-end}
+use Rattle.fsm_blocks.proofs.SlotsLaws.{sum_start, sum_refused, sum_step, sum_end}
 use Rattle.fsm_blocks.proofs.persisted.slots_count.Goals as goal
 
 pub loop-i-init : goal.loop-i-init
-loop-i-init c = let a = c.args in sum-start a.reading a.offset_size a.base.0 a.bytes.now a.slots.now
+loop-i-init c = let a = c.args in sum_start a.reading a.offset_size a.base.0 a.bytes.now a.slots.now
 
 pub returns-in_default : goal.returns-in_default
 returns-in_default c =
     let l = c.loop-i in
-    sum-refused c.args.reading c.args.offset_size c.args.base.0 c.args.bytes.now c.args.slots.now l.needed l.i l.invariant c.loop-i-test.true c.requires _ c.in_default.is c.manager_count-sections.ensures
+    sum_refused c.args.reading c.args.offset_size c.args.base.0 c.args.bytes.now c.args.slots.now l.needed l.i l.invariant c.loop-i-test.true c.requires _ c.in_default.is c.manager_count-sections.ensures
 
 pub loop-i-preserved : goal.loop-i-preserved
 loop-i-preserved c =
@@ -18,4 +18,4 @@ pub returns : goal.returns
 returns c =
     let a = c.args in
     let l = c.loop-i in
-    sum-end a.reading a.offset_size a.base.0 a.bytes.now a.slots.now l.needed l.i l.invariant c.loop-i-test.false
+    sum_end a.reading a.offset_size a.base.0 a.bytes.now a.slots.now l.needed l.i l.invariant c.loop-i-test.false

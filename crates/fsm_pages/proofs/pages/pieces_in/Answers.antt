@@ -6,7 +6,7 @@ use native.Mathlib.Omega.{arith}
 use Rattle.error.specs.Outcome.{sat}
 use Rattle.fsm_sections.proofs.RunStepLaws.{rest-start, ended, went, fewer}
 use Rattle.fsm_pages.proofs.PieceLaws.{pieces_after}
-use Rattle.fsm_pages.proofs.SplitLaws.{count-start, count-few, count-above, count-more, count_same, count_step, count-end}
+use Rattle.fsm_pages.proofs.SplitLaws.{count-start, count-few, count_above, count_more, count_same, count_step, count-end}
 use Rattle.fsm_pages.proofs.pages.pieces_in.Goals as goal
 use Rattle.fsm_pages.proofs.pages.pieces_in.Goals.{then-room-size, else-room-size, then-size-ne0, else-size-ne0}
 
@@ -26,7 +26,7 @@ pub returns-then-size-addr : goal.returns-then-size-addr
 returns-then-size-addr c =
     let a = c.args in
     let l = c.loop-t in
-    count-above a.page a.count a.sections.now _ l.some l.more l.invariant _ _ (went a.count a.sections.now _ _ c.next_in-t.ensures c.if-t.false)
+    count_above a.page a.count a.sections.now _ l.some l.more l.invariant _ _ (went a.count a.sections.now _ _ c.next_in-t.ensures c.if-t.false)
     c.if-size-addr.true
 
 pub overflow_add-quotient : goal.overflow_add-quotient
@@ -50,7 +50,7 @@ loop-t-preserved c =
     let l = c.loop-t in
     let e = went a.count a.sections.now _ _ c.next_in-t.ensures c.if-t.false in
     elim c.if-room-size.branch [
-      | then-room-size w ↦ count-more a.page a.count a.sections.now _ l.some l.more l.invariant _ _ e c.requires.page _ c.room_in-room.ensures w.if-room-size.true _ _ w.quotient.ensures (w.more-is ∙ w.saturating_add-more.ensures)
+      | then-room-size w ↦ count_more a.page a.count a.sections.now _ l.some l.more l.invariant _ _ e c.requires.page _ c.room_in-room.ensures w.if-room-size.true _ _ w.quotient.ensures (w.more-is ∙ w.saturating_add-more.ensures)
       | else-room-size w ↦ count_same a.page a.count a.sections.now _ l.some l.more l.invariant _ _ e c.requires.page _ c.room_in-room.ensures w.if-room-size.false _ w.more-is
     ] in
     let some_is : (c.if-size-ne0.some ≡ c.loop-t.some + min c.next_in-t.result.region.size 1) = elim c.if-size-ne0.branch [ then-size-ne0 w ↦ omega arith | else-size-ne0 w ↦ omega arith ] in

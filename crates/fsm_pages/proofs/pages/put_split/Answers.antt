@@ -1,6 +1,6 @@
 use Rattle.fsm_sections.proofs.RunStepLaws.{rest-start, ended, went, fewer}
 use Rattle.fsm_sections.proofs.RunLaws.{fits-first}
-use Rattle.fsm_pages.proofs.SplitLaws.{put-start, put-room, put_step, put-end}
+use Rattle.fsm_pages.proofs.SplitLaws.{put-start, put_room, put_step, put-end}
 use Rattle.fsm_pages.proofs.pages.put_split.Goals as goal
 
 pub loop-t-init : goal.loop-t-init
@@ -23,7 +23,7 @@ put_pieces-k-requires c =
     let a = c.args in
     let l = c.loop-t in
     let e = went a.count a.sections.now _ _ c.next_in-t.ensures c.if-t.false in
-    record { fits = (c.requires.page, (fits-first _ _ _ e l.invariant.fits).0); room = put-room a.page _ a.out.now _ l.out l.k l.invariant _ _ e }
+    record { fits = (c.requires.page, (fits-first _ _ _ e l.invariant.fits).0); room = put_room a.page _ a.out.now _ l.out l.k l.invariant _ _ e }
 
 pub loop-t-smaller : goal.loop-t-smaller
 loop-t-smaller c = let a = c.args in fewer a.count a.sections.now _ _ c.next_in-t.ensures c.if-t.false

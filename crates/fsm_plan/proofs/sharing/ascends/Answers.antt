@@ -1,12 +1,12 @@
 use mathlib.Core.Bool.{false}
 use Rattle.error.proofs.TestLaws.{true_not_false}
-use Rattle.fsm_plan.proofs.SharingLaws.{below-start, below_step, below_end, taking}
+use Rattle.fsm_plan.proofs.SharingLaws.{below_start, below_step, below_end, taking}
 use Rattle.fsm_plan.proofs.sharing.ascends.Goals as goal
 
 pub loop-s-init : goal.loop-s-init
 loop-s-init c =
     let a = c.args in
-    below-start a.s a.a.now a.b.now a.c.now c.requires _ c.start-at.ensures
+    below_start a.s a.a.now a.b.now a.c.now c.requires _ c.start-at.ensures
 
 pub returns-then-t : goal.returns-then-t
 returns-then-t c =

@@ -1,16 +1,16 @@
-use Rattle.fsm_plan.proofs.SharingLaws.{apart-start, apart-found, apart_step, apart-end, taking}
+use Rattle.fsm_plan.proofs.SharingLaws.{apart_start, apart_found, apart_step, apart_end, taking}
 use Rattle.fsm_plan.proofs.sharing.clashes.Goals as goal
 
 pub loop-s-init : goal.loop-s-init
 loop-s-init c =
     let a = c.args in
-    apart-start a.s a.a.now a.b.now a.c.now c.requires _ c.start-at.ensures
+    apart_start a.s a.a.now a.b.now a.c.now c.requires _ c.start-at.ensures
 
 pub returns-then-t : goal.returns-then-t
 returns-then-t c =
     let a = c.args in
     let l = c.loop-s in
-    apart-end a.s a.a.now a.b.now a.c.now c.requires l.at _ c.next_chain-t.ensures c.if-t.true l.invariant
+    apart_end a.s a.a.now a.b.now a.c.now c.requires l.at _ c.next_chain-t.ensures c.if-t.true l.invariant
 
 pub meets-requires : goal.meets-requires
 meets-requires c =
@@ -22,7 +22,7 @@ returns-then-meets c =
     let a = c.args in
     let l = c.loop-s in
     let m = c.meets in
-    apart-found a.s a.a.now a.b.now a.c.now c.requires l.at _ c.next_chain-t.ensures c.if-t.false l.invariant m.result m.ensures c.if-meets.true
+    apart_found a.s a.a.now a.b.now a.c.now c.requires l.at _ c.next_chain-t.ensures c.if-t.false l.invariant m.result m.ensures c.if-meets.true
 
 pub loop-s-smaller : goal.loop-s-smaller
 loop-s-smaller c =

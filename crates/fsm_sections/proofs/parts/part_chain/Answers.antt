@@ -1,9 +1,9 @@
-use Rattle.fsm_sections.proofs.SourceLaws.{part_is, head_chain, whole-chain, pages-is, tail_is, left-within}
+use Rattle.fsm_sections.proofs.SourceLaws.{part_is, head_chain, whole-chain, pages-is, tail_is, left_within}
 use Rattle.fsm_sections.specs.Sections.{section}
 use Rattle.fsm_sections.proofs.parts.part_chain.Goals as goal
 
 pub overflow_sub-size-in-Tail-2 : goal.overflow_sub-size-in-Tail-2
-overflow_sub-size-in-Tail-2 c = let a = c.args in left-within a.part a.page a.addr a.size _ _ c.remainder-left.ensures
+overflow_sub-size-in-Tail-2 c = let a = c.args in left_within a.part a.page a.addr a.size _ _ c.remainder-left.ensures
 
 pub returns-in-Head : goal.returns-in-Head
 returns-in-Head c =

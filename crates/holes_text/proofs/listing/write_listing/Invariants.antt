@@ -2,12 +2,12 @@ use Prim.Native.Nat.{◌-◌, ◌≤◌}
 use lib.ListN.{length}
 use Rattle.text.specs.Text.{written}
 use Rattle.text.proofs.TextLaws.{Printing}
-use Rattle.holes_text.proofs.ListingLaws.{slotsFrom}
+use Rattle.holes_text.proofs.ListingLaws.{slots_from}
 use Rattle.holes_text.proofs.listing.write_listing.Given as goal
 
 abbrev pub invariant-loop-slot : goal.invariant-loop-slot
 invariant-loop-slot l =
-    (l.from ≤ length l.run) × Printing (written l.initial.to (slotsFrom l.counts l.run 0 0) l.initial.out) l.to (slotsFrom l.counts l.run l.slot l.from) l.out
+    (l.from ≤ length l.run) × Printing (written l.initial.to (slots_from l.counts l.run 0 0) l.initial.out) l.to (slots_from l.counts l.run l.slot l.from) l.out
 
 abbrev pub decreases-loop-slot : goal.decreases-loop-slot
 decreases-loop-slot l = length l.counts - l.slot

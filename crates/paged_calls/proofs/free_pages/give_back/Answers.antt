@@ -100,7 +100,7 @@ return_pages-requires c =
     let pre = c.requires in
     let some = c.if-e-p.false in
     let lie = pages_lie a.page a.f (list_in a.own.now a.lists.own) (list_in a.shared.now a.lists.shared) pre.2 a.d pre.0 pre.1 _ _ _ _ _ c.in-Change.is _ c.folded-r.ensures _ _ c.whole_from-p.ensures c.whole_up_to-e.ensures (omega (arith, some)) in
-    (omega (arith, some), lie.2, pre.2.page-some)
+    (omega (arith, some), lie.2, pre.2.page_some)
 
 pub returns-in-Refused : goal.returns-in-Refused
 returns-in-Refused c =

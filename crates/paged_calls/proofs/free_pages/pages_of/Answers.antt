@@ -11,7 +11,7 @@ returns c =
       refl,
       refl,
       record {
-        page-some = p.0;
+        page_some = p.0;
         some = p.1;
         within = p.2;
         first-is = c.quotient.ensures;

@@ -1,5 +1,5 @@
 use Rattle.std.proofs.Common.{◌-◌, rules}
-use Rattle.replay_calls.proofs.FrontLaws.{front-start, front_length, front_step, front-all, front-full}
+use Rattle.replay_calls.proofs.FrontLaws.{front-start, front_length, front_step, front-all, front_full}
 use Rattle.replay_calls.proofs.lists.put_front.Goals as goal
 
 pub loop-i-init : goal.loop-i-init
@@ -15,7 +15,7 @@ pub returns-then-run-i : goal.returns-then-run-i
 returns-then-run-i c =
     let a = c.args in
     let l = c.loop-i in
-    front-full a.numbers.now a.run.now l.i l.run l.invariant (search rules)
+    front_full a.numbers.now a.run.now l.i l.run l.invariant (search rules)
 
 pub loop-i-preserved : goal.loop-i-preserved
 loop-i-preserved c =

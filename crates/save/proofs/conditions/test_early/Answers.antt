@@ -7,15 +7,15 @@ use lib.ListN.{length}
 use borrow.Author.Rules.{rules}
 use Rattle.error.specs.Outcome.{Outcome, answer, first_of}
 use Rattle.free_lists.specs.Lists.{lists_in, regions_in}
-use Rattle.save.specs.Beginning.{awayTests, earlyTests}
+use Rattle.save.specs.Beginning.{away_tests, early_tests}
 use Rattle.save.proofs.OrderLaws.{away_outside, message_there, away_version, away_strategy, away_way, away_fine, shared-refused, shared-not}
 use Rattle.save.proofs.conditions.test_early.Goals as goal
 
 pub returns-then-not-message_in : goal.returns-then-not-message_in
 returns-then-not-message_in c =
     let past : (let a = c.args in
-    (o : Outcome (Unit {0})) → o ≡ first_of (awayTests (regions_in (lists_in a.meta.now a.raw.now a.unclassified.now a.q.lists)) a.q.to.start a.q.to.place a.image.now) (answer tt) → o ≡ first_of (earlyTests (regions_in (lists_in a.meta.now a.raw.now a.unclassified.now a.q.lists)) a.q.to.start a.q.to.place a.image.now) (answer tt)) = let a = c.args in
-    shared-not a.meta.now a.raw.now a.unclassified.now a.q.lists c.requires.lists _ c.check_lists-shared.ensures (awayTests (regions_in (lists_in a.meta.now a.raw.now a.unclassified.now a.q.lists)) a.q.to.start a.q.to.place a.image.now) c.in-Passed.is in
+    (o : Outcome (Unit {0})) → o ≡ first_of (away_tests (regions_in (lists_in a.meta.now a.raw.now a.unclassified.now a.q.lists)) a.q.to.start a.q.to.place a.image.now) (answer tt) → o ≡ first_of (early_tests (regions_in (lists_in a.meta.now a.raw.now a.unclassified.now a.q.lists)) a.q.to.start a.q.to.place a.image.now) (answer tt)) = let a = c.args in
+    shared-not a.meta.now a.raw.now a.unclassified.now a.q.lists c.requires.lists _ c.check_lists-shared.ensures (away_tests (regions_in (lists_in a.meta.now a.raw.now a.unclassified.now a.q.lists)) a.q.to.start a.q.to.place a.image.now) c.in-Passed.is in
     let a = c.args in past _ (away_outside (regions_in (lists_in a.meta.now a.raw.now a.unclassified.now a.q.lists)) a.q.to.start a.q.to.place a.image.now _ c.message_in.ensures c.if-not-message_in.true)
 
 pub bounds-image-at : goal.bounds-image-at
@@ -26,8 +26,8 @@ bounds-image-at c =
 pub returns-then-version-ne1 : goal.returns-then-version-ne1
 returns-then-version-ne1 c =
     let past : (let a = c.args in
-    (o : Outcome (Unit {0})) → o ≡ first_of (awayTests (regions_in (lists_in a.meta.now a.raw.now a.unclassified.now a.q.lists)) a.q.to.start a.q.to.place a.image.now) (answer tt) → o ≡ first_of (earlyTests (regions_in (lists_in a.meta.now a.raw.now a.unclassified.now a.q.lists)) a.q.to.start a.q.to.place a.image.now) (answer tt)) = let a = c.args in
-    shared-not a.meta.now a.raw.now a.unclassified.now a.q.lists c.requires.lists _ c.check_lists-shared.ensures (awayTests (regions_in (lists_in a.meta.now a.raw.now a.unclassified.now a.q.lists)) a.q.to.start a.q.to.place a.image.now) c.in-Passed.is in
+    (o : Outcome (Unit {0})) → o ≡ first_of (away_tests (regions_in (lists_in a.meta.now a.raw.now a.unclassified.now a.q.lists)) a.q.to.start a.q.to.place a.image.now) (answer tt) → o ≡ first_of (early_tests (regions_in (lists_in a.meta.now a.raw.now a.unclassified.now a.q.lists)) a.q.to.start a.q.to.place a.image.now) (answer tt)) = let a = c.args in
+    shared-not a.meta.now a.raw.now a.unclassified.now a.q.lists c.requires.lists _ c.check_lists-shared.ensures (away_tests (regions_in (lists_in a.meta.now a.raw.now a.unclassified.now a.q.lists)) a.q.to.start a.q.to.place a.image.now) c.in-Passed.is in
     let a = c.args in past _ (away_version (regions_in (lists_in a.meta.now a.raw.now a.unclassified.now a.q.lists)) a.q.to.start a.q.to.place a.image.now _ c.message_in.ensures c.if-not-message_in.false c.if-version-ne1.true)
 
 pub overflow_add-code : goal.overflow_add-code
@@ -43,8 +43,8 @@ bounds-image-at-in-Passed c =
 pub returns-then-code-gt3 : goal.returns-then-code-gt3
 returns-then-code-gt3 c =
     let past : (let a = c.args in
-    (o : Outcome (Unit {0})) → o ≡ first_of (awayTests (regions_in (lists_in a.meta.now a.raw.now a.unclassified.now a.q.lists)) a.q.to.start a.q.to.place a.image.now) (answer tt) → o ≡ first_of (earlyTests (regions_in (lists_in a.meta.now a.raw.now a.unclassified.now a.q.lists)) a.q.to.start a.q.to.place a.image.now) (answer tt)) = let a = c.args in
-    shared-not a.meta.now a.raw.now a.unclassified.now a.q.lists c.requires.lists _ c.check_lists-shared.ensures (awayTests (regions_in (lists_in a.meta.now a.raw.now a.unclassified.now a.q.lists)) a.q.to.start a.q.to.place a.image.now) c.in-Passed.is in
+    (o : Outcome (Unit {0})) → o ≡ first_of (away_tests (regions_in (lists_in a.meta.now a.raw.now a.unclassified.now a.q.lists)) a.q.to.start a.q.to.place a.image.now) (answer tt) → o ≡ first_of (early_tests (regions_in (lists_in a.meta.now a.raw.now a.unclassified.now a.q.lists)) a.q.to.start a.q.to.place a.image.now) (answer tt)) = let a = c.args in
+    shared-not a.meta.now a.raw.now a.unclassified.now a.q.lists c.requires.lists _ c.check_lists-shared.ensures (away_tests (regions_in (lists_in a.meta.now a.raw.now a.unclassified.now a.q.lists)) a.q.to.start a.q.to.place a.image.now) c.in-Passed.is in
     let a = c.args in past _ (away_strategy (regions_in (lists_in a.meta.now a.raw.now a.unclassified.now a.q.lists)) a.q.to.start a.q.to.place a.image.now _ c.message_in.ensures c.if-not-message_in.false c.if-version-ne1.false c.if-code-gt3.true)
 
 pub any_in_the_way-requires : goal.any_in_the_way-requires
@@ -56,20 +56,20 @@ any_in_the_way-requires c =
 pub returns-then-any_in_the_way : goal.returns-then-any_in_the_way
 returns-then-any_in_the_way c =
     let past : (let a = c.args in
-    (o : Outcome (Unit {0})) → o ≡ first_of (awayTests (regions_in (lists_in a.meta.now a.raw.now a.unclassified.now a.q.lists)) a.q.to.start a.q.to.place a.image.now) (answer tt) → o ≡ first_of (earlyTests (regions_in (lists_in a.meta.now a.raw.now a.unclassified.now a.q.lists)) a.q.to.start a.q.to.place a.image.now) (answer tt)) = let a = c.args in
-    shared-not a.meta.now a.raw.now a.unclassified.now a.q.lists c.requires.lists _ c.check_lists-shared.ensures (awayTests (regions_in (lists_in a.meta.now a.raw.now a.unclassified.now a.q.lists)) a.q.to.start a.q.to.place a.image.now) c.in-Passed.is in
+    (o : Outcome (Unit {0})) → o ≡ first_of (away_tests (regions_in (lists_in a.meta.now a.raw.now a.unclassified.now a.q.lists)) a.q.to.start a.q.to.place a.image.now) (answer tt) → o ≡ first_of (early_tests (regions_in (lists_in a.meta.now a.raw.now a.unclassified.now a.q.lists)) a.q.to.start a.q.to.place a.image.now) (answer tt)) = let a = c.args in
+    shared-not a.meta.now a.raw.now a.unclassified.now a.q.lists c.requires.lists _ c.check_lists-shared.ensures (away_tests (regions_in (lists_in a.meta.now a.raw.now a.unclassified.now a.q.lists)) a.q.to.start a.q.to.place a.image.now) c.in-Passed.is in
     let a = c.args in
     past _ (away_way (regions_in (lists_in a.meta.now a.raw.now a.unclassified.now a.q.lists)) a.q.to.start a.q.to.place a.image.now _ c.message_in.ensures c.if-not-message_in.false c.if-version-ne1.false c.if-code-gt3.false _ c.any_in_the_way.ensures c.if-any_in_the_way.true)
 
 pub returns-in-Refused : goal.returns-in-Refused
 returns-in-Refused c =
     let a = c.args in
-    shared-refused a.meta.now a.raw.now a.unclassified.now a.q.lists c.requires.lists _ c.check_lists-shared.ensures (awayTests (regions_in (lists_in a.meta.now a.raw.now a.unclassified.now a.q.lists)) a.q.to.start a.q.to.place a.image.now) _ c.in-Refused.is
+    shared-refused a.meta.now a.raw.now a.unclassified.now a.q.lists c.requires.lists _ c.check_lists-shared.ensures (away_tests (regions_in (lists_in a.meta.now a.raw.now a.unclassified.now a.q.lists)) a.q.to.start a.q.to.place a.image.now) _ c.in-Refused.is
 
 pub returns-else-any_in_the_way : goal.returns-else-any_in_the_way
 returns-else-any_in_the_way c =
     let past : (let a = c.args in
-    (o : Outcome (Unit {0})) → o ≡ first_of (awayTests (regions_in (lists_in a.meta.now a.raw.now a.unclassified.now a.q.lists)) a.q.to.start a.q.to.place a.image.now) (answer tt) → o ≡ first_of (earlyTests (regions_in (lists_in a.meta.now a.raw.now a.unclassified.now a.q.lists)) a.q.to.start a.q.to.place a.image.now) (answer tt)) = let a = c.args in
-    shared-not a.meta.now a.raw.now a.unclassified.now a.q.lists c.requires.lists _ c.check_lists-shared.ensures (awayTests (regions_in (lists_in a.meta.now a.raw.now a.unclassified.now a.q.lists)) a.q.to.start a.q.to.place a.image.now) c.in-Passed.is in
+    (o : Outcome (Unit {0})) → o ≡ first_of (away_tests (regions_in (lists_in a.meta.now a.raw.now a.unclassified.now a.q.lists)) a.q.to.start a.q.to.place a.image.now) (answer tt) → o ≡ first_of (early_tests (regions_in (lists_in a.meta.now a.raw.now a.unclassified.now a.q.lists)) a.q.to.start a.q.to.place a.image.now) (answer tt)) = let a = c.args in
+    shared-not a.meta.now a.raw.now a.unclassified.now a.q.lists c.requires.lists _ c.check_lists-shared.ensures (away_tests (regions_in (lists_in a.meta.now a.raw.now a.unclassified.now a.q.lists)) a.q.to.start a.q.to.place a.image.now) c.in-Passed.is in
     let a = c.args in
     past _ (away_fine (regions_in (lists_in a.meta.now a.raw.now a.unclassified.now a.q.lists)) a.q.to.start a.q.to.place a.image.now _ c.message_in.ensures c.if-not-message_in.false c.if-version-ne1.false c.if-code-gt3.false _ c.any_in_the_way.ensures c.if-any_in_the_way.false)

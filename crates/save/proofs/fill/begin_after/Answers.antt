@@ -4,7 +4,7 @@ use native.Mathlib.Omega.{arith}
 use lib.ListN.{length, take}
 use Rattle.error.specs.Lent.{leaving}
 use Rattle.fsm_plan.specs.declared.Counts.{Counts}
-use Rattle.fsm_writer.specs.Paged.{writtenManagers}
+use Rattle.fsm_writer.specs.Paged.{written_managers}
 use Rattle.save.proofs.FillLaws.{large_refused, blocks_refused, needed_low, scratch-refused, plan_start, len_low, message_refused, message_room, begun}
 use Rattle.save.proofs.fill.begin_after.Goals as goal
 
@@ -14,7 +14,7 @@ returns-then-number-eq4 c =
     let k = c.min-lent.result - 0 in
     let lent : k ≡ min c.block_room-room.result (length a.scratch.now - 125) = omega (arith, c.min-lent.ensures, c.saturating_sub.ensures) in
     let x = c.serialize_paged_managers-planned.ensures
-    ∙ ap (λ (n : Counts). leaving (take k a.scratch.now) (writtenManagers a.meta.now a.raw.now a.unclassified.now n a.q.to.page a.q.to.start 8 (take k a.scratch.now)))
+    ∙ ap (λ (n : Counts). leaving (take k a.scratch.now) (written_managers a.meta.now a.raw.now a.unclassified.now n a.q.to.page a.q.to.start 8 (take k a.scratch.now)))
     c.counts_of-n.ensures in
     large_refused a.meta.now a.raw.now a.unclassified.now a.q.lists a.q.to.page a.q.to.start a.q.to.place a.image.now a.scratch.now c.requires.lists.0 c.requires.lists.1 c.requires.apart c.block_room-room.result c.block_room-room.ensures k lent _ _ x _ c.in-Refused.is (sym c.number.ensures ∙ c.if-number-eq4.true)
 
@@ -24,7 +24,7 @@ returns-then-room-needed c =
     let k = c.min-lent.result - 0 in
     let lent : k ≡ min c.block_room-room.result (length a.scratch.now - 125) = omega (arith, c.min-lent.ensures, c.saturating_sub.ensures) in
     let x = c.serialize_paged_managers-planned.ensures
-    ∙ ap (λ (n : Counts). leaving (take k a.scratch.now) (writtenManagers a.meta.now a.raw.now a.unclassified.now n a.q.to.page a.q.to.start 8 (take k a.scratch.now)))
+    ∙ ap (λ (n : Counts). leaving (take k a.scratch.now) (written_managers a.meta.now a.raw.now a.unclassified.now n a.q.to.page a.q.to.start 8 (take k a.scratch.now)))
     c.counts_of-n.ensures in
     blocks_refused a.meta.now a.raw.now a.unclassified.now a.q.lists a.q.to.page a.q.to.start a.q.to.place a.image.now a.scratch.now c.requires.lists.0 c.requires.lists.1 c.requires.apart c.block_room-room.result c.block_room-room.ensures k lent _ _ x _ c.in-Refused.is (λ z. c.if-number-eq4.false (c.number.ensures ∙ z)) _ c.needed_of-needed.ensures c.if-room-needed.true
 
@@ -34,7 +34,7 @@ refuse_room-requires c =
     let k = c.min-lent.result - 0 in
     let lent : k ≡ min c.block_room-room.result (length a.scratch.now - 125) = omega (arith, c.min-lent.ensures, c.saturating_sub.ensures) in
     let x = c.serialize_paged_managers-planned.ensures
-    ∙ ap (λ (n : Counts). leaving (take k a.scratch.now) (writtenManagers a.meta.now a.raw.now a.unclassified.now n a.q.to.page a.q.to.start 8 (take k a.scratch.now)))
+    ∙ ap (λ (n : Counts). leaving (take k a.scratch.now) (written_managers a.meta.now a.raw.now a.unclassified.now n a.q.to.page a.q.to.start 8 (take k a.scratch.now)))
     c.counts_of-n.ensures in
     omega (arith, needed_low a.meta.now a.raw.now a.unclassified.now a.q.lists a.q.to.page a.q.to.start a.q.to.place a.image.now a.scratch.now c.requires.lists.0 c.requires.lists.1 c.requires.apart c.block_room-room.result c.block_room-room.ensures k lent _ _ x _ c.in-Refused.is (λ z. c.if-number-eq4.false (c.number.ensures ∙ z)) _ c.needed_of-needed.ensures c.if-room-needed.false)
 
@@ -44,7 +44,7 @@ overflow_sub-len c =
     let k = c.min-lent.result - 0 in
     let lent : k ≡ min c.block_room-room.result (length a.scratch.now - 125) = omega (arith, c.min-lent.ensures, c.saturating_sub.ensures) in
     let x = c.serialize_paged_managers-planned.ensures
-    ∙ ap (λ (n : Counts). leaving (take k a.scratch.now) (writtenManagers a.meta.now a.raw.now a.unclassified.now n a.q.to.page a.q.to.start 8 (take k a.scratch.now)))
+    ∙ ap (λ (n : Counts). leaving (take k a.scratch.now) (written_managers a.meta.now a.raw.now a.unclassified.now n a.q.to.page a.q.to.start 8 (take k a.scratch.now)))
     c.counts_of-n.ensures in
     omega (arith, plan_start a.meta.now a.raw.now a.unclassified.now a.q.lists a.q.to.page a.q.to.start a.q.to.place a.image.now a.scratch.now c.requires.lists.0 c.requires.lists.1 c.requires.apart c.block_room-room.result c.block_room-room.ensures k lent _ _ x _ c.in-Plan.is)
 
@@ -54,7 +54,7 @@ refuse_room-requires-then-given-lt-MESSAGE_LEN c =
     let k = c.min-lent.result - 0 in
     let lent : k ≡ min c.block_room-room.result (length a.scratch.now - 125) = omega (arith, c.min-lent.ensures, c.saturating_sub.ensures) in
     let x = c.serialize_paged_managers-planned.ensures
-    ∙ ap (λ (n : Counts). leaving (take k a.scratch.now) (writtenManagers a.meta.now a.raw.now a.unclassified.now n a.q.to.page a.q.to.start 8 (take k a.scratch.now)))
+    ∙ ap (λ (n : Counts). leaving (take k a.scratch.now) (written_managers a.meta.now a.raw.now a.unclassified.now n a.q.to.page a.q.to.start 8 (take k a.scratch.now)))
     c.counts_of-n.ensures in
     omega (arith, len_low a.meta.now a.raw.now a.unclassified.now a.q.lists a.q.to.page a.q.to.start a.q.to.place a.image.now a.scratch.now c.requires.lists.0 c.requires.lists.1 c.requires.apart c.block_room-room.result c.block_room-room.ensures k lent _ _ x _ c.in-Plan.is)
 
@@ -64,7 +64,7 @@ returns-then-given-lt-MESSAGE_LEN c =
     let k = c.min-lent.result - 0 in
     let lent : k ≡ min c.block_room-room.result (length a.scratch.now - 125) = omega (arith, c.min-lent.ensures, c.saturating_sub.ensures) in
     let x = c.serialize_paged_managers-planned.ensures
-    ∙ ap (λ (n : Counts). leaving (take k a.scratch.now) (writtenManagers a.meta.now a.raw.now a.unclassified.now n a.q.to.page a.q.to.start 8 (take k a.scratch.now)))
+    ∙ ap (λ (n : Counts). leaving (take k a.scratch.now) (written_managers a.meta.now a.raw.now a.unclassified.now n a.q.to.page a.q.to.start 8 (take k a.scratch.now)))
     c.counts_of-n.ensures in
     message_refused a.meta.now a.raw.now a.unclassified.now a.q.lists a.q.to.page a.q.to.start a.q.to.place a.image.now a.scratch.now c.requires.lists.0 c.requires.lists.1 c.requires.apart c.block_room-room.result c.block_room-room.ensures k lent _ _ x _ c.in-Plan.is c.if-given-lt-MESSAGE_LEN.true _ c.refuse_room-then-given-lt-MESSAGE_LEN.ensures
 
@@ -74,7 +74,7 @@ put_message-requires c =
     let k = c.min-lent.result - 0 in
     let lent : k ≡ min c.block_room-room.result (length a.scratch.now - 125) = omega (arith, c.min-lent.ensures, c.saturating_sub.ensures) in
     let x = c.serialize_paged_managers-planned.ensures
-    ∙ ap (λ (n : Counts). leaving (take k a.scratch.now) (writtenManagers a.meta.now a.raw.now a.unclassified.now n a.q.to.page a.q.to.start 8 (take k a.scratch.now)))
+    ∙ ap (λ (n : Counts). leaving (take k a.scratch.now) (written_managers a.meta.now a.raw.now a.unclassified.now n a.q.to.page a.q.to.start 8 (take k a.scratch.now)))
     c.counts_of-n.ensures in
     (plan_start a.meta.now a.raw.now a.unclassified.now a.q.lists a.q.to.page a.q.to.start a.q.to.place a.image.now a.scratch.now c.requires.lists.0 c.requires.lists.1 c.requires.apart c.block_room-room.result c.block_room-room.ensures k lent _ _ x _ c.in-Plan.is, message_room a.meta.now a.raw.now a.unclassified.now a.q.lists a.q.to.page a.q.to.start a.q.to.place a.image.now a.scratch.now c.requires.lists.0 c.requires.lists.1 c.requires.apart c.block_room-room.result c.block_room-room.ensures k lent _ _ x _ c.in-Plan.is c.if-given-lt-MESSAGE_LEN.false)
 
@@ -84,7 +84,7 @@ returns-else-room-needed c =
     let k = c.min-lent.result - 0 in
     let lent : k ≡ min c.block_room-room.result (length a.scratch.now - 125) = omega (arith, c.min-lent.ensures, c.saturating_sub.ensures) in
     let x = c.serialize_paged_managers-planned.ensures
-    ∙ ap (λ (n : Counts). leaving (take k a.scratch.now) (writtenManagers a.meta.now a.raw.now a.unclassified.now n a.q.to.page a.q.to.start 8 (take k a.scratch.now)))
+    ∙ ap (λ (n : Counts). leaving (take k a.scratch.now) (written_managers a.meta.now a.raw.now a.unclassified.now n a.q.to.page a.q.to.start 8 (take k a.scratch.now)))
     c.counts_of-n.ensures in
     scratch-refused a.meta.now a.raw.now a.unclassified.now a.q.lists a.q.to.page a.q.to.start a.q.to.place a.image.now a.scratch.now c.requires.lists.0 c.requires.lists.1 c.requires.apart c.block_room-room.result c.block_room-room.ensures k lent _ _ x _ c.in-Refused.is (λ z. c.if-number-eq4.false (c.number.ensures ∙ z)) _ c.needed_of-needed.ensures c.if-room-needed.false _ c.refuse_room.ensures
 
@@ -94,6 +94,6 @@ returns-else-given-lt-MESSAGE_LEN c =
     let k = c.min-lent.result - 0 in
     let lent : k ≡ min c.block_room-room.result (length a.scratch.now - 125) = omega (arith, c.min-lent.ensures, c.saturating_sub.ensures) in
     let x = c.serialize_paged_managers-planned.ensures
-    ∙ ap (λ (n : Counts). leaving (take k a.scratch.now) (writtenManagers a.meta.now a.raw.now a.unclassified.now n a.q.to.page a.q.to.start 8 (take k a.scratch.now)))
+    ∙ ap (λ (n : Counts). leaving (take k a.scratch.now) (written_managers a.meta.now a.raw.now a.unclassified.now n a.q.to.page a.q.to.start 8 (take k a.scratch.now)))
     c.counts_of-n.ensures in
     begun a.meta.now a.raw.now a.unclassified.now a.q.lists a.q.to.page a.q.to.start a.q.to.place a.image.now a.scratch.now c.requires.lists.0 c.requires.lists.1 c.requires.apart c.block_room-room.result c.block_room-room.ensures k lent _ _ x _ c.in-Plan.is c.if-given-lt-MESSAGE_LEN.false _ c.put_message.ensures
