@@ -1,4 +1,4 @@
-/* The three functions of libcapi.a. `rt staticlib capi` writes the archive to target/staticlib/. */
+/* The three functions of libcapi.a. `rt lib` in crates/capi writes the archive to crates/capi/out/. */
 #ifndef FREE_SPACE_H
 #define FREE_SPACE_H
 
