@@ -29,6 +29,11 @@ fn input_buffer() -> [u8; 65536]
     [0; 65536]
 }
 
+// Memory for a file with both blocks of a manager.
+fn file_buffer() -> [u8; 524288] {
+    [0; 524288]
+}
+
 // Memory for a block that is written.
 fn block_buffer() -> [u8; 4096]
     ensures { 4096 ≡ length result }
@@ -89,7 +94,7 @@ fn print_strictly(
     fsse_addr: u64,
     fsse: &[u8],
 ) -> io::Result<()> {
-    let mut file = [0; 524288];
+    let mut file = file_buffer();
     write_bytes(&mut file, fshd_addr as usize, fshd);
     write_bytes(&mut file, fsse_addr as usize, fsse);
     let mut run = numbers();
