@@ -1,5 +1,3 @@
--- refusal 5 is past
--- the message lies in the image
 use mathlib.Core.Path.{◌≡◌}
 use Prim.Native.Nat.{◌+◌, ◌≤◌}
 use native.Mathlib.Omega.{arith}
@@ -10,56 +8,53 @@ use Rattle.free_lists.specs.Lists.{lists_in, regions_in}
 use Rattle.save.specs.Beginning.{away_tests, early_tests}
 use Rattle.save.proofs.OrderLaws.{away_outside, message_there, away_version, away_strategy, away_way, away_fine, shared-refused, shared-not}
 use Rattle.save.proofs.conditions.test_early.Goals as goal
+use Rattle.save.proofs.conditions.test_early.Goals.{In-Passed, Else-not-message_in}
+
+-- refusal 5 is past
+past : (c : In-Passed) →
+    let a = c.args in
+    (o : Outcome (Unit {0})) → o ≡ first_of (away_tests (regions_in (lists_in a.meta.now a.raw.now a.unclassified.now a.q.lists)) a.q.to.start a.q.to.place a.image.now) (answer tt) → o ≡ first_of (early_tests (regions_in (lists_in a.meta.now a.raw.now a.unclassified.now a.q.lists)) a.q.to.start a.q.to.place a.image.now) (answer tt)
+past c =
+    let a = c.args in
+    shared-not a.meta.now a.raw.now a.unclassified.now a.q.lists c.requires.lists _ c.check_lists-shared.ensures (away_tests (regions_in (lists_in a.meta.now a.raw.now a.unclassified.now a.q.lists)) a.q.to.start a.q.to.place a.image.now) c.in-Passed.is
+
+-- the message lies in the image
+there : (c : Else-not-message_in) → let a = c.args in a.q.to.place + 125 ≤ length a.image.now
+there c = let a = c.args in message_there (regions_in (lists_in a.meta.now a.raw.now a.unclassified.now a.q.lists)) a.q.to.start a.q.to.place a.image.now _ c.message_in.ensures c.if-not-message_in.false
 
 pub returns-then-not-message_in : goal.returns-then-not-message_in
 returns-then-not-message_in c =
-    let past : (let a = c.args in
-    (o : Outcome (Unit {0})) → o ≡ first_of (away_tests (regions_in (lists_in a.meta.now a.raw.now a.unclassified.now a.q.lists)) a.q.to.start a.q.to.place a.image.now) (answer tt) → o ≡ first_of (early_tests (regions_in (lists_in a.meta.now a.raw.now a.unclassified.now a.q.lists)) a.q.to.start a.q.to.place a.image.now) (answer tt)) = let a = c.args in
-    shared-not a.meta.now a.raw.now a.unclassified.now a.q.lists c.requires.lists _ c.check_lists-shared.ensures (away_tests (regions_in (lists_in a.meta.now a.raw.now a.unclassified.now a.q.lists)) a.q.to.start a.q.to.place a.image.now) c.in-Passed.is in
-    let a = c.args in past _ (away_outside (regions_in (lists_in a.meta.now a.raw.now a.unclassified.now a.q.lists)) a.q.to.start a.q.to.place a.image.now _ c.message_in.ensures c.if-not-message_in.true)
+    let a = c.args in past (goal.at.returns-then-not-message_in c).In-Passed _ (away_outside (regions_in (lists_in a.meta.now a.raw.now a.unclassified.now a.q.lists)) a.q.to.start a.q.to.place a.image.now _ c.message_in.ensures c.if-not-message_in.true)
 
 pub bounds-image-at : goal.bounds-image-at
 bounds-image-at c =
-    let there : (let a = c.args in a.q.to.place + 125 ≤ length a.image.now) = let a = c.args in message_there (regions_in (lists_in a.meta.now a.raw.now a.unclassified.now a.q.lists)) a.q.to.start a.q.to.place a.image.now _ c.message_in.ensures c.if-not-message_in.false in
-    let i = there in search rules
+    let i = there (goal.at.bounds-image-at c).Else-not-message_in in search rules
 
 pub returns-then-version-ne1 : goal.returns-then-version-ne1
 returns-then-version-ne1 c =
-    let past : (let a = c.args in
-    (o : Outcome (Unit {0})) → o ≡ first_of (away_tests (regions_in (lists_in a.meta.now a.raw.now a.unclassified.now a.q.lists)) a.q.to.start a.q.to.place a.image.now) (answer tt) → o ≡ first_of (early_tests (regions_in (lists_in a.meta.now a.raw.now a.unclassified.now a.q.lists)) a.q.to.start a.q.to.place a.image.now) (answer tt)) = let a = c.args in
-    shared-not a.meta.now a.raw.now a.unclassified.now a.q.lists c.requires.lists _ c.check_lists-shared.ensures (away_tests (regions_in (lists_in a.meta.now a.raw.now a.unclassified.now a.q.lists)) a.q.to.start a.q.to.place a.image.now) c.in-Passed.is in
-    let a = c.args in past _ (away_version (regions_in (lists_in a.meta.now a.raw.now a.unclassified.now a.q.lists)) a.q.to.start a.q.to.place a.image.now _ c.message_in.ensures c.if-not-message_in.false c.if-version-ne1.true)
+    let a = c.args in past (goal.at.returns-then-version-ne1 c).In-Passed _ (away_version (regions_in (lists_in a.meta.now a.raw.now a.unclassified.now a.q.lists)) a.q.to.start a.q.to.place a.image.now _ c.message_in.ensures c.if-not-message_in.false c.if-version-ne1.true)
 
 pub overflow_add-code : goal.overflow_add-code
 overflow_add-code c =
-    let there : (let a = c.args in a.q.to.place + 125 ≤ length a.image.now) = let a = c.args in message_there (regions_in (lists_in a.meta.now a.raw.now a.unclassified.now a.q.lists)) a.q.to.start a.q.to.place a.image.now _ c.message_in.ensures c.if-not-message_in.false in
-    let i = there in search rules
+    let i = there (goal.at.overflow_add-code c).Else-not-message_in in search rules
 
 pub bounds-image-at-in-Passed : goal.bounds-image-at-in-Passed
 bounds-image-at-in-Passed c =
-    let there : (let a = c.args in a.q.to.place + 125 ≤ length a.image.now) = let a = c.args in message_there (regions_in (lists_in a.meta.now a.raw.now a.unclassified.now a.q.lists)) a.q.to.start a.q.to.place a.image.now _ c.message_in.ensures c.if-not-message_in.false in
-    let i = there in search rules
+    let i = there (goal.at.bounds-image-at-in-Passed c).Else-not-message_in in search rules
 
 pub returns-then-code-gt3 : goal.returns-then-code-gt3
 returns-then-code-gt3 c =
-    let past : (let a = c.args in
-    (o : Outcome (Unit {0})) → o ≡ first_of (away_tests (regions_in (lists_in a.meta.now a.raw.now a.unclassified.now a.q.lists)) a.q.to.start a.q.to.place a.image.now) (answer tt) → o ≡ first_of (early_tests (regions_in (lists_in a.meta.now a.raw.now a.unclassified.now a.q.lists)) a.q.to.start a.q.to.place a.image.now) (answer tt)) = let a = c.args in
-    shared-not a.meta.now a.raw.now a.unclassified.now a.q.lists c.requires.lists _ c.check_lists-shared.ensures (away_tests (regions_in (lists_in a.meta.now a.raw.now a.unclassified.now a.q.lists)) a.q.to.start a.q.to.place a.image.now) c.in-Passed.is in
-    let a = c.args in past _ (away_strategy (regions_in (lists_in a.meta.now a.raw.now a.unclassified.now a.q.lists)) a.q.to.start a.q.to.place a.image.now _ c.message_in.ensures c.if-not-message_in.false c.if-version-ne1.false c.if-code-gt3.true)
+    let a = c.args in past (goal.at.returns-then-code-gt3 c).In-Passed _ (away_strategy (regions_in (lists_in a.meta.now a.raw.now a.unclassified.now a.q.lists)) a.q.to.start a.q.to.place a.image.now _ c.message_in.ensures c.if-not-message_in.false c.if-version-ne1.false c.if-code-gt3.true)
 
 pub any_in_the_way-requires : goal.any_in_the_way-requires
 any_in_the_way-requires c =
-    let there : (let a = c.args in a.q.to.place + 125 ≤ length a.image.now) = let a = c.args in message_there (regions_in (lists_in a.meta.now a.raw.now a.unclassified.now a.q.lists)) a.q.to.start a.q.to.place a.image.now _ c.message_in.ensures c.if-not-message_in.false in
-    let i = there in
+    let i = there (goal.at.any_in_the_way-requires c).Else-not-message_in in
     record { lists = c.requires.lists; message = omega arith }
 
 pub returns-then-any_in_the_way : goal.returns-then-any_in_the_way
 returns-then-any_in_the_way c =
-    let past : (let a = c.args in
-    (o : Outcome (Unit {0})) → o ≡ first_of (away_tests (regions_in (lists_in a.meta.now a.raw.now a.unclassified.now a.q.lists)) a.q.to.start a.q.to.place a.image.now) (answer tt) → o ≡ first_of (early_tests (regions_in (lists_in a.meta.now a.raw.now a.unclassified.now a.q.lists)) a.q.to.start a.q.to.place a.image.now) (answer tt)) = let a = c.args in
-    shared-not a.meta.now a.raw.now a.unclassified.now a.q.lists c.requires.lists _ c.check_lists-shared.ensures (away_tests (regions_in (lists_in a.meta.now a.raw.now a.unclassified.now a.q.lists)) a.q.to.start a.q.to.place a.image.now) c.in-Passed.is in
     let a = c.args in
-    past _ (away_way (regions_in (lists_in a.meta.now a.raw.now a.unclassified.now a.q.lists)) a.q.to.start a.q.to.place a.image.now _ c.message_in.ensures c.if-not-message_in.false c.if-version-ne1.false c.if-code-gt3.false _ c.any_in_the_way.ensures c.if-any_in_the_way.true)
+    past (goal.at.returns-then-any_in_the_way c).In-Passed _ (away_way (regions_in (lists_in a.meta.now a.raw.now a.unclassified.now a.q.lists)) a.q.to.start a.q.to.place a.image.now _ c.message_in.ensures c.if-not-message_in.false c.if-version-ne1.false c.if-code-gt3.false _ c.any_in_the_way.ensures c.if-any_in_the_way.true)
 
 pub returns-in-Refused : goal.returns-in-Refused
 returns-in-Refused c =
@@ -68,8 +63,5 @@ returns-in-Refused c =
 
 pub returns-else-any_in_the_way : goal.returns-else-any_in_the_way
 returns-else-any_in_the_way c =
-    let past : (let a = c.args in
-    (o : Outcome (Unit {0})) → o ≡ first_of (away_tests (regions_in (lists_in a.meta.now a.raw.now a.unclassified.now a.q.lists)) a.q.to.start a.q.to.place a.image.now) (answer tt) → o ≡ first_of (early_tests (regions_in (lists_in a.meta.now a.raw.now a.unclassified.now a.q.lists)) a.q.to.start a.q.to.place a.image.now) (answer tt)) = let a = c.args in
-    shared-not a.meta.now a.raw.now a.unclassified.now a.q.lists c.requires.lists _ c.check_lists-shared.ensures (away_tests (regions_in (lists_in a.meta.now a.raw.now a.unclassified.now a.q.lists)) a.q.to.start a.q.to.place a.image.now) c.in-Passed.is in
     let a = c.args in
-    past _ (away_fine (regions_in (lists_in a.meta.now a.raw.now a.unclassified.now a.q.lists)) a.q.to.start a.q.to.place a.image.now _ c.message_in.ensures c.if-not-message_in.false c.if-version-ne1.false c.if-code-gt3.false _ c.any_in_the_way.ensures c.if-any_in_the_way.false)
+    past (goal.at.returns-else-any_in_the_way c).In-Passed _ (away_fine (regions_in (lists_in a.meta.now a.raw.now a.unclassified.now a.q.lists)) a.q.to.start a.q.to.place a.image.now _ c.message_in.ensures c.if-not-message_in.false c.if-version-ne1.false c.if-code-gt3.false _ c.any_in_the_way.ensures c.if-any_in_the_way.false)
