@@ -1,4 +1,4 @@
-use Rattle.std.proofs.Common.{◌-◌, rules}
+use Rattle.std.proofs.Common.{rules}
 use Rattle.replay_calls.proofs.FrontLaws.{front-start, front_length, front_step, front-all, front_full}
 use Rattle.replay_calls.proofs.lists.put_front.Goals as goal
 

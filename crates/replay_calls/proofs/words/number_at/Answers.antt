@@ -1,4 +1,4 @@
-use Rattle.std.proofs.Common.{◌≡◌, ◌-◌, ◌<◌, ◌≤◌, length, arith, rules}
+use Rattle.std.proofs.Common.{◌<◌, length, arith, rules}
 use Rattle.replay_calls.proofs.WordLaws.{spell_start, spell_step}
 use Rattle.replay_calls.proofs.words.number_at.Goals as goal
 
