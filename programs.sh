@@ -9,7 +9,7 @@ need_program() {
     fi
     echo "building $1: its crates are proved first, which takes some minutes the first time" >&2
     built=$(mktemp)
-    (cd "$root/crates/$1" && rt run < /dev/null 2>&1 && echo built) | tee "$built" | sed -n 's/^crate \([^:]*\): .*/\1 read/p' >&2
+    (cd "$root/crates/$1" && rt run < /dev/null 2>&1 && echo built) | tee "$built" | awk '/^crate / { name = $2 } /^logic=proved/ { sub(":", "", name); print name " proved" }' >&2
     if [ "$(tail -n 1 "$built")" != built ] || [ ! -x "$program" ]; then
         cat "$built" >&2
         rm -f "$built"
