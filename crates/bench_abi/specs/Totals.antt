@@ -7,7 +7,7 @@ use Rattle.error.specs.Outcome.{Outcome, answer, nothing, refuse}
 use Rattle.error.specs.Lent.{With, with, Left}
 use Rattle.fields.specs.Ranges.{top}
 use Rattle.free_space.specs.declared.list.FreeList.{FreeList}
-use Rattle.free_space.specs.Calls.{Gave}
+use Rattle.free_space.specs.declared.list.Given.{Given}
 
 abbrev pub list_of : ℕ → ℕ → FreeList
 list_of n t = record { count = n; total = t }
@@ -17,7 +17,7 @@ kept_total (answer l) = l.total
 kept_total nothing = top
 kept_total (refuse n vs) = top
 
-abbrev pub given_total : Outcome Gave → ℕ
+abbrev pub given_total : Outcome Given → ℕ
 given_total (answer g) = g.list.total
 given_total nothing = top
 given_total (refuse n vs) = top
@@ -25,5 +25,5 @@ given_total (refuse n vs) = top
 abbrev pub kept_left : Left FreeList (List ℕ) → With ℕ (List ℕ)
 kept_left d = with (kept_total d.outcome) d.memory
 
-abbrev pub given_left : Left Gave (List ℕ) → With ℕ (List ℕ)
+abbrev pub given_left : Left Given (List ℕ) → With ℕ (List ℕ)
 given_left d = with (given_total d.outcome) d.memory

@@ -5,45 +5,15 @@
 ghost use Rattle.std.specs.Prelude.{◌≡◌};
 ghost use Rattle.error.specs.Lent.{with, leaving};
 ghost use Rattle.fsm_blocks.specs.declared.checks.Reading.TheVariants.{Loose, Strict};
-ghost use Rattle.fsm_blocks.specs.Answers.{sections_outcome};
 ghost use Rattle.fsm_blocks.specs.Reading.{persisted};
-ghost use Rattle.fsm_writer.specs.Serializing.{written_outcome, written_fshd, written_fsse};
-ghost use Rattle.fsm_pages.specs.Split.{split_outcome, split_into};
+ghost use Rattle.fsm_writer.specs.Serializing.{written_fshd, written_fsse};
+ghost use Rattle.fsm_pages.specs.Split.{split_into};
 ghost use Rattle.fields.specs.Ranges.{or_top, left_or_top};
 
 use fields::address::BaseAddress;
-use fsm_blocks::fsse::SectionsAnswer;
 use fsm_blocks::persisted::{read_persisted_sections, read_persisted_sections_strict};
-use fsm_pages::pages::{Split, split_at_pages};
-use fsm_writer::writer::{Written, serialize_fshd, serialize_fsse};
-use numbers::MAX;
-
-fn byte_count(w: Written) -> u64
-    ensures { result ≡ or_top (written_outcome w) }
-{
-    match w {
-        Written::Bytes(n) => n,
-        Written::Refused(_) => MAX,
-    }
-}
-
-fn read_count(s: SectionsAnswer) -> u64
-    ensures { result ≡ or_top (sections_outcome s) }
-{
-    match s {
-        SectionsAnswer::Read(n) => n,
-        SectionsAnswer::Refused(_) => MAX,
-    }
-}
-
-fn piece_count(s: Split) -> usize
-    ensures { result ≡ or_top (split_outcome s) }
-{
-    match s {
-        Split::Pieces(n) => n,
-        Split::Refused(_) => MAX as usize,
-    }
-}
+use fsm_pages::pages::split_at_pages;
+use fsm_writer::writer::{serialize_fshd, serialize_fsse};
 
 #[unsafe(no_mangle)]
 pub extern "C" fn bench_serialize_fshd(
@@ -55,7 +25,7 @@ pub extern "C" fn bench_serialize_fshd(
     ensures { with result out.new
         ≡ left_or_top (leaving out.old (written_fshd 8 sections.now count fsse_addr out.old)) }
 {
-    byte_count(serialize_fshd(sections, count, fsse_addr, 8, out))
+    serialize_fshd(sections, count, fsse_addr, 8, out).unwrap_or(u64::MAX)
 }
 
 #[unsafe(no_mangle)]
@@ -69,7 +39,7 @@ pub extern "C" fn bench_serialize_fsse(
     ensures { with result out.new
         ≡ left_or_top (leaving out.old (written_fsse 8 sections.now count fshd_addr class out.old)) }
 {
-    byte_count(serialize_fsse(sections, count, fshd_addr, 8, class, out))
+    serialize_fsse(sections, count, fshd_addr, 8, class, out).unwrap_or(u64::MAX)
 }
 
 #[unsafe(no_mangle)]
@@ -77,7 +47,7 @@ pub extern "C" fn bench_read_sections(bytes: &[u8], slots: &[u64], out: &mut [u6
     ensures { with result out.new
         ≡ left_or_top (leaving out.old (persisted Loose slots.now 0 8 bytes.now out.old)) }
 {
-    read_count(read_persisted_sections(bytes, slots, BaseAddress(0), 8, out))
+    read_persisted_sections(bytes, slots, BaseAddress(0), 8, out).unwrap_or(u64::MAX)
 }
 
 #[unsafe(no_mangle)]
@@ -85,7 +55,7 @@ pub extern "C" fn bench_read_sections_strict(bytes: &[u8], slots: &[u64], out: &
     ensures { with result out.new
         ≡ left_or_top (leaving out.old (persisted Strict slots.now 0 8 bytes.now out.old)) }
 {
-    read_count(read_persisted_sections_strict(bytes, slots, BaseAddress(0), 8, out))
+    read_persisted_sections_strict(bytes, slots, BaseAddress(0), 8, out).unwrap_or(u64::MAX)
 }
 
 #[unsafe(no_mangle)]
@@ -97,5 +67,5 @@ pub extern "C" fn bench_split_at_pages(
 ) -> usize
     ensures { with result out.new ≡ left_or_top (leaving out.old (split_into sections.now count page out.old)) }
 {
-    piece_count(split_at_pages(sections, count, page, out))
+    split_at_pages(sections, count, page, out).unwrap_or(usize::MAX)
 }

@@ -10,19 +10,16 @@ ghost use Rattle.paged_lists.specs.PagedCalls.{paged_in};
 ghost use Rattle.bench_paged.specs.Rounds.{records_in, memory_of, paged_round, runs_of, fill_calls, return_calls, new_page_round, list_round};
 
 use free_lists::FileLists;
-use free_lists::calls::{Answered, ListCall, Which, apply};
+use free_lists::calls::{Answer, ListCall, Which, apply};
 use free_space::list::FreeList;
-use numbers::{MAX, saturating_add, saturating_sub};
 use paged_lists::PageType;
 
 // The i-th number; 0 where there is none.
+// As in `pairs`, where it is private.
 fn number_at(numbers: &[u64], i: usize) -> u64
     ensures { result ≡ get_or numbers.now i 0 }
 {
-    if numbers.len() <= i {
-        return 0;
-    }
-    numbers[i]
+    numbers.get(i).copied().unwrap_or(0)
 }
 
 fn records_in(numbers: &[u64]) -> FileLists
@@ -68,16 +65,15 @@ pub extern "C" fn bench_paged(
         PageType::Meta,
         len,
     );
-    let after = made.lists;
-    let answer = made.answer;
-    match answer {
-        Answered::At(addr) => {
+    // An arm for each answer: what the `else` of a `let` over this nested pattern tells is too little for the proof.
+    match made.answer {
+        Ok(Answer::At(addr)) => {
             paged_calls::free(
                 metadata,
                 raw,
                 unclassified,
                 marks,
-                after,
+                made.lists,
                 page,
                 PageType::Meta,
                 addr,
@@ -85,13 +81,14 @@ pub extern "C" fn bench_paged(
             );
             addr
         }
-        Answered::Done => MAX,
-        Answered::Nothing => MAX,
-        Answered::Refused(_) => MAX,
+        Ok(Answer::Done) => u64::MAX,
+        Ok(Answer::Nothing) => u64::MAX,
+        Err(_) => u64::MAX,
     }
 }
 
 // The rest of a page joins the metadata list, and then the bytes from its front.
+// Runs come one by one: of a struct of `&mut` each function would have to promise that its fields are still what was lent.
 fn fill_page(
     metadata: &mut [u64],
     raw: &mut [u64],
@@ -105,16 +102,19 @@ fn fill_page(
         ≡ lists_after (fill_calls page addr len) (lists_in metadata.old raw.old unclassified.old lists) }
 {
     let rest = ListCall::Free {
-        addr: saturating_add(addr, len),
-        len: saturating_sub(page, len),
+        addr: addr.saturating_add(len),
+        len: page.saturating_sub(len),
     };
     let joined = apply(metadata, raw, unclassified, lists, Which::Metadata, rest);
-    let after = joined.lists;
-    let bytes = ListCall::Free {
-        addr: addr,
-        len: len,
-    };
-    let filled = apply(metadata, raw, unclassified, after, Which::Metadata, bytes);
+    let bytes = ListCall::Free { addr, len };
+    let filled = apply(
+        metadata,
+        raw,
+        unclassified,
+        joined.lists,
+        Which::Metadata,
+        bytes,
+    );
     filled.lists
 }
 
@@ -130,21 +130,14 @@ fn return_page(
     ensures { lists_in metadata.new raw.new unclassified.new result
         ≡ lists_after (return_calls page addr) (lists_in metadata.old raw.old unclassified.old lists) }
 {
-    let take = ListCall::TakeRange {
-        addr: addr,
-        len: page,
-    };
+    let take = ListCall::TakeRange { addr, len: page };
     let taken = apply(metadata, raw, unclassified, lists, Which::Metadata, take);
-    let after = taken.lists;
-    let free = ListCall::Free {
-        addr: addr,
-        len: page,
-    };
+    let free = ListCall::Free { addr, len: page };
     let given = apply(
         metadata,
         raw,
         unclassified,
-        after,
+        taken.lists,
         Which::Unclassified,
         free,
     );
@@ -192,16 +185,15 @@ fn in_new_page(
         Which::Unclassified,
         call,
     );
-    let after = made.lists;
-    let answer = made.answer;
-    match answer {
-        Answered::At(addr) => {
-            fill_and_return(metadata, raw, unclassified, after, page, addr, len);
+    // An arm for each answer, as in `bench_paged`.
+    match made.answer {
+        Ok(Answer::At(addr)) => {
+            fill_and_return(metadata, raw, unclassified, made.lists, page, addr, len);
             addr
         }
-        Answered::Done => MAX,
-        Answered::Nothing => MAX,
-        Answered::Refused(_) => MAX,
+        Ok(Answer::Done) => u64::MAX,
+        Ok(Answer::Nothing) => u64::MAX,
+        Err(_) => u64::MAX,
     }
 }
 
@@ -220,21 +212,23 @@ pub extern "C" fn bench_list_calls(
         ≡ list_round page len (lists_in metadata.old raw.old unclassified.old (records_in numbers.now)) }
 {
     let lists = records_in(numbers);
-    let call = ListCall::Alloc { len: len };
+    let call = ListCall::Alloc { len };
     let made = apply(metadata, raw, unclassified, lists, Which::Metadata, call);
-    let after = made.lists;
-    let answer = made.answer;
-    match answer {
-        Answered::At(addr) => {
-            let back = ListCall::Free {
-                addr: addr,
-                len: len,
-            };
-            apply(metadata, raw, unclassified, after, Which::Metadata, back);
+    match made.answer {
+        Ok(Answer::At(addr)) => {
+            let back = ListCall::Free { addr, len };
+            apply(
+                metadata,
+                raw,
+                unclassified,
+                made.lists,
+                Which::Metadata,
+                back,
+            );
             addr
         }
-        Answered::Done => MAX,
-        Answered::Nothing => in_new_page(metadata, raw, unclassified, after, page, len),
-        Answered::Refused(_) => MAX,
+        Ok(Answer::Done) => u64::MAX,
+        Ok(Answer::Nothing) => in_new_page(metadata, raw, unclassified, made.lists, page, len),
+        Err(_) => u64::MAX,
     }
 }

@@ -3,45 +3,40 @@
 #![tactic(auto)]
 
 ghost use Rattle.std.specs.Prelude.{◌≡◌, get_or};
+ghost use Rattle.error.specs.Answers.{as_outcome};
 ghost use Rattle.error.specs.Lent.{with, leaving};
-ghost use Rattle.fsm_plan.specs.Plan.{planned_outcome, planned};
+ghost use Rattle.fsm_plan.specs.Plan.{planned};
 ghost use Rattle.free_lists.specs.Lists.{lists_in};
-ghost use Rattle.save.specs.Saving.{begun, begin_outcome};
+ghost use Rattle.save.specs.Saving.{begun};
 ghost use Rattle.bench_save.specs.Lengths.{whole_lists, whole_counts, end_or_top, len_or_top, plan_left, save_left};
 
+use error::Refusal;
 use free_lists::FileLists;
 use free_space::list::FreeList;
 use fsm_plan::Counts;
-use fsm_plan::plan::{Planned, plan_paged_managers};
-use numbers::MAX;
-use save::{Begin, Target, save_begin};
+use fsm_plan::blocks::PagedManagerPlan;
+use fsm_plan::plan::plan_paged_managers;
+use save::{Target, save_begin};
+use save_step::Save;
 
-fn end_of(p: Planned) -> u64
-    ensures { result ≡ end_or_top (planned_outcome p) }
+fn end_of(p: Result<PagedManagerPlan, Refusal>) -> u64
+    ensures { result ≡ end_or_top (as_outcome p) }
 {
-    match p {
-        Planned::Plan(plan) => plan.end_of_managers,
-        Planned::Refused(_) => MAX,
-    }
+    p.map_or(u64::MAX, |plan| plan.end_of_managers)
 }
 
-fn len_of(b: Begin) -> u64
-    ensures { result ≡ len_or_top (begin_outcome b) }
+fn len_of(b: Result<Save, Refusal>) -> u64
+    ensures { result ≡ len_or_top (as_outcome b) }
 {
-    match b {
-        Begin::Begun(s) => s.len,
-        Begin::Refused(_) => MAX,
-    }
+    b.map_or(u64::MAX, |save| save.len)
 }
 
 // The i-th total; 0 where there is none.
+// As in `pairs`, where it is private.
 fn total_at(totals: &[u64], i: usize) -> u64
     ensures { result ≡ get_or totals.now i 0 }
 {
-    if totals.len() <= i {
-        return 0;
-    }
-    totals[i]
+    totals.get(i).copied().unwrap_or(0)
 }
 
 fn lists_of(meta: &[u64], raw: &[u64], unclassified: &[u64], totals: &[u64]) -> FileLists
@@ -103,8 +98,8 @@ pub extern "C" fn bench_save_begin(
 {
     let lists = lists_of(meta, raw, unclassified, totals);
     let to = Target {
-        page: page,
-        start: start,
+        page,
+        start,
         place: 0,
     };
     len_of(save_begin(meta, raw, unclassified, lists, to, image, scratch))

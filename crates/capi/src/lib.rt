@@ -7,8 +7,6 @@ ghost use Rattle.checksum.specs.Lookup3.{lookup3};
 ghost use Rattle.fields.specs.Width.{enc_size, fshd_len};
 ghost use Rattle.capi.specs.Refused.{or_zero};
 
-use error::Number;
-
 // The checksum of a block's bytes.
 #[unsafe(no_mangle)]
 pub extern "C" fn jenkins_lookup3(bytes: &[u8]) -> u32
@@ -30,8 +28,5 @@ pub extern "C" fn enc_size(value: u64) -> usize
 pub extern "C" fn fshd_len(offset_size: u8) -> u64
     ensures { result ≡ or_zero (fshd_len offset_size) }
 {
-    match fields::width::fshd_len(offset_size) {
-        Number::Is(n) => n,
-        Number::Refused(_) => 0,
-    }
+    fields::width::fshd_len(offset_size).unwrap_or(0)
 }

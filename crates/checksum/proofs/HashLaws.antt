@@ -1,5 +1,5 @@
 -- Laws of the hash: an iteration of its loop, its end, and its bound. Assumes nothing.
-use Rattle.std.proofs.Common.{◌≡◌, ℕ, zero, suc, ◌+◌, ◌-◌, ◌%◌, ◌^◌, ◌<◌, ◌≤◌, List, [], ◌∷◌, length, take, drop, sym, refl, ap, ◌∙◌, ⊎_elim, mod-lt, arith, lit<, length-drop, drop_of_length-le, take_all, drop-cons, drop-drop, le-ltb, lt-ltb}
+use Rattle.std.proofs.Common.{◌≡◌, ℕ, zero, suc, ◌+◌, ◌-◌, ◌%◌, ◌^◌, ◌<◌, ◌≤◌, List, [], ◌∷◌, length, take, drop, sym, refl, ap, ◌∙◌, ⊎_elim, mod-lt, arith, lit<, length-drop, take_all, le-ltb, lt-ltb}
 use Rattle.error.proofs.TestLaws.{le-or-lt}
 use Rattle.checksum.specs.declared.Words.{Words}
 use Rattle.checksum.specs.Lookup3.{sub32, mixed, finished, block_added, tail_added, ending, hash_from, seed, hash_of, lookup3}
@@ -29,35 +29,31 @@ enough (suc m) (suc n) k w hm hn =
 unfoldable pub hash : List ℕ → Words → ℕ
 hash k w = hash_from (length k) k w
 
-pub hash_start : (k : List ℕ) (initval l t s : ℕ) → l ≡ length k % 2 ^ 32 → t ≡ (0xdeadbeef + l) % 2 ^ 32 → s ≡ (t + initval) % 2 ^ 32 → hash k (seed s) ≡ hash_of k initval
+pub hash_start : (k : List ℕ) (initval : ℕ) → hash k (seed (((0xdeadbeef + length k % 2 ^ 32) % 2 ^ 32 + initval) % 2 ^ 32)) ≡ hash_of k initval
 unfolding hash hash_of
-hash_start k initval l t s el et es =
-    let q : s ≡ (0xdeadbeef + length k + initval) % 2 ^ 32 = omega arith in
+hash_start k initval =
+    let q : ((0xdeadbeef + length k % 2 ^ 32) % 2 ^ 32 + initval) % 2 ^ 32 ≡ (0xdeadbeef + length k + initval) % 2 ^ 32 = omega arith in
     ap (λ (n : ℕ). hash_from (length k) k (seed n)) q
 
-module _ (at : ℕ) (k : List ℕ) (w : Words) where
-  pub hash_step : 12 < length k - at → hash (drop at k) w ≡ hash (drop (at + 12) k) (mixed (block_added (drop at k) w))
-  unfolding hash
-  hash_step h =
-      let r = drop at k in
-      let l : length r ≡ length k - at = length-drop at k in
-      let v = mixed (block_added r w) in
-      enough (length r) (suc (length r)) r w (omega arith) (omega arith)
-      ∙ iteration (length r) r w (omega arith)
-      ∙ enough (length r) (length (drop 12 r)) (drop 12 r) v (omega (arith, length-drop 12 r)) (omega arith)
-      ∙ ap (λ (q : List ℕ). hash_from (length q) q v) (drop-drop 12 at k)
+-- the bytes after the first twelve as the code lends them, with an end
+pub hash_step : (k : List ℕ) (w : Words) → 12 < length k → hash k w ≡ hash (take (length k - 12) (drop 12 k)) (mixed (block_added k w))
+unfolding hash
+hash_step k w h =
+    let v = mixed (block_added k w) in
+    enough (length k) (suc (length k)) k w (omega arith) (omega arith)
+    ∙ iteration (length k) k w h
+    ∙ enough (length k) (length (drop 12 k)) (drop 12 k) v (omega (arith, length-drop 12 k)) (omega arith)
+    ∙ ap (λ (l : List ℕ). hash_from (length l) l v) (sym (take_all (length k - 12) (drop 12 k) (omega (arith, length-drop 12 k))))
 
-  pub hash_none : length k ≤ at → hash (drop at k) w ≡ w.c
-  unfolding hash ending hash_from
-  hash_none h = rw (drop_of_length-le k h)
+pub hash_none : (k : List ℕ) (w : Words) → length k ≡ 0 → hash k w ≡ w.c
+unfolding hash ending hash_from
+hash_none [] w h = refl
+hash_none (x ∷ k) w h = absurd (omega arith)
 
-  -- the bytes as the code lends them, with an end
-  pub hash_some : at < length k → length k - at ≤ 12 → hash (drop at k) w ≡ (finished (tail_added 0 (take (length k - at) (drop at k)) w)).c
-  unfolding hash ending
-  hash_some h h12 =
-      let l : length (drop at k) ≡ length k - at = length-drop at k in
-      let e : take (length k - at) (drop at k) ≡ drop at k = take_all (length k - at) (drop at k) (omega arith) in
-      rw e (stop (length (drop at k)) (drop at k) w (omega arith) ∙ rw (drop-cons k at 0 h))
+pub hash_some : (k : List ℕ) (w : Words) → 0 < length k → length k ≤ 12 → hash k w ≡ (finished (tail_added 0 k w)).c
+unfolding hash ending
+hash_some [] w h l = absurd (omega arith)
+hash_some (x ∷ k) w h l = stop (length (x ∷ k)) (x ∷ k) w l
 
 -- ---- the checksum
 

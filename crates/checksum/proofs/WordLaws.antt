@@ -1,10 +1,10 @@
 -- Laws of 32-bit words: the rotation, the wrapping difference, and the word that bytes spell. Assumes nothing.
-use Rattle.std.proofs.Common.{◌≡◌, ℕ, ◌+◌, ◌-◌, ◌*◌, ◌/◌, ◌%◌, ◌^◌, ◌<◌, List, [], ◌∷◌, get_or, take, drop, sym, refl, ap, ◌∙◌, subst, add-zero, le_of_lt, add-sub_of_le, sub-add_cancel, mul-div_cancel, arith, get_or-drop, pow_pos, shr_lt}
+use Rattle.std.proofs.Common.{◌≡◌, ℕ, ◌+◌, ◌-◌, ◌*◌, ◌/◌, ◌%◌, ◌^◌, ◌<◌, ◌≤◌, length, List, [], ◌∷◌, get_or, take, drop, sym, refl, ap, ◌∙◌, subst, add-zero, le_of_lt, add-sub_of_le, sub-add_cancel, mul-div_cancel, arith, get_or-drop, length-drop, take_all, pow_pos, shr_lt}
 use native.Mathlib.Nat.{mul-mod_left}
 use lib.Bits.{bit_or, or_shifted}
 use lib.Pow.{mod-pow-add}
 use Rattle.fields.specs.Le.{le_value}
-use Rattle.checksum.specs.Lookup3.{rotl32, sub32}
+use Rattle.checksum.specs.Lookup3.{rotl32}
 
 -- ---- the rotation
 
@@ -29,15 +29,9 @@ rot_or x k hx hk =
     subst (λ (n : ℕ). bit_or (x * 2 ^ k % 2 ^ n) (x / 2 ^ (32 - k)) ≡ x * 2 ^ k % 2 ^ n + x / 2 ^ (32 - k)) e
     (parts x (32 - k) k (subst (λ (n : ℕ). x < 2 ^ n) (sym e') hx))
 
--- ---- the wrapping difference
-
-pub sub_wraps : (r x y : ℕ) → r < 2 ^ 32 → y < 2 ^ 32 → (r + y) % 2 ^ 32 ≡ x → r ≡ sub32 x y
-unfolding sub32
-sub_wraps r x y hr hy e = omega arith
-
 -- ---- the word that bytes spell
 
-four : (k : List ℕ) → le_value (take 4 k) ≡ get_or k 0 0 + get_or k 1 0 * 256 + get_or k 2 0 * 65536 + get_or k 3 0 * 16777216
+pub four : (k : List ℕ) → le_value (take 4 k) ≡ get_or k 0 0 + get_or k 1 0 * 256 + get_or k 2 0 * 65536 + get_or k 3 0 * 16777216
 unfolding le_value
 four [] = refl
 four (a ∷ []) = omega arith
@@ -50,3 +44,7 @@ pub word-is : (at : ℕ) (k : List ℕ)
 word-is at k =
     let e : get_or (drop at k) 0 0 ≡ get_or k at 0 = get_or-drop at k 0 0 ∙ ap (λ (n : ℕ). get_or k n 0) (add-zero at) in
     omega (arith, four (drop at k), get_or-drop at k 1 0, get_or-drop at k 2 0, get_or-drop at k 3 0)
+
+-- the bytes from a place on, as the code lends them, with an end
+pub word_part : (n : ℕ) (k : List ℕ) → le_value (take 4 (take (length k - n) (drop n k))) ≡ le_value (take 4 (drop n k))
+word_part n k = ap (λ (l : List ℕ). le_value (take 4 l)) (take_all (length k - n) (drop n k) (omega (arith, length-drop n k)))

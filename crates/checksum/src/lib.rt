@@ -2,13 +2,13 @@
 #![tactic(auto)]
 
 ghost use Rattle.std.specs.Prelude.{◌≡◌, ◌+◌, ◌%◌, ◌^◌, ◌<◌, ◌≤◌, length, take, drop};
-ghost use Rattle.error.specs.Answers.{checked_outcome};
+ghost use Rattle.error.specs.Answers.{as_outcome};
 ghost use Rattle.fields.specs.Le.{le_value};
 ghost use Rattle.checksum.specs.Lookup3.{sub32, xor32, rotl32, mixed, finished, block_added, tail_added, hash_of, lookup3};
 ghost use Rattle.checksum.specs.LastBlock.{padded};
 ghost use Rattle.checksum.specs.Trailing.{trailing};
 
-use error::{Checked, Refusal};
+use error::Refusal;
 
 // The three words that lookup3 mixes.
 #[derive(Clone, Copy)]
@@ -18,7 +18,7 @@ struct Words {
     c: u32,
 }
 
-// `x` rotated left by `k` bits, 1 to 31 of them.
+// `x` rotated left by `k` bits, 1 to 31 of them: by shifts and or, as lookup3.c has it. What they mean is proved once, for every amount.
 fn rot(x: u32, k: u32) -> u32
     requires { (1 ≤ k) × (k < 32) }
     ensures { result ≡ rotl32 x k }
@@ -27,11 +27,12 @@ fn rot(x: u32, k: u32) -> u32
 }
 
 // x -= z; x ^= rot(z, k)
+// `k` is one of lookup3.c's constants: as a const parameter it would only stand before the bracket.
 fn sub_xor_rot(x: u32, z: u32, k: u32) -> u32
     requires { (1 ≤ k) × (k < 32) }
     ensures { result ≡ xor32 (sub32 x z) (rotl32 z k) }
 {
-    std::num::wrapping_sub_u32(x, z) ^ rot(z, k)
+    x.wrapping_sub(z) ^ rot(z, k)
 }
 
 // x ^= z; x -= rot(z, k)
@@ -39,36 +40,40 @@ fn xor_sub_rot(x: u32, z: u32, k: u32) -> u32
     requires { (1 ≤ k) × (k < 32) }
     ensures { result ≡ sub32 (xor32 x z) (rotl32 z k) }
 {
-    std::num::wrapping_sub_u32(x ^ z, rot(z, k))
+    (x ^ z).wrapping_sub(rot(z, k))
 }
 
 fn mix(w: Words) -> Words
     ensures { result ≡ mixed w }
 {
-    let mut a = w.a;
-    let mut b = w.b;
-    let mut c = w.c;
+    let Words {
+        mut a,
+        mut b,
+        mut c,
+    } = w;
     a = sub_xor_rot(a, c, 4);
-    c = std::num::wrapping_add_u32(c, b);
+    c = c.wrapping_add(b);
     b = sub_xor_rot(b, a, 6);
-    a = std::num::wrapping_add_u32(a, c);
+    a = a.wrapping_add(c);
     c = sub_xor_rot(c, b, 8);
-    b = std::num::wrapping_add_u32(b, a);
+    b = b.wrapping_add(a);
     a = sub_xor_rot(a, c, 16);
-    c = std::num::wrapping_add_u32(c, b);
+    c = c.wrapping_add(b);
     b = sub_xor_rot(b, a, 19);
-    a = std::num::wrapping_add_u32(a, c);
+    a = a.wrapping_add(c);
     c = sub_xor_rot(c, b, 4);
-    b = std::num::wrapping_add_u32(b, a);
-    Words { a: a, b: b, c: c }
+    b = b.wrapping_add(a);
+    Words { a, b, c }
 }
 
 fn final_mix(w: Words) -> Words
     ensures { result ≡ finished w }
 {
-    let mut a = w.a;
-    let mut b = w.b;
-    let mut c = w.c;
+    let Words {
+        mut a,
+        mut b,
+        mut c,
+    } = w;
     c = xor_sub_rot(c, b, 14);
     a = xor_sub_rot(a, c, 11);
     b = xor_sub_rot(b, a, 25);
@@ -76,35 +81,26 @@ fn final_mix(w: Words) -> Words
     a = xor_sub_rot(a, c, 4);
     b = xor_sub_rot(b, a, 14);
     c = xor_sub_rot(c, b, 24);
-    Words { a: a, b: b, c: c }
+    Words { a, b, c }
 }
 
-fn wide(x: u8) -> u32
-    ensures { (result ≡ x) × (result < 256) }
+// The word that the first four bytes spell.
+fn word(bytes: &[u8]) -> u32
+    requires { 4 ≤ length bytes.now }
+    ensures { result ≡ le_value (take 4 bytes.now) }
 {
-    x as u32
+    u32::from_le_bytes([bytes[0], bytes[1], bytes[2], bytes[3]])
 }
 
-// The word that the four bytes at `at` spell.
-fn word(bytes: &[u8], at: usize) -> u32
-    requires { at + 4 ≤ length bytes.now }
-    ensures { result ≡ le_value (take 4 (drop at bytes.now)) }
-{
-    wide(bytes[at])
-        + (wide(bytes[at + 1]) << 8)
-        + (wide(bytes[at + 2]) << 16)
-        + (wide(bytes[at + 3]) << 24)
-}
-
-// Adds the twelve bytes at `at`.
-fn add_block(w: Words, bytes: &[u8], at: usize) -> Words
-    requires { at + 12 ≤ length bytes.now }
-    ensures { result ≡ block_added (drop at bytes.now) w }
+// Adds the first twelve bytes.
+fn add_block(w: Words, bytes: &[u8]) -> Words
+    requires { 12 ≤ length bytes.now }
+    ensures { result ≡ block_added bytes.now w }
 {
     Words {
-        a: std::num::wrapping_add_u32(w.a, word(bytes, at)),
-        b: std::num::wrapping_add_u32(w.b, word(bytes, at + 4)),
-        c: std::num::wrapping_add_u32(w.c, word(bytes, at + 8)),
+        a: w.a.wrapping_add(word(bytes)),
+        b: w.b.wrapping_add(word(&bytes[4..])),
+        c: w.c.wrapping_add(word(&bytes[8..])),
     }
 }
 
@@ -115,10 +111,8 @@ fn last_block(bytes: &[u8]) -> [u8; 12]
     ensures { result ≡ padded bytes.now }
 {
     let mut block = [0; 12];
-    let mut i = 0;
-    while i < bytes.len() {
-        block[i] = block[i] | bytes[i];
-        i += 1;
+    for (i, byte) in bytes.iter().enumerate() {
+        block[i] |= *byte;
     }
     block
 }
@@ -128,41 +122,31 @@ fn add_tail(w: Words, bytes: &[u8]) -> Words
     requires { length bytes.now ≤ 12 }
     ensures { result ≡ tail_added 0 bytes.now w }
 {
-    let block = last_block(bytes);
-    add_block(w, &block, 0)
-}
-
-// A length modulo 2^32.
-fn low_word(n: usize) -> u32
-    ensures { result ≡ n % 2 ^ 32 }
-{
-    (n % 4294967296) as u32
+    add_block(w, &last_block(bytes))
 }
 
 // lookup3.c's `hashlittle`.
 pub fn hashlittle(data: &[u8], initval: u32) -> u32
     ensures { result ≡ hash_of «data».now initval }
 {
-    let len = data.len();
-    let start = std::num::wrapping_add_u32(
-        std::num::wrapping_add_u32(0xdeadbeef, low_word(len)),
-        initval,
-    );
+    // The length modulo 2^32.
+    let len = (data.len() % 0x1_0000_0000) as u32;
+    let start = 0xdeadbeefu32.wrapping_add(len).wrapping_add(initval);
     let mut w = Words {
         a: start,
         b: start,
         c: start,
     };
-    let mut at = 0;
-    while 12 < len - at {
-        w = mix(add_block(w, data, at));
-        at += 12;
+    // A `for` over chunks would give the last twelve bytes as a block too, which are not mixed.
+    let mut rest = data;
+    while 12 < rest.len() {
+        w = mix(add_block(w, rest));
+        rest = &rest[12..];
     }
-    if len <= at {
+    if rest.is_empty() {
         return w.c;
     }
-    let last = final_mix(add_tail(w, &data[at..]));
-    last.c
+    final_mix(add_tail(w, rest)).c
 }
 
 // The checksum of bytes.
@@ -173,24 +157,19 @@ pub fn jenkins_lookup3(data: &[u8]) -> u32
 }
 
 // Whether the last four bytes of a block are the checksum of those before them.
-pub fn verify_trailing(block: &[u8]) -> Checked
-    ensures { checked_outcome result ≡ trailing block.now }
+pub fn verify_trailing(block: &[u8]) -> Result<(), Refusal>
+    ensures { as_outcome result ≡ trailing block.now }
 {
-    let len = block.len();
-    if len < 4 {
-        return Checked::Refused(Refusal::Short {
+    let Some((body, sum)) = block.split_last_chunk::<4>() else {
+        return Err(Refusal::Short {
             expected: 4,
-            available: len as u64,
+            available: block.len() as u64,
         });
-    }
-    let end = len - 4;
-    let stored = word(block, end);
-    let computed = jenkins_lookup3(&block[..end]);
+    };
+    let stored = word(sum);
+    let computed = jenkins_lookup3(body);
     if computed != stored {
-        return Checked::Refused(Refusal::Checksum {
-            stored: stored,
-            computed: computed,
-        });
+        return Err(Refusal::Checksum { stored, computed });
     }
-    Checked::Passed
+    Ok(())
 }

@@ -5,10 +5,9 @@
 
 use end_to_end::anew::call_save_anew;
 use end_to_end::call_save_read;
-use image::{ImageAnswer, ImageRead};
-use numbers::{MAX, saturating_add};
+use image::ImageRead;
 use save::Target;
-use save_step::{Save, Step, save_step};
+use save_step::{Progress, Save, save_step};
 use std::io;
 use streams::read_full;
 use text::words::write_bytes;
@@ -29,37 +28,14 @@ fn calls(addr: u64, len: u64) -> [u64; 4] {
 fn target(start: u64) -> Target {
     Target {
         page: 4096,
-        start: start,
+        start,
         place: 0,
     }
 }
 
-// Whether two runs have the same numbers.
-fn same_numbers(a: &[u64], b: &[u64]) -> bool {
-    let mut i = 0;
-    while i < a.len() {
-        if b.len() <= i {
-            return false;
-        }
-        if a[i] != b[i] {
-            return false;
-        }
-        i += 1;
-    }
-    a.len() == b.len()
-}
-
 // Whether a reading gives these counts of the slots, and its run these sections.
 fn reads_as(read: ImageRead, run: &[u64], counts: &[u64], sections: &[u64]) -> bool {
-    let answer = read.answer;
-    let ImageAnswer::Read = answer else {
-        return false;
-    };
-    let found = read.counts;
-    if !same_numbers(&found, counts) {
-        return false;
-    }
-    same_numbers(run, sections)
+    read.answer.is_ok() && read.counts.as_slice() == counts && run == sections
 }
 
 // Saves a free region with its blocks at `start`, cut after `k` steps, and reads the image into a run.
@@ -102,7 +78,7 @@ fn reads_old(read: ImageRead, run: &[u64]) -> bool {
 fn save_old(image: &mut [u8]) -> bool {
     write_bytes(image, 0, &[1, 1]);
     let mut run = [0; 6];
-    let read = save_cut(1000, 50, 10000, MAX, image, &mut run);
+    let read = save_cut(1000, 50, 10000, u64::MAX, image, &mut run);
     reads_old(read, &run)
 }
 
@@ -159,28 +135,15 @@ fn print_line(rt: &impl Print, words: &[u8], value: u64) -> io::Result<()> {
     println!(rt; "{value}")
 }
 
-// The count after a cut that agrees or not.
-fn one_more(count: u64, agrees: bool) -> u64 {
-    if agrees {
-        saturating_add(count, 1)
-    } else {
-        count
-    }
-}
-
 // At how many cuts the readings agree, and at how many the fresh saves.
 fn print_cuts(rt: &impl Print, old: &[u8], uncut: &[u8]) -> io::Result<()> {
-    let mut read = 0;
-    let mut fresh = 0;
-    let mut k = 0;
-    while k <= STORES {
-        read = one_more(read, read_agrees(k, old));
-        fresh = one_more(fresh, fresh_agrees(k, old, uncut));
-        k += 1;
-    }
-    print_line(rt, b"cuts ", k)?;
-    print_line(rt, b"readings that agree ", read)?;
-    print_line(rt, b"fresh saves that end uncut ", fresh)
+    let read = (0..=STORES).filter(|k| read_agrees(*k, old)).count();
+    let fresh = (0..=STORES)
+        .filter(|k| fresh_agrees(*k, old, uncut))
+        .count();
+    print_line(rt, b"cuts ", STORES + 1)?;
+    print_line(rt, b"readings that agree ", read as u64)?;
+    print_line(rt, b"fresh saves that end uncut ", fresh as u64)
 }
 
 // What a step of M9 says when `done` stores are made.
@@ -189,13 +152,12 @@ fn print_step(rt: &impl Print, done: u64, image: &mut [u8]) -> io::Result<()> {
         start: START as u64,
         place: 0,
         len: (END - START) as u64,
-        done: done,
+        done,
     };
-    let step = save_step(save, image, &[0; 377]);
-    match step {
-        Step::Stored(after) => print_line(rt, b"stored ", after.done),
-        Step::Finished => print_line(rt, b"finished after ", done),
-        Step::Refused(refusal) => print_line(rt, b"refused ", refusal.number() as u64),
+    match save_step(save, image, &[0; 377]) {
+        Ok(Progress::Stored(after)) => print_line(rt, b"stored ", after.done),
+        Ok(Progress::Finished) => print_line(rt, b"finished after ", done),
+        Err(refusal) => print_line(rt, b"refused ", u64::from(refusal.number())),
     }
 }
 

@@ -8,6 +8,8 @@ use mathlib.Core.Bool.{Bool, true}
 use mathlib.Core.List.{List}
 use borrow.Author.Tests.{le-leb}
 use lib.ListN.{length}
+use Rattle.std.specs.Prelude.{Result, Ok, Err}
+use Rattle.error.specs.Answers.{as_outcome}
 use Rattle.error.specs.declared.Refusal.{Refusal}
 use Rattle.error.specs.Outcome.{Outcome, answer, nothing, refuse}
 use Rattle.error.specs.Lent.{With, with, Left, left, leaving}
@@ -19,9 +21,7 @@ use Rattle.free_lists.specs.History.{CallOn, empty_lists, free_by_history}
 use Rattle.file_space_info.specs.Message.{message_len}
 use Rattle.save_step.specs.declared.Save.{Save}
 use Rattle.save_step.specs.Steps.{all_made, stepped, Saving, saving, step_on, steps}
-use Rattle.save.specs.declared.Begin.{Begin}
-use Rattle.save.specs.declared.Begin.TheVariants.{Begun, Refused}
-use Rattle.save.specs.Saving.{begun, begin_outcome}
+use Rattle.save.specs.Saving.{begun}
 use Rattle.save.specs.EveryCut.{OneSave, one_save, blocks, store_count, after_steps, image_after, record_at, EveryCut}
 use Rattle.save.proofs.AfterCallsLaws.{every-cut-after-calls}
 use Rattle.end_to_end.specs.Cuts.{begun_with}
@@ -39,19 +39,19 @@ module _ (k : ℕ) (image scratch : List ℕ) where
   of-begun scratch₂ o nothing e = ap (λ (q : Left Save (List ℕ)). steps_of k image q.memory (begun_with q.memory q.outcome)) e
   of-begun scratch₂ o (refuse n vs) e = ap (λ (q : Left Save (List ℕ)). steps_of k image q.memory (begun_with q.memory q.outcome)) e
 
-  module _ (b : Outcome (With Save (List ℕ))) (begin : Begin) (scratch₂ : List ℕ) (e : left (begin_outcome begin) scratch₂ ≡ leaving scratch b) where
+  module _ (b : Outcome (With Save (List ℕ))) (begin : (Result Save Refusal)) (scratch₂ : List ℕ) (e : left (as_outcome begin) scratch₂ ≡ leaving scratch b) where
     -- a beginning that is refused
-    pub refused-steps : (r : Refusal) → begin ≡ Refused r → stepped_by (Refused r) image scratch₂ ≡ steps_of k image scratch b
+    pub refused-steps : (r : Refusal) → begin ≡ Err r → stepped_by (Err r) image scratch₂ ≡ steps_of k image scratch b
     refused-steps r f =
-        sym (ap (λ (x : Begin). steps_of k image scratch₂ (begun_with scratch₂ (begin_outcome x))) f) ∙ of-begun scratch₂ (begin_outcome begin) b e
+        sym (ap (λ (x : (Result Save Refusal)). steps_of k image scratch₂ (begun_with scratch₂ (as_outcome x))) f) ∙ of-begun scratch₂ (as_outcome begin) b e
 
     -- steps of a save that began
-    pub begun-steps : (s : Save) → begin ≡ Begun s → (t : Save) (image₂ : List ℕ) → saving t image₂ ≡ steps k scratch₂ (saving s image)
-        → stepped_by (Begun t) image₂ scratch₂ ≡ steps_of k image scratch b
+    pub begun-steps : (s : Save) → begin ≡ Ok s → (t : Save) (image₂ : List ℕ) → saving t image₂ ≡ steps k scratch₂ (saving s image)
+        → stepped_by (Ok t) image₂ scratch₂ ≡ steps_of k image scratch b
     begun-steps s f t image₂ g =
         ap (λ (x : Saving). stepped_with (answer x.save) x.image scratch₂) g
-        ∙ sym (ap (λ (x : Begin). steps_of k image scratch₂ (begun_with scratch₂ (begin_outcome x))) f)
-        ∙ of-begun scratch₂ (begin_outcome begin) b e
+        ∙ sym (ap (λ (x : (Result Save Refusal)). steps_of k image scratch₂ (begun_with scratch₂ (as_outcome x))) f)
+        ∙ of-begun scratch₂ (as_outcome begin) b e
 
 -- ---- the uncut image
 
@@ -133,12 +133,12 @@ module _ (runs : Which → List ℕ) (calls : List CallOn) (page start place k :
 -- ---- two saves of the lists that calls left
 
 module _ (runs : Which → List ℕ) (calls : List CallOn) (page start place k : ℕ) (image scratch other : List ℕ) (p : page < 2 ^ 64) (q : start < 2 ^ 64)
-    (low : length other < top) (ls : Lists) (same : ls ≡ lists runs calls) (first : Begin) (image₂ scratch₂ : List ℕ)
+    (low : length other < top) (ls : Lists) (same : ls ≡ lists runs calls) (first : (Result Save Refusal)) (image₂ scratch₂ : List ℕ)
     (e : stepped_by first image₂ scratch₂ ≡ stepped_after k (begun ls page start place) image scratch) where
   abbrev Says : Anew → Type 0
   Says x = (x ≡ anew_after k (begun (lists runs calls) page start place) image scratch other) × EndsUncut runs calls page start place k image scratch other x
 
-  says : (x : Anew) → x ≡ anew_over (begun ls page start place) other (begin_outcome first) image₂ scratch₂ → Says x
+  says : (x : Anew) → x ≡ anew_over (begun ls page start place) other (as_outcome first) image₂ scratch₂ → Says x
   says x f =
       let anew : x ≡ anew_after k (begun (lists runs calls) page start place) image scratch other =
       f
@@ -147,14 +147,12 @@ module _ (runs : Which → List ℕ) (calls : List CallOn) (page start place k :
       (anew, ends-uncut runs calls page start place k image scratch other x p q low anew)
 
   -- the first save is refused
-  pub none_anew : (r : Refusal) → first ≡ Refused r → Says (anew_with (begin_outcome (Refused r)) (begin_outcome (Refused r)) image₂ scratch₂ other)
-  none_anew r f = says _ (sym (ap (λ (b : Begin). anew_over (begun ls page start place) other (begin_outcome b) image₂ scratch₂) f))
+  pub none_anew : (r : Refusal) → first ≡ Err r → Says (anew_with (as_outcome (Err r)) (as_outcome (Err r)) image₂ scratch₂ other)
+  none_anew r f = says _ (sym (ap (λ (b : (Result Save Refusal)). anew_over (begun ls page start place) other (as_outcome b) image₂ scratch₂) f))
 
   -- it began, and so there is a second
-  pub both_anew : (s : Save) → first ≡ Begun s → (second : Begin) (image₃ other₂ : List ℕ)
+  pub both_anew : (s : Save) → first ≡ Ok s → (second : (Result Save Refusal)) (image₃ other₂ : List ℕ)
       → stepped_by second image₃ other₂ ≡ stepped_after top (begun ls page start place) image₂ other
-      → Says (anew_with (begin_outcome (Begun s)) (begin_outcome second) image₃ scratch₂ other₂)
+      → Says (anew_with (as_outcome first) (as_outcome second) image₃ scratch₂ other₂)
   both_anew s f second image₃ other₂ g =
-      says _
-      (ap (λ (y : Stepped). anew_with (answer s) y.outcome y.image scratch₂ y.scratch) g
-      ∙ sym (ap (λ (b : Begin). anew_over (begun ls page start place) other (begin_outcome b) image₂ scratch₂) f))
+      says _ (rw f (ap (λ (y : Stepped). anew_with (answer s) y.outcome y.image scratch₂ y.scratch) g))

@@ -1,9 +1,10 @@
 -- Calls that numbers encode, made one after another on three lists, and the free bytes after them. Assumes nothing.
 use mathlib.Core.Path.{◌≡◌, refl, sym, ap, ap₂, ◌∙◌}
-use Prim.Native.Nat.{ℕ, ◌+◌, ◌^◌, ◌≤◌, ◌<◌}
+use Prim.Native.Nat.{ℕ, ◌-◌, ◌^◌, ◌≤◌, ◌<◌}
 use native.Mathlib.Omega.{arith}
 use mathlib.Core.List.{List, [], ◌∷◌}
-use lib.ListN.{length, get_or, drop, length-drop}
+use lib.ListN.{length, get_or, take, drop, length-drop}
+use Rattle.std.proofs.lemmas.List.{take_all}
 use Rattle.free_regions.specs.Sets.{how_many}
 use Rattle.free_space.specs.declared.list.FreeList.{FreeList}
 use Rattle.free_space.specs.Runs.{record_of}
@@ -27,27 +28,26 @@ empty_three m r u x y z e f g = λ j i. all i j
     all Raw = rw f
     all Unclassified = rw g
 
-module _ (calls : List ℕ) (at : ℕ) where
+module _ (calls : List ℕ) where
   abbrev number : ℕ → ℕ
-  number j = get_or calls (at + j) 0
+  number j = get_or calls j 0
 
   abbrev first : CallOn
-  first = call_on_of (get_or calls at 0) (number 1) (number 2) (number 3)
+  first = call_on_of (number 0) (number 1) (number 2) (number 3)
 
-  abbrev rest : List ℕ
-  rest = drop (at + 4) calls
-
-  -- the call at a place stands before those that follow it
-  first_on : at + 4 ≤ length calls → calls_of (drop at calls) ≡ first ∷ calls_of rest
+  -- the first call stands before those that follow it
+  first_on : 4 ≤ length calls → calls_of calls ≡ first ∷ calls_of (drop 4 calls)
   unfolding calls_of
-  first_on h = ap calls_of (drop-four calls at h)
+  first_on h = ap calls_of (drop-four calls 0 h)
 
-  pub after_step : (ls ls₂ : Lists) (i : Which) (c : ListCall) → i ≡ which_of (get_or calls at 0) → c ≡ call_of (number 1) (number 2) (number 3)
-      → at + 4 ≤ length calls → ls₂ ≡ next (on i c) ls → lists_after (calls_of (drop at calls)) ls ≡ lists_after (calls_of rest) ls₂
+  pub after_step : (n : ℕ) (ls ls₂ : Lists) (i : Which) (c : ListCall) → i ≡ which_of (number 0) → c ≡ call_of (number 1) (number 2) (number 3)
+      → 4 ≤ length calls → n ≡ length calls - 4 → ls₂ ≡ next (on i c) ls
+      → lists_after (calls_of calls) ls ≡ lists_after (calls_of (take n (drop 4 calls))) ls₂
   unfolding lists_after
-  after_step ls ls₂ i c ie ce h e =
+  after_step n ls ls₂ i c ie ce h k e =
       ap (λ (cs : List CallOn). lists_after cs ls) (first_on h)
-      ∙ sym (ap (lists_after (calls_of rest)) (e ∙ ap₂ (λ (j : Which) (d : ListCall). next (on j d) ls) ie ce))
+      ∙ sym (ap (lists_after (calls_of (drop 4 calls))) (e ∙ ap₂ (λ (j : Which) (d : ListCall). next (on j d) ls) ie ce))
+      ∙ ap (λ (l : List ℕ). lists_after (calls_of l) ls₂) (sym (take_all n (drop 4 calls) (omega (arith, k, length-drop 4 calls))))
 
 none-on : (l : List ℕ) → length l < 4 → calls_of l ≡ []
 unfolding calls_of
@@ -57,9 +57,9 @@ none-on (w ∷ n ∷ []) h = refl
 none-on (w ∷ n ∷ a ∷ []) h = refl
 none-on (w ∷ n ∷ a ∷ b ∷ l) h = absurd (omega arith)
 
-pub after-end : (calls : List ℕ) (at : ℕ) (ls : Lists) → length calls < at + 4 → lists_after (calls_of (drop at calls)) ls ≡ ls
+pub after-end : (calls : List ℕ) (ls : Lists) → length calls < 4 → lists_after (calls_of calls) ls ≡ ls
 unfolding lists_after
-after-end calls at ls h = ap (λ (cs : List CallOn). lists_after cs ls) (none-on (drop at calls) (omega (arith, length-drop at calls)))
+after-end calls ls h = ap (λ (cs : List CallOn). lists_after cs ls) (none-on calls h)
 
 -- ---- the free bytes of a list after the calls
 

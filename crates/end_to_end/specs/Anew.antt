@@ -17,7 +17,9 @@
 --                   room, the image at the end is the one that all steps of the first save would leave, and so is the second record; the first
 --                   record is that after k steps
 --     refused       where the first beginning is refused, that is the answer of both, and all lent memory is as it was
-use Rattle.std.specs.Prelude.{ℕ, ◌+◌, ◌≤◌, min, ◌≡◌, List, length}
+use Rattle.std.specs.Prelude.{ℕ, ◌+◌, ◌≤◌, min, ◌≡◌, List, length, Result}
+use Rattle.error.specs.Answers.{as_outcome}
+use Rattle.error.specs.declared.Refusal.{Refusal}
 use Rattle.error.specs.Outcome.{Outcome, answer, nothing, refuse}
 use Rattle.error.specs.Lent.{With, with}
 use Rattle.fields.specs.Ranges.{top}
@@ -27,8 +29,7 @@ use Rattle.free_lists.specs.History.{CallOn}
 use Rattle.file_space_info.specs.Message.{message_len}
 use Rattle.save_step.specs.declared.Save.{Save}
 use Rattle.save_step.specs.Steps.{saving, steps}
-use Rattle.save.specs.declared.Begin.{Begin}
-use Rattle.save.specs.Saving.{begun, begin_outcome}
+use Rattle.save.specs.Saving.{begun}
 use Rattle.save.specs.EveryCut.{one_save, blocks, store_count, image_after, record_at}
 use Rattle.end_to_end.specs.declared.anew.SavedAnew.{SavedAnew}
 use Rattle.end_to_end.specs.Demanded.{lists}
@@ -52,8 +53,8 @@ steps_of k image scratch (refuse n vs) = stepped_with (refuse n vs) image scratc
 abbrev pub stepped_after : ℕ → (List ℕ → List ℕ → Outcome (With Save (List ℕ))) → List ℕ → List ℕ → Stepped
 stepped_after k beginning image scratch = steps_of k image scratch (beginning image scratch)
 
-abbrev pub stepped_by : Begin → List ℕ → List ℕ → Stepped
-stepped_by b image scratch = stepped_with (begin_outcome b) image scratch
+abbrev pub stepped_by : Result Save Refusal → List ℕ → List ℕ → Stepped
+stepped_by b image scratch = stepped_with (as_outcome b) image scratch
 
 -- ---- and a fresh save
 
@@ -79,7 +80,7 @@ anew_after k beginning image scratch other =
     let first = stepped_after k beginning image scratch in anew_over beginning other first.outcome first.image first.scratch
 
 abbrev pub anew_by : SavedAnew → List ℕ → List ℕ → List ℕ → Anew
-anew_by r image scratch other = anew_with (begin_outcome r.first) (begin_outcome r.second) image scratch other
+anew_by r image scratch other = anew_with (as_outcome r.first) (as_outcome r.second) image scratch other
 
 -- ---- the uncut image
 

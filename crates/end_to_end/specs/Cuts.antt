@@ -8,14 +8,13 @@
 --   cut_by      the code's answer, with the memory that it leaves
 --   begun_with  an answer of a beginning, with the scratch that it left
 --   not_begun   the code's answer where the beginning is refused
-use Rattle.std.specs.Prelude.{ℕ, List}
+use Rattle.std.specs.Prelude.{ℕ, List, Err}
+use Rattle.error.specs.Answers.{as_outcome}
 use Rattle.error.specs.declared.Refusal.{Refusal}
 use Rattle.error.specs.Outcome.{Outcome, answer, nothing, refuse}
 use Rattle.error.specs.Lent.{With, with, leaving}
 use Rattle.save_step.specs.declared.Save.{Save}
 use Rattle.save_step.specs.Steps.{saving, steps}
-use Rattle.save.specs.declared.Begin.TheVariants.{Refused}
-use Rattle.save.specs.Saving.{begin_outcome}
 use Rattle.image.specs.Answers.{image_outcome, refused_read}
 use Rattle.fsm_blocks.specs.declared.checks.Reading.TheVariants.{Loose}
 use Rattle.image.specs.Reading.{image_into}
@@ -40,7 +39,7 @@ cut_after k place image scratch out nothing = cut_with nothing nothing image scr
 cut_after k place image scratch out (refuse n vs) = cut_with (refuse n vs) (refuse n vs) image scratch out
 
 abbrev pub cut_by : Saved → List ℕ → List ℕ → List ℕ → Cut
-cut_by r image scratch out = cut_with (begin_outcome r.begin) (image_outcome r.read) image scratch out
+cut_by r image scratch out = cut_with (as_outcome r.begin) (image_outcome r.read) image scratch out
 
 abbrev pub begun_with : List ℕ → Outcome Save → Outcome (With Save (List ℕ))
 begun_with scratch (answer s) = answer (with s scratch)
@@ -48,4 +47,4 @@ begun_with scratch nothing = nothing
 begun_with scratch (refuse n vs) = refuse n vs
 
 abbrev pub not_begun : Refusal → Saved
-not_begun r = record { begin = Refused r; read = refused_read r }
+not_begun r = record { begin = Err r; read = refused_read r }

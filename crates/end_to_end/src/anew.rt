@@ -6,10 +6,10 @@ ghost use Rattle.end_to_end.specs.Encoding.{calls_of, runs_of, after_calls};
 ghost use Rattle.end_to_end.specs.Anew.{stepped_after, stepped_by, anew_after, anew_by, EndsUncut};
 
 use crate::calls::make_calls;
+use error::Refusal;
 use free_lists::FileLists;
-use numbers::MAX;
-use save::{Begin, Target, save_begin};
-use save_step::save_steps;
+use save::{Target, save_begin};
+use save_step::{Save, save_steps};
 
 // Begins a save and makes up to `k` steps of it. The record after them, or why it did not begin.
 fn begin_and_step(
@@ -21,29 +21,24 @@ fn begin_and_step(
     image: &mut [u8],
     scratch: &mut [u8],
     k: u64,
-) -> Begin
+) -> Result<Save, Refusal>
     ensures { stepped_by result image.new scratch.new
         ≡ stepped_after k (begun (lists_in meta.now raw.now unclassified.now lists) to.page to.start to.place)
         image.old scratch.old }
 {
-    let begin = save_begin(meta, raw, unclassified, lists, to, image, scratch);
-    match begin {
-        Begin::Refused(refusal) => Begin::Refused(refusal),
-        Begin::Begun(s) => {
-            let after = save_steps(s, image, scratch, k);
-            Begin::Begun(after)
-        }
-    }
+    let s = save_begin(meta, raw, unclassified, lists, to, image, scratch)?;
+    Ok(save_steps(s, image, scratch, k))
 }
 
 // The records of the lists after the calls, and what two saves of them came to: the record of the first, which was cut, after its
 // steps, and that of the second, the fresh one, after all steps; or why it did not begin. Where the first did not begin, the second
 // has its refusal.
-#[derive(Clone, Copy)]
+// No Result of all: what is promised speaks of each, also where the first save did not begin.
+#[derive(Clone, Copy, Debug, PartialEq, Eq)]
 pub struct SavedAnew {
     pub lists: FileLists,
-    pub first: Begin,
-    pub second: Begin,
+    pub first: Result<Save, Refusal>,
+    pub second: Result<Save, Refusal>,
 }
 
 // Makes the calls that `calls` encodes on three lists that begin empty, begins a save of them, makes `k` steps of it, and
@@ -73,17 +68,26 @@ pub fn call_save_anew(
     let lists = make_calls(calls, metadata, raw, unclassified);
     let first = begin_and_step(metadata, raw, unclassified, lists, to, image, scratch, k);
     match first {
-        Begin::Refused(refusal) => SavedAnew {
-            lists: lists,
-            first: Begin::Refused(refusal),
-            second: Begin::Refused(refusal),
+        Err(refusal) => SavedAnew {
+            lists,
+            first,
+            second: Err(refusal),
         },
-        Begin::Begun(s) => {
-            let second = begin_and_step(metadata, raw, unclassified, lists, to, image, other, MAX);
+        Ok(_) => {
+            let second = begin_and_step(
+                metadata,
+                raw,
+                unclassified,
+                lists,
+                to,
+                image,
+                other,
+                u64::MAX,
+            );
             SavedAnew {
-                lists: lists,
-                first: Begin::Begun(s),
-                second: second,
+                lists,
+                first,
+                second,
             }
         }
     }

@@ -10,35 +10,28 @@ use free_lists::calls::{ListCall, Which, apply};
 use free_space::list::FreeList;
 
 // The list of a number: 0 metadata, 1 raw, any other unclassified.
+// Numbers for lists and calls: the public functions take calls as a lent run of numbers.
 fn which_of(number: u64) -> Which
     ensures { result ≡ which_of number }
 {
-    if number == 0 {
-        return Which::Metadata;
+    match number {
+        0 => Which::Metadata,
+        1 => Which::Raw,
+        _ => Which::Unclassified,
     }
-    if number == 1 {
-        return Which::Raw;
-    }
-    Which::Unclassified
 }
 
 // The call of a number and two arguments: 0 free, 1 alloc, 2 alloc_whole_units, 3 take_range, any other take_trailing.
 fn call_of(number: u64, a: u64, b: u64) -> ListCall
     ensures { result ≡ call_of number a b }
 {
-    if number == 0 {
-        return ListCall::Free { addr: a, len: b };
+    match number {
+        0 => ListCall::Free { addr: a, len: b },
+        1 => ListCall::Alloc { len: a },
+        2 => ListCall::AllocWholeUnits { len: a, unit: b },
+        3 => ListCall::TakeRange { addr: a, len: b },
+        _ => ListCall::TakeTrailing { eof: a },
     }
-    if number == 1 {
-        return ListCall::Alloc { len: a };
-    }
-    if number == 2 {
-        return ListCall::AllocWholeUnits { len: a, unit: b };
-    }
-    if number == 3 {
-        return ListCall::TakeRange { addr: a, len: b };
-    }
-    ListCall::TakeTrailing { eof: a }
 }
 
 // Makes the calls that `calls` encodes, in order, on three lists that begin empty.
@@ -56,13 +49,11 @@ pub fn make_calls(
         raw: FreeList::new(),
         unclassified: FreeList::new(),
     };
-    let mut at = 0;
-    while at + 4 <= calls.len() {
-        let which = which_of(calls[at]);
-        let call = call_of(calls[at + 1], calls[at + 2], calls[at + 3]);
-        let applied = apply(metadata, raw, unclassified, lists, which, call);
-        lists = applied.lists;
-        at += 4;
+    let mut rest = calls;
+    while let [which, number, a, b, after @ ..] = rest {
+        let call = call_of(*number, *a, *b);
+        lists = apply(metadata, raw, unclassified, lists, which_of(*which), call).lists;
+        rest = after;
     }
     lists
 }
@@ -81,19 +72,9 @@ pub fn free_bytes_after(
         ≡ runs_after calls.now metadata.old raw.old unclassified.old }
 {
     let lists = make_calls(calls, metadata, raw, unclassified);
-    let which = which_of(number);
-    match which {
-        Which::Metadata => {
-            let list = lists.metadata;
-            list.free_bytes()
-        }
-        Which::Raw => {
-            let list = lists.raw;
-            list.free_bytes()
-        }
-        Which::Unclassified => {
-            let list = lists.unclassified;
-            list.free_bytes()
-        }
+    match which_of(number) {
+        Which::Metadata => lists.metadata.free_bytes(),
+        Which::Raw => lists.raw.free_bytes(),
+        Which::Unclassified => lists.unclassified.free_bytes(),
     }
 }

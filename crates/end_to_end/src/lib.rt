@@ -5,8 +5,9 @@ pub mod anew;
 pub mod calls;
 
 ghost use Rattle.std.specs.Prelude.{◌≡◌};
+ghost use Rattle.error.specs.Answers.{as_outcome};
 ghost use Rattle.free_lists.specs.Lists.{lists_in};
-ghost use Rattle.save.specs.Saving.{begun, begin_outcome};
+ghost use Rattle.save.specs.Saving.{begun};
 ghost use Rattle.image.specs.Answers.{image_outcome, counts_in};
 ghost use Rattle.end_to_end.specs.Encoding.{calls_of, runs_of, after_calls};
 ghost use Rattle.end_to_end.specs.Demanded.{Demanded};
@@ -16,15 +17,16 @@ use crate::calls::make_calls;
 use error::Refusal;
 use file_space_info::NUM_FILE_FSM_MANAGERS;
 use free_lists::FileLists;
-use image::{ImageAnswer, ImageRead, read_image};
-use save::{Begin, Target, save_begin};
-use save_step::save_steps;
+use image::{ImageRead, read_image};
+use save::{Target, save_begin};
+use save_step::{Save, save_steps};
 
 // The record after the steps, or why the save did not begin, and what the image then reads as. A save that did not begin
 // is not read: the reading has its refusal.
-#[derive(Clone, Copy)]
+// No Result of both: what is promised speaks of either, also where the save did not begin.
+#[derive(Clone, Copy, Debug, PartialEq, Eq)]
 pub struct Saved {
-    pub begin: Begin,
+    pub begin: Result<Save, Refusal>,
     pub read: ImageRead,
 }
 
@@ -32,9 +34,9 @@ fn not_begun(refusal: Refusal) -> Saved
     ensures { result ≡ not_begun refusal }
 {
     Saved {
-        begin: Begin::Refused(refusal),
+        begin: Err(refusal),
         read: ImageRead {
-            answer: ImageAnswer::Refused(refusal),
+            answer: Err(refusal),
             counts: [0; NUM_FILE_FSM_MANAGERS],
         },
     }
@@ -42,7 +44,7 @@ fn not_begun(refusal: Refusal) -> Saved
 
 // Makes `k` steps of a save that began, and reads the image at `place`.
 fn step_and_read(
-    begin: Begin,
+    begin: Result<Save, Refusal>,
     place: u64,
     image: &mut [u8],
     scratch: &[u8],
@@ -50,24 +52,21 @@ fn step_and_read(
     out: &mut [u64],
 ) -> Saved
     ensures cut { cut_by result image.new scratch.now out.new
-        ≡ cut_after k place image.old scratch.now out.old (begun_with scratch.now (begin_outcome begin)) }
+        ≡ cut_after k place image.old scratch.now out.old (begun_with scratch.now (as_outcome begin)) }
     ensures counted { result.read.counts ≡ counts_in (image_outcome result.read) }
 {
     match begin {
-        Begin::Refused(refusal) => not_begun(refusal),
-        Begin::Begun(s) => {
-            let after = save_steps(s, image, scratch, k);
+        Err(refusal) => not_begun(refusal),
+        Ok(s) => {
+            let begin = Ok(save_steps(s, image, scratch, k));
             let read = read_image(image, place, out);
-            Saved {
-                begin: Begin::Begun(after),
-                read: read,
-            }
+            Saved { begin, read }
         }
     }
 }
 
 // The records of the lists after the calls, and what the save of them came to.
-#[derive(Clone, Copy)]
+#[derive(Clone, Copy, Debug, PartialEq, Eq)]
 pub struct AfterCalls {
     pub lists: FileLists,
     pub saved: Saved,
@@ -100,8 +99,5 @@ pub fn call_save_read(
     let lists = make_calls(calls, metadata, raw, unclassified);
     let begin = save_begin(metadata, raw, unclassified, lists, to, image, scratch);
     let saved = step_and_read(begin, to.place, image, scratch, k, out);
-    AfterCalls {
-        lists: lists,
-        saved: saved,
-    }
+    AfterCalls { lists, saved }
 }

@@ -6,7 +6,7 @@ use native.Mathlib.Nat.{zero-add, sub-zero, suc-sub-suc, suc-add, add-suc, le_of
 use native.Mathlib.Numerals.{add-one}
 use native.Mathlib.Omega.{arith}
 use lib.ListN.{length, take, drop, get_or, set, replicate, length-replicate, replicate-append-replicate, drop_of_length-le}
-use lib.Seq.{length-take-le, take-suc, drop-cons, slice, length-slice, get_or-take, get_or-drop}
+use lib.Seq.{length-take-le, take-suc, drop-cons, slice, length-slice, get_or-take, get_or-drop, paste, length_paste_head}
 use Rattle.error.specs.Lent.{over}
 
 pub length_over : (i : ℕ) (vs xs : List ℕ) → length (over i vs xs) ≡ length xs
@@ -79,6 +79,15 @@ over-cut zero (suc n) [] (x ∷ xs) h = refl
 over-cut zero (suc n) (v ∷ vs) (x ∷ xs) h = ap (λ (l : List ℕ). v ∷ l) (over-cut zero n vs xs (omega arith))
 over-cut (suc i) n vs (x ∷ xs) h = ap (λ (l : List ℕ). x ∷ l) (over-cut i n vs xs (omega arith))
 
+-- a copy from another list
+pub over-paste : (i n : ℕ) (s xs : List ℕ) → i + n ≤ length xs → n ≤ length s → paste xs i s n ≡ over i (take n s) xs
+over-paste i n s xs h k =
+    let vs = take i xs ++ take n s in
+    let m : length vs ≡ i + n = length_paste_head xs i s n (omega arith) k in
+    ap (λ (j : ℕ). vs ++ drop j xs) (sym m)
+    ∙ sym (over-is vs xs (omega arith))
+    ∙ sym (over-front i (take n s) xs (omega arith))
+
 -- at the end nothing is written
 pub over-end : (i : ℕ) (vs xs : List ℕ) → length xs ≤ i → over i vs xs ≡ xs
 over-end i vs xs h = sym (over-cut i 0 vs xs (omega arith)) ∙ over-nil i xs
@@ -128,7 +137,7 @@ up_next to j s xs h =
     store-before (to + suc j) (to + j) (get_or s j 0) (drop (suc j) s) xs (omega arith)
     ∙ ap (λ (l : List ℕ). over (to + j) l xs) (sym (drop-cons s j 0 h))
 
--- ---- the loops of `clear`, `move_down` and `move_up`: before the first store, and a store of what the run itself holds
+-- ---- the loop of `clear` before the first store, and what a part of a run holds
 
 pub fill_start : (from v : ℕ) (xs : List ℕ) → xs ≡ over from (replicate (from - from) v) xs
 fill_start from v xs =
@@ -137,30 +146,6 @@ fill_start from v xs =
 
 pub get_or_slice : (f t j : ℕ) (xs : List ℕ) → f + j < t → get_or (slice f t xs) j 0 ≡ get_or xs (f + j) 0
 get_or_slice f t j xs h = get_or-drop f (take t xs) j 0 ∙ get_or-take t xs (f + j) 0 h
-
-module _ (from end to : ℕ) (xs : List ℕ) (end-in : end ≤ length xs) where
-  pub down_step : (j : ℕ) → to ≤ from → from + j < end
-      → let ys = over to (take j (slice from end xs)) xs in set ys (to + j) (get_or ys (from + j) 0) ≡ over to (take (j + 1) (slice from end xs)) xs
-  down_step j h l =
-      let s = slice from end xs in
-      let n : j < length s = omega (arith, length-slice from end xs end-in) in
-      let q : length (take j s) ≡ j = length-take-le j s (le_of_lt n) in
-      ap (λ (v : ℕ). set (over to (take j s) xs) (to + j) v) (get_or-above to (from + j) (take j s) xs (omega arith) ∙ sym (get_or_slice from end j xs l))
-      ∙ down_next to j s xs n
-
-  pub up_start : from ≤ end → xs ≡ over (to + (end - from)) (drop (end - from) (slice from end xs)) xs
-  up_start h =
-      let n : length (slice from end xs) ≤ end - from = omega (arith, length-slice from end xs end-in) in
-      sym (ap (λ (l : List ℕ). over (to + (end - from)) l xs) (drop_of_length-le (slice from end xs) n) ∙ over-nil (to + (end - from)) xs)
-
-  pub up_step : (j k : ℕ) → k ≡ suc j → from ≤ to → from + j < end
-      → let ys = over (to + k) (drop k (slice from end xs)) xs in set ys (to + j) (get_or ys (from + j) 0) ≡ over (to + j) (drop j (slice from end xs)) xs
-  up_step j k e h l =
-      let s = slice from end xs in
-      let n : j < length s = omega (arith, length-slice from end xs end-in) in
-      rw e
-      (ap (λ (v : ℕ). set (over (to + suc j) (drop (suc j) s) xs) (to + j) v) (get_or-below (to + suc j) (from + j) (drop (suc j) s) xs (omega arith) ∙ sym (get_or_slice from end j xs l))
-      ∙ up_next to j s xs n)
 
 -- two stores side by side
 pub store_pair : (i a b : ℕ) (xs : List ℕ) → set (set xs i a) (i + 1) b ≡ over i (a ∷ b ∷ []) xs

@@ -1,18 +1,16 @@
--- The outcome that each shared answer of the code stands for (document 01, "Language forms in the code": "a definition gives this paper's number
--- and values for every case of the enum"). Assumes nothing.
---   checked_outcome   of a test
---   number_outcome    of a number that may be refused
-use Rattle.std.specs.Prelude.{ℕ}
-use Rattle.error.specs.declared.Checked.{Checked}
-use Rattle.error.specs.declared.Checked.TheVariants as checked
-use Rattle.error.specs.declared.Number.{Number}
-use Rattle.error.specs.declared.Number.TheVariants as number
-use Rattle.error.specs.Outcome.{Outcome, answer, refused}
+-- The outcome that an answer of the code stands for: its value, Nothing where the value is optional and there is none, or the number and the
+-- values of the refusal. Assumes nothing.
+--   as_outcome         of an answer that may be refused
+--   as_optional_outcome   of one that may also be Nothing
+use Rattle.std.specs.Prelude.{Option, Some, None, Result, Ok, Err}
+use Rattle.error.specs.declared.Refusal.{Refusal}
+use Rattle.error.specs.Outcome.{Outcome, answer, nothing, refused}
 
-abbrev pub checked_outcome : Checked → Outcome (Unit {0})
-checked_outcome checked.Passed = answer tt
-checked_outcome (checked.Refused r) = refused r
+abbrev pub as_outcome : {A : Type 0} → Result A Refusal → Outcome A
+as_outcome (Ok a) = answer a
+as_outcome (Err r) = refused r
 
-abbrev pub number_outcome : Number → Outcome ℕ
-number_outcome (number.Is n) = answer n
-number_outcome (number.Refused r) = refused r
+abbrev pub as_optional_outcome : {A : Type 0} → Result (Option A) Refusal → Outcome A
+as_optional_outcome (Ok (Some a)) = answer a
+as_optional_outcome (Ok None) = nothing
+as_optional_outcome (Err r) = refused r

@@ -6,7 +6,7 @@
 ghost use Rattle.std.specs.Prelude.{◌≡◌};
 ghost use Rattle.error.specs.Refusals.{number_of};
 
-#[derive(Clone, Copy)]
+#[derive(Clone, Copy, Debug, PartialEq, Eq)]
 pub enum Refusal {
     // An offset size or a length size is outside 1 to 8.
     Width,
@@ -77,18 +77,4 @@ impl Refusal {
             Refusal::BackAddress => 17,
         }
     }
-}
-
-// A test's answer.
-#[derive(Clone, Copy)]
-pub enum Checked {
-    Passed,
-    Refused(Refusal),
-}
-
-// A number, where it can be had.
-#[derive(Clone, Copy)]
-pub enum Number {
-    Is(u64),
-    Refused(Refusal),
 }

@@ -1,40 +1,26 @@
 -- Laws of sums, ranges and multiples: the cases of each definition, and what the first multiple of a unit is. Assumes nothing.
 use mathlib.Core.Path.{◌≡◌, refl, sym, ap, ◌∙◌}
-use mathlib.Core.Bool.{Bool, true, false, ◌&&◌, ◌||◌, not}
-use Prim.Native.Nat.{ℕ, suc, ◌+◌, ◌-◌, ◌*◌, ◌/◌, ◌%◌, ◌^◌, ◌≤◌, ◌<◌}
-use native.Mathlib.Nat.{div-add-mod', mod-lt, suc-mul, pow-le-pow_right}
+use mathlib.Core.Bool.{false, not}
+use mathlib.Core.Logic.{◌⊎◌, inl, inr, ⊎_elim}
+use Prim.Native.Nat.{ℕ, zero, suc, ◌+◌, ◌-◌, ◌*◌, ◌/◌, ◌%◌, ◌^◌, ◌≤◌, ◌<◌}
+use native.Mathlib.Nat.{div-add-mod', mod-lt, lt_of_not-le, mod_self, mod-eq_of_lt, suc-mul, pow-le-pow_right}
+use native.Mathlib.Numerals.{unary_clauses}
 use native.Mathlib.Omega.{arith}
-use borrow.Author.Tests.{not-false, lt-ltb, le-ltb, leb-true, eq-eqb, ne_eqb}
+use borrow.Author.Tests.{not-false, lt-ltb, le-ltb, leb-true, ne_eqb}
 use lib.Arith.{digits_div}
-use lib.Dec.{leb, eqb, lit<, lit≤}
+use lib.Dec.{leb, lit<, lit≤}
 use lib.Pow.{shl_exact}
-use Rattle.error.specs.declared.Refusal.TheVariants.{Width, Page, Overflow, Short}
+use Rattle.std.specs.Prelude.{Option, Some, None}
+use Rattle.std.specs.Int.{next_multiple_of}
+use Rattle.std.specs.Option.{SomeIff, ok_or}
+use Rattle.error.specs.Answers.{as_outcome}
+use Rattle.error.specs.declared.Refusal.TheVariants.{Overflow}
 use Rattle.error.specs.Outcome.{answer, refused, sat}
 use Rattle.error.proofs.TestLaws.{and_true}
-use Rattle.error.proofs.OutcomeLaws.{refuses, passes, first_holds, first_passes}
-use Rattle.fields.specs.Ranges.{top, enough, sum, range, undefined_addr, undefined_at, first_multiple, aligned_up}
+use Rattle.error.proofs.OutcomeLaws.{refuses, passes, first_passes}
+use Rattle.fields.specs.Ranges.{top, sum, range, undefined_addr, first_multiple, aligned_up}
 use Rattle.fields.specs.Width.{valid_width}
-use Rattle.fields.proofs.WidthLaws.{width_low, width-high, width_in, pow256, some_power}
-
--- ---- `ensure_len`
-
-module _ (available offset needed : ℕ) where
-  pub enough_wraps : top < offset + needed → available ≤ top → refused (Short top available) ≡ enough available offset needed
-  unfolding enough sat
-  enough_wraps h l =
-      let e : top ≡ sat (offset + needed) = omega arith in
-      let m : available < offset + needed = omega arith in
-      ap (λ (n : ℕ). refused (Short n available)) e ∙ refuses _ _ _ (lt-ltb available (offset + needed) m)
-
-  pub enough-short : available < offset + needed → offset + needed ≤ top → refused (Short (offset + needed) available) ≡ enough available offset needed
-  unfolding enough sat
-  enough-short h l =
-      let e : offset + needed ≡ sat (offset + needed) = omega arith in
-      ap (λ (n : ℕ). refused (Short n available)) e ∙ refuses _ _ _ (lt-ltb available (offset + needed) h)
-
-  pub enough-is : offset + needed ≤ available → answer tt ≡ enough available offset needed
-  unfolding enough
-  enough-is h = passes _ _ _ (le-ltb available (offset + needed) h)
+use Rattle.fields.proofs.WidthLaws.{pow256, some_power}
 
 -- ---- `absolute` and `slice_range`
 
@@ -50,10 +36,6 @@ module _ (a b : ℕ) where
   pub range-over : top < a + b → refused Overflow ≡ range a b
   unfolding range
   range-over h = refuses _ _ _ (lt-ltb top (a + b) h)
-
-  pub range-is : a + b ≤ top → answer (record { start = a; end = a + b }) ≡ range a b
-  unfolding range
-  range-is h = passes _ _ _ (le-ltb top (a + b) h)
 
 -- ---- `undefined_addr`
 
@@ -84,34 +66,6 @@ ones_are O r v e =
     let p : 256 ^ O ≤ 256 ^ 8 = pow-le-pow_right (lit≤ tt) l in
     omega arith
 
--- ---- `is_undefined_addr`
-
-module _ (a O : ℕ) where
-  pub undefined_low : O < 1 → refused Width ≡ undefined_at a O
-  unfolding undefined_at
-  undefined_low h = refuses _ _ _ (width_low O h)
-
-  pub undefined_high : 8 < O → refused Width ≡ undefined_at a O
-  unfolding undefined_at
-  undefined_high h = refuses _ _ _ (width-high O h)
-
-  pub undefined_never : 1 ≤ O → O ≤ 8 → (O ≡ 2 → ⊥) → (O ≡ 4 → ⊥) → (O ≡ 8 → ⊥) → answer false ≡ undefined_at a O
-  unfolding undefined_at
-  undefined_never h l n2 n4 n8 = ap answer (sym (none (eqb a (undefined_addr O)))) ∙ passes _ _ _ (width_in O h l)
-    where
-      none : (t : Bool) → (t && (eqb O 2 || (eqb O 4 || eqb O 8))) ≡ false
-      none true = rw (ne_eqb O 2 n2, ne_eqb O 4 n4, ne_eqb O 8 n8)
-      none false = refl
-
--- at one of the three sizes k
-pub undefined_ones : (a O k : ℕ) → O ≡ k → (eqb k 2 || (eqb k 4 || eqb k 8)) ≡ true → not (valid_width k) ≡ false → answer (eqb a (undefined_addr k)) ≡ undefined_at a O
-unfolding undefined_at
-undefined_ones a O k e s v = rw e (ap answer (sym (rw s (and_one (eqb a (undefined_addr k))))) ∙ passes _ _ _ v)
-  where
-    and_one : (t : Bool) → (t && true) ≡ t
-    and_one true = refl
-    and_one false = refl
-
 -- ---- the first multiple
 
 -- where a is a multiple itself
@@ -139,30 +93,29 @@ first_ge a u p = omega (arith, div-add-mod' (a + (u - 1)) u, mod-lt (a + (u - 1)
 
 -- ---- `align_up`
 
-module _ (value page : ℕ) where
-  pub aligned_page : page ≡ 0 → refused Page ≡ aligned_up value page
+zero-or-pos : (r : ℕ) → (r ≡ 0) ⊎ (0 < r)
+zero-or-pos zero = inl refl
+zero-or-pos (suc r) = inr (omega arith)
+
+module _ (value page : ℕ) (n : page ≡ 0 → ⊥) where
+  -- std's next multiple is the first one
+  pub next_first : next_multiple_of value page ≡ first_multiple value page
+  next_first =
+      ⊎_elim
+      (λ (z : value % page ≡ 0).
+      let m : (page - value % page) % page ≡ 0 = ap (λ (r : ℕ). (page - r) % page) z ∙ simp unary_clauses (mod_self page) in
+      omega (arith, m, first-at value page (omega arith) z))
+      (λ (z : 0 < value % page).
+      let l : value % page < page = mod-lt value (omega arith) in
+      let m : (page - value % page) % page ≡ page - value % page = mod-eq_of_lt (omega arith) in
+      omega (arith, m, first-after value page (omega arith) (λ e. omega arith)))
+      (zero-or-pos (value % page))
+
+  pub aligned_is : (o : Option ℕ) → SomeIff o ((0 < page) × (next_multiple_of value page < 2 ^ 64)) (next_multiple_of value page) → as_outcome (ok_or o Overflow) ≡ aligned_up value page
   unfolding aligned_up
-  aligned_page h = sym (first_holds _ _ _ _ (eq-eqb page 0 h))
-
-  module _ (n : page ≡ 0 → ⊥) where
-    below_top : first_multiple value page ≤ top → answer (first_multiple value page) ≡ aligned_up value page
-    unfolding aligned_up
-    below_top h = passes _ _ _ (le-ltb top (first_multiple value page) h) ∙ sym (first_passes _ _ _ _ (ne_eqb page 0 n))
-
-    pub aligned_at : value % page ≡ 0 → value ≤ top → answer value ≡ aligned_up value page
-    aligned_at z h =
-        let e : first_multiple value page ≡ value = first-at value page (omega arith) z in
-        ap answer (sym e) ∙ below_top (omega arith)
-
-    module _ (r : value % page ≡ 0 → ⊥) where
-      after : first_multiple value page ≡ value + (page - value % page)
-      after = first-after value page (omega arith) r
-
-      pub aligned_over : top < value + (page - value % page) → refused Overflow ≡ aligned_up value page
-      unfolding aligned_up
-      aligned_over h =
-          refuses _ _ _ (lt-ltb top (first_multiple value page) (omega (arith, after)))
-          ∙ sym (first_passes _ _ _ _ (ne_eqb page 0 n))
-
-      pub aligned_is : value + (page - value % page) ≤ top → answer (value + (page - value % page)) ≡ aligned_up value page
-      aligned_is h = ap answer (sym after) ∙ below_top (omega (arith, after))
+  aligned_is None h =
+      refuses _ _ _ (lt-ltb top (first_multiple value page) (lt_of_not-le (λ q. h (omega arith, omega (arith, next_first)))))
+      ∙ sym (first_passes _ _ _ _ (ne_eqb page 0 n))
+  aligned_is (Some x) h =
+      ap answer (h.1 ∙ next_first) ∙ passes _ _ _ (le-ltb top (first_multiple value page) (omega (arith, next_first)))
+      ∙ sym (first_passes _ _ _ _ (ne_eqb page 0 n))

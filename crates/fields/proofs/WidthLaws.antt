@@ -1,7 +1,8 @@
 -- Laws of byte widths: there is one least width, and the leading zeros give it. Assumes nothing.
 use mathlib.Core.Path.{◌≡◌, refl, sym, ap, ◌∙◌, subst}
 use mathlib.Core.Bool.{Bool, true, false, cond, not}
-use Prim.Native.Nat.{ℕ, zero, suc, ◌+◌, ◌-◌, ◌*◌, ◌/◌, ◌^◌, ◌≤◌, ◌<◌}
+use Prim.Native.Nat.{ℕ, zero, suc, ◌+◌, ◌-◌, ◌*◌, ◌/◌, ◌%◌, ◌^◌, ◌≤◌, ◌<◌, min, max}
+use Rattle.std.specs.Int.{div_ceil}
 use native.Mathlib.Nat.{lt_of_lt_of_le, le_trans, lt_of_not-le, not-le_of_lt, pow-suc, pow-le-pow_right, mul-suc, add-zero}
 use native.Mathlib.Omega.{arith}
 use borrow.Author.Tests.{ltb-true, ltb-false, le-leb, lt-leb}
@@ -80,14 +81,10 @@ bits-least v m w h l p a b = record {
         omega arith
 
 -- what the code computes is the least width
-pub bytes_of : (v w : ℕ) → v < 2 ^ 64 → 1 ≤ w → w ≡ (64 - count_leading_zeros 64 v + 7) / 8 → w ≡ enc_size v
-bytes_of v w h p e =
+pub bytes_of : (v w : ℕ) → v < 2 ^ 64 → w ≡ max (div_ceil (64 - count_leading_zeros 64 v) 8) 1 → w ≡ enc_size v
+bytes_of v w h e =
     let s = leading_length 64 v h in
     let eq : count_leading_zeros 64 v + s.0 ≡ 64 = s.1 in
-    least-one v w (enc_size v) (bits-least v s.0 w s.2 s.3 p (omega arith) (λ _. omega arith)) (enc_size-least v h)
-
-pub one_byte : (v : ℕ) → v < 2 ^ 64 → (64 - count_leading_zeros 64 v + 7) / 8 ≡ 0 → 1 ≡ enc_size v
-one_byte v h e =
-    let s = leading_length 64 v h in
-    let eq : count_leading_zeros 64 v + s.0 ≡ 64 = s.1 in
-    least-one v 1 (enc_size v) (bits-least v s.0 1 s.2 s.3 (omega arith) (omega arith) (λ q. omega arith)) (enc_size-least v h)
+    let m : 64 - count_leading_zeros 64 v ≡ s.0 = omega arith in
+    let w' : w ≡ max (s.0 / 8 + min 1 (s.0 % 8)) 1 = e ∙ ap (λ (n : ℕ). max (div_ceil n 8) 1) m in
+    least-one v w (enc_size v) (bits-least v s.0 w s.2 s.3 (omega arith) (omega arith) (λ q. omega arith)) (enc_size-least v h)

@@ -13,15 +13,11 @@
 --   aligned_up        `align_up`: that multiple (refusal 2: "a page size to cut or round by is 0"; refusal 4: "a rounded-up value")
 --   or_top            the number that an outcome has, all ones for a refusal or Nothing: what a C interface shows of it
 --   left_or_top       that number, and the lent memory
---   range_outcome, undefined_outcome   the outcome that an answer of the code stands for ("Language forms": "for every case of the enum")
 use Rattle.std.specs.Prelude.{ℕ, ◌+◌, ◌-◌, ◌*◌, ◌/◌, ◌^◌, Bool, ◌&&◌, ◌||◌, not, [], ◌∷◌, ltb, eqb}
+use Rattle.std.specs.declared.ops.Range as std
 use Rattle.error.specs.declared.Refusal.TheVariants.{Width, Page, Overflow, Short}
-use Rattle.error.specs.Outcome.{Outcome, answer, nothing, refuse, refused, when, first_of, sat}
+use Rattle.error.specs.Outcome.{Outcome, answer, nothing, refuse, when, first_of, sat}
 use Rattle.error.specs.Lent.{With, with, Left}
-use Rattle.fields.specs.declared.convert.SliceRange.{SliceRange}
-use Rattle.fields.specs.declared.convert.SliceRange.TheVariants as slice
-use Rattle.fields.specs.declared.convert.Undefined.{Undefined}
-use Rattle.fields.specs.declared.convert.Undefined.TheVariants as undefined
 use Rattle.fields.specs.Width.{valid_width}
 
 abbrev pub top : ℕ
@@ -33,20 +29,11 @@ enough available offset needed = first_of (when (ltb available (offset + needed)
 unfoldable pub sum : ℕ → ℕ → Outcome ℕ
 sum a b = first_of (when (ltb top (a + b)) Overflow ∷ []) (answer (a + b))
 
-pub record Range : Type 0 where
-  pub start : ℕ
-  pub end : ℕ
-
-abbrev pub range_outcome : SliceRange → Outcome Range
-range_outcome (slice.Range s e) = answer (record { start = s; end = e })
-range_outcome (slice.Refused r) = refused r
+abbrev pub Range : Type 0
+Range = std.Range ℕ
 
 unfoldable pub range : ℕ → ℕ → Outcome Range
 range offset len = first_of (when (ltb top (offset + len)) Overflow ∷ []) (answer (record { start = offset; end = offset + len }))
-
-abbrev pub undefined_outcome : Undefined → Outcome Bool
-undefined_outcome (undefined.Is b) = answer b
-undefined_outcome (undefined.Refused r) = refused r
 
 abbrev pub undefined_addr : ℕ → ℕ
 undefined_addr O = 256 ^ O - 1

@@ -22,9 +22,10 @@ use Rattle.fields.specs.Width.{valid_width}
 use Rattle.fields.proofs.LayoutLaws.{le_at-one}
 use Rattle.file_space_info.specs.declared.FileSpaceInfo.{FileSpaceInfo}
 use Rattle.file_space_info.specs.declared.FileSpaceStrategy.{FileSpaceStrategy}
+use Rattle.file_space_info.specs.declared.Parsed.{Parsed}
 use Rattle.file_space_info.specs.Strategies.{from_code}
 use Rattle.file_space_info.proofs.StrategyLaws.{code_passes}
-use Rattle.file_space_info.specs.Message.{shape, fixed_len, info_with, info_of, present, numbers_at, Read, fixed_tests, fixed_read, parsed}
+use Rattle.file_space_info.specs.Message.{shape, fixed_len, info_with, info_of, present, numbers_at, fixed_tests, fixed_read, parsed}
 
 -- ---- the sizes
 
@@ -143,10 +144,6 @@ read_step w n at i bs xs {out} {v} e h r o =
     r ∙ ap (λ (k : ℕ). le_at (at + i * w) k bs) m ∙ sym (get_or-numbers w n i (drop at bs) h ∙ ap (λ (l : List ℕ). le_value (take w l)) (drop-drop (i * w) at bs)) in
     ap₂ (λ (l : List ℕ) (x : ℕ). set l i x) o g ∙ front-next i s xs (omega (arith, length-numbers w n (drop at bs)))
 
--- one field more within n of them
-pub next-within : (w n i : ℕ) → i < n → i * w + w ≤ n * w
-next-within w n i h = omega (arith, mul-le-mul_right w h, suc-mul i w)
-
 pub present-within : (O L n : ℕ) (t : Bool) → fixed_len O L ≤ n → fixed_len O L + present O L n t * O ≤ n
 unfolding present
 present-within O L n true h = omega (arith, div-mul-le_self (n - fixed_len O L) O)
@@ -166,7 +163,7 @@ module _ (O L : ℕ) (bs xs : List ℕ) where
     counts : n ≡ present O L (length bs) (info_of O L bs).persist
     counts = count ∙ ap (λ (i : FileSpaceInfo). present O L (length bs) i.persist) (sym ok.same)
 
-    last : Outcome (With Read (List ℕ))
+    last : Outcome (With Parsed (List ℕ))
     last = first_of (when (ltb (length xs) n) (OverCapacity n (length xs)) ∷ [])
         (answer (with (record { info = m; count = n }) (over 0 (numbers_at O n (drop (fixed_len O L) bs)) xs)))
 

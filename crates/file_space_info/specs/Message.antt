@@ -18,22 +18,17 @@
 --   numbers_at      the numbers of the first n fields of w bytes each
 --   fixed_tests     the refusals of the fixed part, in this order: 1, 7, 8 ("with the byte: it isn't 1"), 9
 --   fixed_read      the fixed part, where they pass
---   Read            what a reading answers: the fixed part, and how many addresses there are
 --   parsed          `parse`: "Reading takes the stated sizes"; the refusals of the fixed part, then 14, with the addresses present and the
 --                   places given; the addresses fill the lent memory from its front
---   fixed_outcome, parsed_outcome   the outcome that an answer of the code stands for ("Language forms": "for every case of the enum")
 use Rattle.std.specs.Prelude.{ℕ, zero, suc, ◌-◌, ◌/◌, Bool, true, false, cond, not, ◌&&◌, List, [], ◌∷◌, ◌++◌, ltb, eqb, length, drop}
+use Rattle.file_space_info.specs.declared.Parsed.{Parsed}
 use Rattle.error.specs.declared.Refusal.TheVariants.{Width, Short, MessageVersion, OverCapacity}
-use Rattle.error.specs.Outcome.{Outcome, answer, refused, Condition, when, first_of}
+use Rattle.error.specs.Outcome.{Outcome, answer, Condition, when, first_of}
 use Rattle.error.specs.Lent.{With, with, over}
 use Rattle.fields.specs.Width.{valid_width}
 use Rattle.fields.specs.Layout.{Field, field, row, span, layout, le_at, field_at}
 use Rattle.file_space_info.specs.declared.FileSpaceInfo.{FileSpaceInfo}
 use Rattle.file_space_info.specs.declared.FileSpaceStrategy.{FileSpaceStrategy}
-use Rattle.file_space_info.specs.declared.FixedPart.{FixedPart}
-use Rattle.file_space_info.specs.declared.FixedPart.TheVariants as fixed_part
-use Rattle.file_space_info.specs.declared.Parsed.{Parsed}
-use Rattle.file_space_info.specs.declared.Parsed.TheVariants as parsed_answer
 use Rattle.file_space_info.specs.Strategies.{code_of, strategy_of, code_test}
 
 -- ---- the row
@@ -108,21 +103,9 @@ fixed_tests O L bs =
 unfoldable pub fixed_read : ℕ → ℕ → List ℕ → Outcome FileSpaceInfo
 fixed_read O L bs = first_of (fixed_tests O L bs) (answer (info_of O L bs))
 
-abbrev pub fixed_outcome : FixedPart → Outcome FileSpaceInfo
-fixed_outcome (fixed_part.Is m) = answer m
-fixed_outcome (fixed_part.Refused r) = refused r
-
-pub record Read : Type 0 where
-  pub info : FileSpaceInfo
-  pub count : ℕ
-
-unfoldable pub parsed : List ℕ → ℕ → ℕ → List ℕ → Outcome (With Read (List ℕ))
+unfoldable pub parsed : List ℕ → ℕ → ℕ → List ℕ → Outcome (With Parsed (List ℕ))
 parsed bs O L addrs =
     let m = info_of O L bs in
     let n = present O L (length bs) m.persist in
     first_of (fixed_tests O L bs ++ (when (ltb (length addrs) n) (OverCapacity n (length addrs)) ∷ []))
     (answer (with (record { info = m; count = n }) (over 0 (numbers_at O n (drop (fixed_len O L) bs)) addrs)))
-
-abbrev pub parsed_outcome : Parsed → Outcome Read
-parsed_outcome (parsed_answer.Message m n) = answer (record { info = m; count = n })
-parsed_outcome (parsed_answer.Refused r) = refused r

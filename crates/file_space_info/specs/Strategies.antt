@@ -4,14 +4,11 @@
 --   strategy_of        the strategy of a code; that of 3 also above it, where `code_test` refuses
 --   code_test          the test of a code (refusal 9: "with the byte: it is above 3")
 --   from_code          `from_code`: the strategy of a byte that passes it
---   strategy_outcome   the outcome that an answer of the code stands for ("Language forms": "for every case of the enum")
 use Rattle.std.specs.Prelude.{ℕ, zero, suc, [], ◌∷◌, ltb}
 use Rattle.error.specs.declared.Refusal.TheVariants as refusal
-use Rattle.error.specs.Outcome.{Outcome, answer, refused, Condition, when, first_of}
+use Rattle.error.specs.Outcome.{Outcome, answer, Condition, when, first_of}
 use Rattle.file_space_info.specs.declared.FileSpaceStrategy.{FileSpaceStrategy}
 use Rattle.file_space_info.specs.declared.FileSpaceStrategy.TheVariants.{FsmAggr, Page, Aggr, None}
-use Rattle.file_space_info.specs.declared.StrategyAnswer.{StrategyAnswer}
-use Rattle.file_space_info.specs.declared.StrategyAnswer.TheVariants as strategy_answer
 
 abbrev pub code_of : FileSpaceStrategy → ℕ
 code_of FsmAggr = 0
@@ -30,7 +27,3 @@ code_test c = when (ltb 3 c) (refusal.Strategy c)
 
 unfoldable pub from_code : ℕ → Outcome FileSpaceStrategy
 from_code c = first_of (code_test c ∷ []) (answer (strategy_of c))
-
-abbrev pub strategy_outcome : StrategyAnswer → Outcome FileSpaceStrategy
-strategy_outcome (strategy_answer.Is s) = answer s
-strategy_outcome (strategy_answer.Refused r) = refused r

@@ -3,16 +3,16 @@
 #![tactic(auto)]
 
 ghost use Rattle.std.specs.Prelude.{◌≡◌, ◌+◌, ◌*◌, ◌≤◌, ◌<◌, cond, ◌&&◌, length, drop};
+ghost use Rattle.error.specs.Answers.{as_outcome};
 ghost use Rattle.error.specs.Lent.{left, leaving, over};
-ghost use Rattle.error.specs.Answers.{number_outcome};
 ghost use Rattle.fields.specs.Width.{valid_width};
 ghost use Rattle.fields.specs.Layout.{row, layout, le_at};
-ghost use Rattle.file_space_info.specs.Strategies.{code_of, from_code, strategy_outcome};
+ghost use Rattle.file_space_info.specs.Strategies.{code_of, from_code};
 ghost use Rattle.file_space_info.specs.Infos.{non_persistent, persistent_managers, persistent_empty, persistent_single_manager};
-ghost use Rattle.file_space_info.specs.Message.{shape, fixed_len, bit, numbers_of, address_row, serialized, info_with};
-ghost use Rattle.file_space_info.specs.Message.{present, numbers_at, fixed_read, fixed_outcome, parsed, parsed_outcome};
+ghost use Rattle.file_space_info.specs.Message.{shape, fixed_len, numbers_of, address_row, serialized, info_with};
+ghost use Rattle.file_space_info.specs.Message.{present, numbers_at, fixed_read, parsed};
 
-use error::{Number, Refusal};
+use error::Refusal;
 use fields::bytes::{read_uint_le, write_uint_le};
 use fields::convert::UNDEF;
 use fields::width::is_width;
@@ -27,7 +27,7 @@ pub const NUM_FILE_FSM_MANAGERS: usize = 12;
 pub const MESSAGE_LEN: u64 = 125;
 
 // H5F_fspace_strategy_t.
-#[derive(Clone, Copy)]
+#[derive(Clone, Copy, Debug, PartialEq, Eq)]
 pub enum FileSpaceStrategy {
     // Free-space managers, aggregators and the virtual file driver: the default.
     FsmAggr,
@@ -39,13 +39,8 @@ pub enum FileSpaceStrategy {
     None,
 }
 
-#[derive(Clone, Copy)]
-pub enum StrategyAnswer {
-    Is(FileSpaceStrategy),
-    Refused(Refusal),
-}
-
 impl FileSpaceStrategy {
+    // to_code and from_code are public names of the Rust that is ported, which callers and docs/STATEMENTS.md have: no `TryFrom` beside them.
     // The code on file, 0 to 3.
     pub fn to_code(self) -> u8
         ensures { result ≡ code_of self }
@@ -58,23 +53,23 @@ impl FileSpaceStrategy {
         }
     }
 
-    pub fn from_code(code: u8) -> StrategyAnswer
-        ensures { strategy_outcome result ≡ from_code code }
+    pub fn from_code(code: u8) -> Result<FileSpaceStrategy, Refusal>
+        ensures { as_outcome result ≡ from_code code }
     {
         match code {
-            0 => StrategyAnswer::Is(FileSpaceStrategy::FsmAggr),
-            1 => StrategyAnswer::Is(FileSpaceStrategy::Page),
-            2 => StrategyAnswer::Is(FileSpaceStrategy::Aggr),
-            3 => StrategyAnswer::Is(FileSpaceStrategy::None),
-            _ => StrategyAnswer::Refused(Refusal::Strategy(code)),
+            0 => Ok(FileSpaceStrategy::FsmAggr),
+            1 => Ok(FileSpaceStrategy::Page),
+            2 => Ok(FileSpaceStrategy::Aggr),
+            3 => Ok(FileSpaceStrategy::None),
+            _ => Err(Refusal::Strategy(code)),
         }
     }
 }
 
-#[derive(Clone, Copy)]
+#[derive(Clone, Copy, Debug, PartialEq, Eq)]
 pub struct FileSpaceInfo {
     pub strategy: FileSpaceStrategy,
-    // Whether free space is kept on file; only then are addresses written.
+    // Whether free space is kept on file; only then are addresses written. A flag and no Option: the message has all fields either way.
     pub persist: bool,
     // The smallest section that the managers track.
     pub threshold: u64,
@@ -85,17 +80,17 @@ pub struct FileSpaceInfo {
 }
 
 // A persisting message with its twelve manager addresses; unused ones are `UNDEF`.
-#[derive(Clone, Copy)]
+#[derive(Clone, Copy, Debug, PartialEq, Eq)]
 pub struct WithSlots {
     pub info: FileSpaceInfo,
     pub slots: [u64; NUM_FILE_FSM_MANAGERS],
 }
 
 // A message that was read, with the number of addresses.
-#[derive(Clone, Copy)]
-pub enum Parsed {
-    Message { info: FileSpaceInfo, count: usize },
-    Refused(Refusal),
+#[derive(Clone, Copy, Debug, PartialEq, Eq)]
+pub struct Parsed {
+    pub info: FileSpaceInfo,
+    pub count: usize,
 }
 
 impl FileSpaceInfo {
@@ -108,10 +103,10 @@ impl FileSpaceInfo {
         ensures { result ≡ non_persistent strategy threshold page_size }
     {
         FileSpaceInfo {
-            strategy: strategy,
+            strategy,
             persist: false,
-            threshold: threshold,
-            page_size: page_size,
+            threshold,
+            page_size,
             page_end_meta_threshold: 0,
             eoa_pre_fsm: UNDEF,
         }
@@ -160,27 +155,24 @@ impl FileSpaceInfo {
         ensures { result ≡ persistent_managers strategy threshold page_size slots eoa_pre_fsm }
     {
         let info = FileSpaceInfo {
-            strategy: strategy,
+            strategy,
             persist: true,
-            threshold: threshold,
-            page_size: page_size,
+            threshold,
+            page_size,
             page_end_meta_threshold: 0,
-            eoa_pre_fsm: eoa_pre_fsm,
+            eoa_pre_fsm,
         };
-        WithSlots {
-            info: info,
-            slots: slots,
-        }
+        WithSlots { info, slots }
     }
 
     // Writes the message at offset and length size 8, and answers how many bytes it takes. `addrs` are written only where free
     // space is kept.
-    pub fn serialize(self, addrs: &[u64], out: &mut [u8]) -> Number
-        ensures { left (number_outcome result) out.new ≡ leaving out.old (serialized self addrs.now out.old) }
+    pub fn serialize(self, addrs: &[u64], out: &mut [u8]) -> Result<u64, Refusal>
+        ensures { left (as_outcome result) out.new ≡ leaving out.old (serialized self addrs.now out.old) }
     {
         let needed = message_len(self.persist, addrs);
         if out.len() < needed {
-            return Number::Refused(Refusal::OverCapacity {
+            return Err(Refusal::OverCapacity {
                 needed: needed as u64,
                 given: out.len() as u64,
             });
@@ -189,38 +181,35 @@ impl FileSpaceInfo {
         if self.persist {
             write_addrs(addrs, out);
         }
-        Number::Is(needed as u64)
+        Ok(needed as u64)
     }
 
     // Reads a message of the given sizes, and all whole addresses after it if free space is kept.
-    pub fn parse(bytes: &[u8], offset_size: u8, length_size: u8, addrs: &mut [u64]) -> Parsed
-        ensures { left (parsed_outcome result) addrs.new
+    pub fn parse(
+        bytes: &[u8],
+        offset_size: u8,
+        length_size: u8,
+        addrs: &mut [u64],
+    ) -> Result<Parsed, Refusal>
+        ensures { left (as_outcome result) addrs.new
             ≡ leaving addrs.old (parsed bytes.now offset_size length_size addrs.old) }
     {
-        let fixed = read_fixed(bytes, offset_size, length_size);
-        match fixed {
-            FixedPart::Refused(r) => Parsed::Refused(r),
-            FixedPart::Is(info) => {
-                let n = present_addrs(bytes.len(), offset_size, length_size, info.persist);
-                if addrs.len() < n {
-                    return Parsed::Refused(Refusal::OverCapacity {
-                        needed: n as u64,
-                        given: addrs.len() as u64,
-                    });
-                }
-                read_addrs(
-                    bytes,
-                    fixed_len(offset_size, length_size),
-                    offset_size as usize,
-                    n,
-                    addrs,
-                );
-                Parsed::Message {
-                    info: info,
-                    count: n,
-                }
-            }
+        let info = read_fixed(bytes, offset_size, length_size)?;
+        let count = present_addrs(bytes.len(), offset_size, length_size, info.persist);
+        if addrs.len() < count {
+            return Err(Refusal::OverCapacity {
+                needed: count as u64,
+                given: addrs.len() as u64,
+            });
         }
+        read_addrs(
+            bytes,
+            fixed_len(offset_size, length_size),
+            offset_size as usize,
+            count,
+            addrs,
+        );
+        Ok(Parsed { info, count })
     }
 }
 
@@ -231,20 +220,13 @@ fn message_len(persist: bool, addrs: &[u64]) -> usize
     if persist { 29 + addrs.len() * 8 } else { 29 }
 }
 
-fn bit_of(b: bool) -> u64
-    ensures { result ≡ bit b }
-{
-    if b { 1 } else { 0 }
-}
-
 // Writes the fixed part at sizes 8.
 fn write_fixed(info: FileSpaceInfo, out: &mut [u8])
     ensures { out.new ≡ over 0 (layout (row (shape 8 8) (numbers_of info))) out.old }
 {
-    let strategy = info.strategy;
     write_uint_le(out, 0, 1, 1);
-    write_uint_le(out, 1, strategy.to_code() as u64, 1);
-    write_uint_le(out, 2, bit_of(info.persist), 1);
+    write_uint_le(out, 1, info.strategy.to_code() as u64, 1);
+    write_uint_le(out, 2, info.persist as u64, 1);
     write_uint_le(out, 3, info.threshold, 8);
     write_uint_le(out, 11, info.page_size, 8);
     write_uint_le(out, 19, info.page_end_meta_threshold as u64, 2);
@@ -255,18 +237,9 @@ fn write_fixed(info: FileSpaceInfo, out: &mut [u8])
 fn write_addrs(addrs: &[u64], out: &mut [u8])
     ensures { out.new ≡ over 29 (layout (address_row 8 addrs.now)) out.old }
 {
-    let mut i = 0;
-    while i < addrs.len() {
-        write_uint_le(out, 29 + i * 8, addrs[i], 8);
-        i += 1;
+    for (i, addr) in addrs.iter().enumerate() {
+        write_uint_le(out, 29 + i * 8, *addr, 8);
     }
-}
-
-// What reading the fixed part gives.
-#[derive(Clone, Copy)]
-enum FixedPart {
-    Is(FileSpaceInfo),
-    Refused(Refusal),
 }
 
 fn are_widths(offset_size: u8, length_size: u8) -> bool
@@ -275,6 +248,7 @@ fn are_widths(offset_size: u8, length_size: u8) -> bool
     is_width(offset_size) && is_width(length_size)
 }
 
+// By `as`: the laws of lengths read the sum with the byte itself.
 fn fixed_len(offset_size: u8, length_size: u8) -> usize
     ensures { result ≡ fixed_len offset_size length_size }
 {
@@ -282,29 +256,25 @@ fn fixed_len(offset_size: u8, length_size: u8) -> usize
 }
 
 // The fixed part, or the first refusal that it meets.
-fn read_fixed(bytes: &[u8], offset_size: u8, length_size: u8) -> FixedPart
-    ensures { fixed_outcome result ≡ fixed_read offset_size length_size bytes.now }
+fn read_fixed(bytes: &[u8], offset_size: u8, length_size: u8) -> Result<FileSpaceInfo, Refusal>
+    ensures { as_outcome result ≡ fixed_read offset_size length_size bytes.now }
 {
     if !are_widths(offset_size, length_size) {
-        return FixedPart::Refused(Refusal::Width);
+        return Err(Refusal::Width);
     }
     let fixed = fixed_len(offset_size, length_size);
     if bytes.len() < fixed {
-        return FixedPart::Refused(Refusal::Short {
+        return Err(Refusal::Short {
             expected: fixed as u64,
             available: bytes.len() as u64,
         });
     }
     let version = bytes[0];
     if version != 1 {
-        return FixedPart::Refused(Refusal::MessageVersion(version));
+        return Err(Refusal::MessageVersion(version));
     }
-    match FileSpaceStrategy::from_code(bytes[1]) {
-        StrategyAnswer::Refused(r) => FixedPart::Refused(r),
-        StrategyAnswer::Is(strategy) => {
-            FixedPart::Is(fixed_fields(bytes, offset_size, length_size, strategy))
-        }
-    }
+    let strategy = FileSpaceStrategy::from_code(bytes[1])?;
+    Ok(fixed_fields(bytes, offset_size, length_size, strategy))
 }
 
 // The fields after the strategy.
@@ -320,7 +290,7 @@ fn fixed_fields(
     let os = offset_size as usize;
     let ls = length_size as usize;
     FileSpaceInfo {
-        strategy: strategy,
+        strategy,
         persist: bytes[2] != 0,
         threshold: read_uint_le(bytes, 3, ls),
         page_size: read_uint_le(bytes, 3 + ls, ls),
@@ -352,11 +322,7 @@ fn read_addrs(bytes: &[u8], at: usize, width: usize, n: usize, addrs: &mut [u64]
     requires { (width ≤ 8) × (at + n * width ≤ length bytes.now) × (n ≤ length addrs.old) }
     ensures { addrs.new ≡ over 0 (numbers_at width n (drop at bytes.now)) addrs.old }
 {
-    let mut pos = at;
-    let mut i = 0;
-    while i < n {
-        addrs[i] = read_uint_le(bytes, pos, width);
-        pos += width;
-        i += 1;
+    for i in 0..n {
+        addrs[i] = read_uint_le(bytes, at + i * width, width);
     }
 }

@@ -2,13 +2,15 @@
 use mathlib.Core.Path.{◌≡◌, refl, ap, ◌∙◌}
 use mathlib.Core.List.{List, [], ◌∷◌}
 use Prim.Native.Nat.{ℕ, ◌+◌}
+use Rattle.std.specs.Prelude.{Result, Option}
+use Rattle.error.specs.Answers.{as_outcome, as_optional_outcome}
+use Rattle.error.specs.declared.Refusal.{Refusal}
+use Rattle.free_space.specs.declared.list.Given.{Given}
 use Rattle.error.specs.Outcome.{Outcome, answer, nothing, refuse}
 use Rattle.error.specs.Lent.{Left, left, leaving}
 use Rattle.fields.specs.Ranges.{Range}
 use Rattle.free_space.specs.declared.list.FreeList.{FreeList}
-use Rattle.free_space.specs.declared.list.Kept.{Kept}
-use Rattle.free_space.specs.declared.list.Given.{Given}
-use Rattle.free_space.specs.Calls.{Gave, record_after, kept_outcome, given_outcome, keeping, freed, allocated, allocated_units, range_taken, trailing_taken}
+use Rattle.free_space.specs.Calls.{record_after, keeping, freed, allocated, allocated_units, range_taken, trailing_taken}
 use Rattle.free_lists.specs.declared.FileLists.{FileLists}
 use Rattle.free_lists.specs.declared.calls.Which.{Which}
 use Rattle.free_lists.specs.declared.calls.Which.TheVariants.{Metadata, Raw, Unclassified}
@@ -35,30 +37,30 @@ module _ (xs ys : List ℕ) (l : FreeList) (r : Performed) where
     h.1 ∙ mapped_twice over give o ∙ ap (λ q. mapped give (mapped over q.outcome)) e,
   )
 
-  abbrev Keeps : Kept → Type 0
-  Keeps k = (r.list ≡ record_after keeping l (kept_outcome k)) × (answered_outcome r.answer ≡ mapped (λ m. []) (kept_outcome k))
+  abbrev Keeps : Result FreeList Refusal → Type 0
+  Keeps k = (r.list ≡ record_after keeping l (as_outcome k)) × (answered_outcome r.answer ≡ mapped (λ m. []) (as_outcome k))
 
-  abbrev Gives : Given → Type 0
-  Gives g = (r.list ≡ record_after (λ a. a.list) l (given_outcome g)) × (answered_outcome r.answer ≡ mapped (λ a. a.addr ∷ []) (given_outcome g))
+  abbrev Gives : Result (Option Given) Refusal → Type 0
+  Gives g = (r.list ≡ record_after (λ a. a.list) l (as_optional_outcome g)) × (answered_outcome r.answer ≡ mapped (λ a. a.addr ∷ []) (as_optional_outcome g))
 
   module _ (c : ListCall) where
     abbrev Makes : Type 0
     Makes = (list_in ys r.list ≡ (perform c (list_in xs l)).left) × (answered_outcome r.answer ≡ mapped (given_out c) (perform c (list_in xs l)).outcome)
 
-    pub made-free : (a n : ℕ) → c ≡ call.Free a n → (k : Kept) → left (kept_outcome k) ys ≡ leaving xs (freed xs l a n) → Keeps k → Makes
-    made-free a n is k e h = rw is (made keeping (λ m. bytes a (a + n)) (λ b. []) (kept_outcome k) _ e h)
+    pub made-free : (a n : ℕ) → c ≡ call.Free a n → (k : (Result FreeList Refusal)) → left (as_outcome k) ys ≡ leaving xs (freed xs l a n) → Keeps k → Makes
+    made-free a n is k e h = rw is (made keeping (λ m. bytes a (a + n)) (λ b. []) (as_outcome k) _ e h)
 
-    pub made_range : (a n : ℕ) → c ≡ call.TakeRange a n → (k : Kept) → left (kept_outcome k) ys ≡ leaving xs (range_taken xs l a n) → Keeps k → Makes
-    made_range a n is k e h = rw is (made keeping (λ m. bytes a (a + n)) (λ b. []) (kept_outcome k) _ e h)
+    pub made_range : (a n : ℕ) → c ≡ call.TakeRange a n → (k : (Result FreeList Refusal)) → left (as_outcome k) ys ≡ leaving xs (range_taken xs l a n) → Keeps k → Makes
+    made_range a n is k e h = rw is (made keeping (λ m. bytes a (a + n)) (λ b. []) (as_outcome k) _ e h)
 
-    pub made-alloc : (n : ℕ) → c ≡ call.Alloc n → (g : Given) → left (given_outcome g) ys ≡ leaving xs (allocated xs l n) → Gives g → Makes
-    made-alloc n is g e h = rw is (made (λ a. a.list) (λ (a : Gave). bytes a.addr (a.addr + n)) (λ b. b.start ∷ []) (given_outcome g) _ e h)
+    pub made-alloc : (n : ℕ) → c ≡ call.Alloc n → (g : (Result (Option Given) Refusal)) → left (as_optional_outcome g) ys ≡ leaving xs (allocated xs l n) → Gives g → Makes
+    made-alloc n is g e h = rw is (made (λ a. a.list) (λ (a : Given). bytes a.addr (a.addr + n)) (λ b. b.start ∷ []) (as_optional_outcome g) _ e h)
 
-    pub made_units : (n u : ℕ) → c ≡ call.AllocWholeUnits n u → (g : Given) → left (given_outcome g) ys ≡ leaving xs (allocated_units xs l n u) → Gives g → Makes
-    made_units n u is g e h = rw is (made (λ a. a.list) (λ (a : Gave). bytes a.addr (a.addr + n)) (λ b. b.start ∷ []) (given_outcome g) _ e h)
+    pub made_units : (n u : ℕ) → c ≡ call.AllocWholeUnits n u → (g : (Result (Option Given) Refusal)) → left (as_optional_outcome g) ys ≡ leaving xs (allocated_units xs l n u) → Gives g → Makes
+    made_units n u is g e h = rw is (made (λ a. a.list) (λ (a : Given). bytes a.addr (a.addr + n)) (λ b. b.start ∷ []) (as_optional_outcome g) _ e h)
 
-    pub made-trailing : (eof : ℕ) → c ≡ call.TakeTrailing eof → (g : Given) → left (given_outcome g) ys ≡ leaving xs (trailing_taken xs l eof) → Gives g → Makes
-    made-trailing eof is g e h = rw is (made (λ a. a.list) (λ (a : Gave). bytes a.addr eof) (λ b. b.start ∷ []) (given_outcome g) _ e h)
+    pub made-trailing : (eof : ℕ) → c ≡ call.TakeTrailing eof → (g : (Result (Option Given) Refusal)) → left (as_optional_outcome g) ys ≡ leaving xs (trailing_taken xs l eof) → Gives g → Makes
+    made-trailing eof is g e h = rw is (made (λ a. a.list) (λ (a : Given). bytes a.addr eof) (λ b. b.start ∷ []) (as_optional_outcome g) _ e h)
 
 -- ---- one of three lists
 

@@ -8,6 +8,9 @@ use Prim.Native.Nat.{ℕ, ◌+◌, ◌≤◌}
 use native.Mathlib.Omega.{arith}
 use borrow.Author.Tests.{lt-ltb, le-ltb}
 use lib.Dec.{eqb}
+use Rattle.std.specs.Prelude.{Result, Ok, Err, Some, None}
+use Rattle.error.specs.declared.Refusal.{Refusal}
+use Rattle.free_space.specs.Splices.{Decision}
 use Rattle.error.specs.declared.Refusal.TheVariants.{NotAList, SharedAddress}
 use Rattle.error.specs.Outcome.{when, refused, first_of}
 use Rattle.error.proofs.OutcomeLaws.{first_holds, first_passes, first_pass}
@@ -16,8 +19,6 @@ use Rattle.fields.specs.Ranges.{top}
 use Rattle.free_regions.specs.declared.FreeRegion.{FreeRegion}
 use Rattle.free_regions.specs.Regions.{region, shares, share_bytes}
 use Rattle.free_regions.proofs.ShareLaws.{shares_empty, lists_byte}
-use Rattle.free_space.specs.declared.decide.Decision.{Decision}
-use Rattle.free_space.specs.declared.decide.Decision.TheVariants.{Refused, Nothing, Change}
 use Rattle.free_space.specs.declared.list.FreeList.{FreeList}
 use Rattle.free_space.specs.Runs.{is_list}
 use Rattle.free_space.specs.Calls.{overflows, freed, allocated}
@@ -29,7 +30,7 @@ use Rattle.free_lists.specs.declared.calls.Which.{Which}
 use Rattle.free_lists.specs.declared.calls.Which.TheVariants.{Metadata, Raw, Unclassified}
 use Rattle.free_lists.specs.Lists.{LentList, regions_of, Lists, lists_of, lists_in, regions_in, are_lists, shared_byte, apart}
 use Rattle.free_lists.specs.Decided.{is_held, freed_together, allocated_together}
-use Rattle.free_lists.specs.Walks.{Due, no_lists, too_long, shared, fine, refused_or}
+use Rattle.free_lists.specs.Walks.{Turned, Due, no_lists, too_long, shared, fine, refused_or}
 use Rattle.free_lists.specs.CallsSay.{Refuses, three, four, five, six, fourteen, FreeSays, AllocSays}
 use Rattle.free_lists.proofs.CallLaws.{calls_say}
 
@@ -46,17 +47,17 @@ pub tells-free : (xs : List ℕ) (l : FreeList) (a len : ℕ) (d : Decision) →
 tells-free xs l a len d k = go d (subst (FreeSays xs l a len) (sym k.0) ((calls_say xs l).free a len))
   where
     go : (d : Decision) → FreeSays xs l a len (kept_by xs l d) → not (eqb (number_in d) 3) ≡ is_list xs l
-    go (Refused r) s = by_number s.says
-    go Nothing s = sym s.says.0.list
-    go (Change p lo hi total new) s = sym s.says.0.list
+    go (Err r) s = by_number s.says
+    go (Ok None) s = sym s.says.0.list
+    go (Ok (Some c)) s = sym s.says.0.list
 
 pub tells-alloc : (xs : List ℕ) (l : FreeList) (len : ℕ) (d : Decision) → Gives xs l (allocated xs l len) d → not (eqb (number_in d) 3) ≡ is_list xs l
 tells-alloc xs l len d k = go d (subst (AllocSays xs l len) (sym k.0) ((calls_say xs l).alloc len))
   where
     go : (d : Decision) → AllocSays xs l len (given_by xs l d) → not (eqb (number_in d) 3) ≡ is_list xs l
-    go (Refused r) s = by_number s.says
-    go Nothing s = sym s.says.0.list
-    go (Change p lo hi total new) s = sym s.says.0.list
+    go (Err r) s = by_number s.says
+    go (Ok None) s = sym s.says.0.list
+    go (Ok (Some c)) s = sym s.says.0.list
 
 -- ---- the refusal that is due; s, r and u are the flags of the code: two lists share a byte, the second or the third holds one of the range
 
@@ -69,17 +70,17 @@ module _ (ls : Lists) (a len : ℕ) where
   held_by i = shares (region a len) (regions_of (ls i))
 
   module _ (ok : are_lists ls ≡ true) (fits : a + len ≤ top) where
-    pub due_second : {r : Bool} → r ≡ held_by Raw → r ≡ true → Due ls a len 5
+    pub due_second : {r : Bool} → r ≡ held_by Raw → r ≡ true → Due ls a len (Err SharedAddress)
     due_second e h =
         shared ok fits (or_right (shared_byte (regions_in ls)) _ (or_right (held_by Metadata) _ (ap (λ (t : Bool). t || held_by Unclassified) (sym e ∙ h))))
 
-    pub due_third : {u : Bool} → u ≡ held_by Unclassified → u ≡ true → Due ls a len 5
+    pub due_third : {u : Bool} → u ≡ held_by Unclassified → u ≡ true → Due ls a len (Err SharedAddress)
     due_third e h = shared ok fits (or_right (shared_byte (regions_in ls)) _ (or_right (held_by Metadata) _ (or_right (held_by Raw) _ (sym e ∙ h))))
 
-    pub due_together : {s : Bool} → s ≡ shared_byte (regions_in ls) → s ≡ true → Due ls a len 5
+    pub due_together : {s : Bool} → s ≡ shared_byte (regions_in ls) → s ≡ true → Due ls a len (Err SharedAddress)
     due_together e h = shared ok fits (ap (λ (t : Bool). t || is_held a len ls) (sym e ∙ h))
 
-    pub due_none : {s r u : Bool} → s ≡ shared_byte (regions_in ls) → r ≡ held_by Raw → u ≡ held_by Unclassified → s ≡ false → r ≡ false → u ≡ false → Due ls a len 0
+    pub due_none : {s r u : Bool} → s ≡ shared_byte (regions_in ls) → r ≡ held_by Raw → u ≡ held_by Unclassified → s ≡ false → r ≡ false → u ≡ false → Due ls a len (Ok tt)
     due_none is-s is-r is-u no-s no-r no-u = fine ok fits (sym is-s ∙ no-s) (sym is-r ∙ no-r) (sym is-u ∙ no-u)
 
   -- ---- `free` by it
@@ -99,7 +100,7 @@ module _ (ls : Lists) (a len : ℕ) where
       let none : (shared_byte (regions_in ls) || is_held a len ls) ≡ false = rw (no-s, m, no-r, no-u) refl in
       sym (first_pass _ (freed (ls Metadata).run (ls Metadata).list a len) (ap not ok, (le-ltb top (a + len) fits, (none, tt))))
 
-  pub free_due : {n : ℕ} → Due ls a len n → (d : Decision) → Keeps (ls Metadata).run (ls Metadata).list (freed (ls Metadata).run (ls Metadata).list a len) d → Folds a len d
+  pub free_due : {n : Result (Unit {0}) Refusal} → Due ls a len n → (d : Decision) → Keeps (ls Metadata).run (ls Metadata).list (freed (ls Metadata).run (ls Metadata).list a len) d → Folds a len d
       → Keeps (ls Metadata).run (ls Metadata).list (freed_together ls Metadata a len) (refused_or n d) × Folds a len (refused_or n d)
   unfolding freed_together
   free_due (no_lists e) d k f = ((sym (first_holds _ _ _ _ (ap not e)), tt), tt)
@@ -121,7 +122,7 @@ module _ (ls : Lists) (len : ℕ) where
   alloc-five true e h ok = sym (first_passes _ _ _ _ (ap not ok) ∙ first_holds _ _ _ _ e)
   alloc-five false e h ok = true_not_false (is_held 0 0 ls) h none_held
 
-  pub alloc_due : {n : ℕ} → Due ls 0 0 n → (d : Decision) → Gives (ls Metadata).run (ls Metadata).list (allocated (ls Metadata).run (ls Metadata).list len) d
+  pub alloc_due : {n : Result (Unit {0}) Refusal} → Due ls 0 0 n → (d : Decision) → Gives (ls Metadata).run (ls Metadata).list (allocated (ls Metadata).run (ls Metadata).list len) d
       → Gives (ls Metadata).run (ls Metadata).list (allocated_together ls Metadata len) (refused_or n d)
   unfolding allocated_together
   alloc_due (no_lists e) d k = (sym (first_holds _ _ _ _ (ap not e)), tt)
@@ -229,18 +230,12 @@ module _ (len : ℕ) where
         (k.0 ∙ alloc_like (lists_of u m r) (lists_of m r u) Metadata Unclassified refl (and_third (listed m) (listed r) (listed u)) (shared_third m r u), k.1);
   }
 
--- by the list that the call is on; g holds the records as the code hands them on
-module _ (xs ys zs : List ℕ) (f : FileLists) (i : Which) (P : Lists → Which → Type 0) where
+-- by the list that the call is on
+module _ (xs ys zs : List ℕ) (f : FileLists) (P : Lists → Which → Type 0) (t : Turns P) where
   abbrev all : Lists
   all = lists_in xs ys zs f
 
-  pub on-first : i ≡ Metadata → P all Metadata → P all i
-  on-first is k = rw is k
-
-  pub on-second : Turns P → i ≡ Raw → (g : FileLists) → g ≡ record { metadata = f.raw; raw = f.metadata; unclassified = f.unclassified }
-      → P (lists_in ys xs zs g) Metadata → P all i
-  on-second t is g e k = rw is (t.second (all Metadata) (all Raw) (all Unclassified) (rw e at k))
-
-  pub on_third : Turns P → i ≡ Unclassified → (g : FileLists) → g ≡ record { metadata = f.unclassified; raw = f.metadata; unclassified = f.raw }
-      → P (lists_in zs xs ys g) Metadata → P all i
-  on_third t is g e k = rw is (t.third (all Metadata) (all Raw) (all Unclassified) (rw e at k))
+  pub by_turns : (i : Which) (ms : Lists) → Turned i all ms → P ms Metadata → P all i
+  by_turns Metadata ms e k = subst (λ (l : Lists). P l Metadata) e k
+  by_turns Raw ms e k = t.second (all Metadata) (all Raw) (all Unclassified) (subst (λ (l : Lists). P l Metadata) e k)
+  by_turns Unclassified ms e k = t.third (all Metadata) (all Raw) (all Unclassified) (subst (λ (l : Lists). P l Metadata) e k)

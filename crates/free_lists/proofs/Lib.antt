@@ -8,3 +8,4 @@ pub mod ApplyLaws
 pub mod RunLaws
 pub mod DecidedLaws
 pub mod DropLaws
+pub mod PartitionLaws

@@ -34,7 +34,7 @@ module _ {xs : List ℕ} {n : ℕ} (p : InOrder xs n) where
       let next = ap (λ (k : ℕ). get_or rs k d) e ∙ decode-at region n (i + 1) xs d h p.room in
       omega (arith, q, ap end there, ap (λ (r : FreeRegion). r.addr) next)
 
-  ends-later : (i k : ℕ) → i + k < n → end (region_at xs i) ≤ end (region_at xs (i + k))
+  pub ends-later : (i k : ℕ) → i + k < n → end (region_at xs i) ≤ end (region_at xs (i + k))
   ends-later i zero h = let z : i + 0 ≡ i = omega arith in rw z (omega arith)
   ends-later i (suc k) h =
       let q = ends-later i k (omega arith) in

@@ -8,12 +8,11 @@ use native.Mathlib.Nat.{le_of_suc-le-suc, not-suc-le-zero}
 use native.Mathlib.Omega.{arith}
 use borrow.Author.Tests.{not-false}
 use lib.ListN.{length, get_or, drop}
-use Rattle.error.specs.declared.Checked.{Checked}
-use Rattle.error.specs.declared.Checked.TheVariants as checked
+use Rattle.std.specs.Prelude.{Result, Ok, Err}
+use Rattle.error.specs.Answers.{as_outcome}
 use Rattle.error.specs.declared.Refusal.{Refusal}
 use Rattle.error.specs.declared.Refusal.TheVariants.{NotAList, SharedAddress}
 use Rattle.error.specs.Outcome.{answer, refused}
-use Rattle.error.specs.Answers.{checked_outcome}
 use Rattle.error.proofs.OutcomeLaws.{NoneHolds, first_holds, first_passes, first_pass, first_answers, first_refuses}
 use Rattle.error.proofs.TestLaws.{and_true}
 use Rattle.fields.specs.Ranges.{top}
@@ -130,17 +129,17 @@ module _ (xs ys zs : List ℕ) (f : FileLists) where
   apart_fine e h f g = sym (first_pass (apart ls) (answer tt) (ap not (sym e ∙ h), (sym f ∙ g, tt)))
 
   -- what the answer of the test tells
-  module _ {o : Checked} (a : checked_outcome o ≡ together ls) where
-    none : o ≡ checked.Passed → NoneHolds (apart ls)
-    none h = (first_answers (apart ls) tt tt (sym a ∙ ap checked_outcome h)).0
+  module _ {o : (Result (Unit {0}) Refusal)} (a : as_outcome o ≡ together ls) where
+    none : o ≡ (Ok tt) → NoneHolds (apart ls)
+    none h = (first_answers (apart ls) tt tt (sym a ∙ ap as_outcome h)).0
 
-    pub fine_order : o ≡ checked.Passed → AllInOrder xs ys zs (counts_of f)
+    pub fine_order : o ≡ (Ok tt) → AllInOrder xs ys zs (counts_of f)
     fine_order h = lists-order refl (not-false (are_lists ls) (none h).0)
 
-    pub start_is : (eof n : ℕ) → o ≡ checked.Passed → n ≡ walk eof (falling (remaining xs ys zs (counts_of f))) → answer n ≡ run_start ls eof
+    pub start_is : (eof n : ℕ) → o ≡ (Ok tt) → n ≡ walk eof (falling (remaining xs ys zs (counts_of f))) → answer n ≡ run_start ls eof
     unfolding run_start
     start_is eof n h e = ap answer e ∙ sym (first_pass (apart ls) _ (none h))
 
-    pub start_refused : (eof : ℕ) (x : Refusal) → o ≡ checked.Refused x → refused x ≡ run_start ls eof
+    pub start_refused : (eof : ℕ) (x : Refusal) → o ≡ Err x → refused x ≡ run_start ls eof
     unfolding run_start
-    start_refused eof x h = first_refuses (apart ls) tt x _ (sym (ap checked_outcome h) ∙ a)
+    start_refused eof x h = first_refuses (apart ls) tt x _ (sym (ap as_outcome h) ∙ a)

@@ -128,6 +128,10 @@ pub record Heights (xs ys zs : List ℕ) (at : Cursors) (a b c : ℕ) : Type 0 w
   pub raw : b ≡ height at.raw ys
   pub unclassified : c ≡ height at.unclassified zs
 
+pub heights : {xs ys zs : List ℕ} {at : Cursors} {a b c : ℕ} → AllInOrder xs ys zs at → a ≡ height at.meta xs → b ≡ height at.raw ys → c ≡ height at.unclassified zs
+    → Heights xs ys zs at a b c
+heights o e f g = record { order = o; meta = e; raw = f; unclassified = g }
+
 module _ {xs ys zs : List ℕ} {at : Cursors} {a b c : ℕ} (h : Heights xs ys zs at a b c) where
   pub reached_none : max b c ≤ a → a ≡ 0 → remaining xs ys zs at ≡ []
   reached_none l z =

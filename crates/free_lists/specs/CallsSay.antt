@@ -30,7 +30,8 @@ use Rattle.free_regions.specs.Sets.{Between, Shared, Adds, Removes, TouchesNone,
 use Rattle.free_space.specs.declared.list.FreeList.{FreeList}
 use Rattle.pairs.specs.Pairs.{capacity}
 use Rattle.free_space.specs.Runs.{regions, is_list}
-use Rattle.free_space.specs.Calls.{Gave, freed, range_taken, allocated, allocated_units, trailing_taken}
+use Rattle.free_space.specs.declared.list.Given.{Given}
+use Rattle.free_space.specs.Calls.{freed, range_taken, allocated, allocated_units, trailing_taken}
 
 -- ---- the order of the refusals
 
@@ -78,7 +79,7 @@ TakeRangeSays xs l a len =
 
 -- ---- allocations; span gives the bytes of a region that can serve, Address says from where it serves
 
-pub record Allocates (span : FreeRegion → ℕ) (Address : FreeRegion → ℕ → Type 0) (len : ℕ) (xs : List ℕ) (l : FreeList) (g : Gave) (ys : List ℕ) : Type 0 where
+pub record Allocates (span : FreeRegion → ℕ) (Address : FreeRegion → ℕ → Type 0) (len : ℕ) (xs : List ℕ) (l : FreeList) (g : Given) (ys : List ℕ) : Type 0 where
   pub place : ℕ
   pub some : 0 < len
   pub best : Best span len (regions xs l) place
@@ -94,17 +95,17 @@ pub record TwoLeft (span start : FreeRegion → ℕ) (len : ℕ) (rs : List Free
   pub after : start (nth rs place) + len < end (nth rs place)
 
 -- part and full say when it refuses with 6 and 14
-abbrev pub ServeSays : List ℕ → FreeList → (FreeRegion → ℕ) → (FreeRegion → ℕ → Type 0) → ℕ → Type 0 → Type 0 → Outcome (With Gave (List ℕ)) → Type 0
+abbrev pub ServeSays : List ℕ → FreeList → (FreeRegion → ℕ) → (FreeRegion → ℕ → Type 0) → ℕ → Type 0 → Type 0 → Outcome (With Given (List ℕ)) → Type 0
 ServeSays xs l span Address len part full =
     CallSays xs l ⊥ ⊥ part full (λ w. Allocates span Address len xs l w.value w.memory) ((len ≡ 0) ⊎ NoneSuffices span len (regions xs l))
 
-abbrev pub AllocSays : List ℕ → FreeList → ℕ → Outcome (With Gave (List ℕ)) → Type 0
+abbrev pub AllocSays : List ℕ → FreeList → ℕ → Outcome (With Given (List ℕ)) → Type 0
 AllocSays xs l len = ServeSays xs l (λ r. r.len) (λ r p. p ≡ r.addr) len ⊥ ⊥
 
 abbrev pub PartUnit : ℕ → ℕ → Type 0
 PartUnit len unit = (unit ≡ 0 → ⊥) × (len % unit ≡ 0 → ⊥)
 
-abbrev pub UnitsSays : List ℕ → FreeList → ℕ → ℕ → Outcome (With Gave (List ℕ)) → Type 0
+abbrev pub UnitsSays : List ℕ → FreeList → ℕ → ℕ → Outcome (With Given (List ℕ)) → Type 0
 UnitsSays xs l len unit =
     ServeSays xs l (interior_span unit) (λ r p. FirstMultiple unit r.addr p) len (PartUnit len unit)
     (TwoLeft (interior_span unit) (interior_start unit) len (regions xs l))
@@ -114,13 +115,13 @@ UnitsSays xs l len unit =
 abbrev pub last_of : List FreeRegion → FreeRegion
 last_of rs = nth rs (length rs - 1)
 
-pub record Drops (eof : ℕ) (xs : List ℕ) (l : FreeList) (g : Gave) (ys : List ℕ) : Type 0 where
+pub record Drops (eof : ℕ) (xs : List ℕ) (l : FreeList) (g : Given) (ys : List ℕ) : Type 0 where
   pub some : 0 < length (regions xs l)
   pub ends : end (last_of (regions xs l)) ≡ eof
   pub address : g.addr ≡ (last_of (regions xs l)).addr
   pub leaves : Leaves (Removes g.addr eof) xs l ys g.list
 
-abbrev pub TrailingSays : List ℕ → FreeList → ℕ → Outcome (With Gave (List ℕ)) → Type 0
+abbrev pub TrailingSays : List ℕ → FreeList → ℕ → Outcome (With Given (List ℕ)) → Type 0
 TrailingSays xs l eof =
     CallSays xs l ⊥ ⊥ ⊥ ⊥ (λ w. Drops eof xs l w.value w.memory)
     ((length (regions xs l) ≡ 0) ⊎ (end (last_of (regions xs l)) ≡ eof → ⊥))

@@ -9,7 +9,8 @@ use Rattle.error.specs.Outcome.{Outcome, when, first_of}
 use Rattle.error.specs.Lent.{With}
 use Rattle.free_regions.specs.Regions.{region, shares}
 use Rattle.free_space.specs.declared.list.FreeList.{FreeList}
-use Rattle.free_space.specs.Calls.{Gave, overflows, freed, allocated}
+use Rattle.free_space.specs.declared.list.Given.{Given}
+use Rattle.free_space.specs.Calls.{overflows, freed, allocated}
 use Rattle.free_lists.specs.declared.calls.Which.{Which}
 use Rattle.free_lists.specs.declared.calls.Which.TheVariants.{Metadata, Raw, Unclassified}
 use Rattle.free_lists.specs.Lists.{regions_of, Lists, regions_in, are_lists, shared_byte, apart}
@@ -23,5 +24,5 @@ freed_together ls i a len =
     first_of (when (not (are_lists ls)) NotAList ∷ overflows a len ∷ when (shared_byte (regions_in ls) || is_held a len ls) SharedAddress ∷ [])
     (freed (ls i).run (ls i).list a len)
 
-unfoldable pub allocated_together : Lists → Which → ℕ → Outcome (With Gave (List ℕ))
+unfoldable pub allocated_together : Lists → Which → ℕ → Outcome (With Given (List ℕ))
 allocated_together ls i len = first_of (apart ls) (allocated (ls i).run (ls i).list len)

@@ -20,7 +20,10 @@
 --   free_by_history "Free by history"
 --   ByHistory       what calls in a row on lists begun empty leave: lists, which hold what is free by history, and whose totals are its count
 --                   (the law `history`)
-use Rattle.std.specs.Prelude.{ℕ, ◌+◌, ◌%◌, ◌^◌, ◌≡◌, ◌↔◌, Bool, true, false, cond, ◌&&◌, ◌||◌, List, [], ◌∷◌, leb, ltb, eqb, length}
+use Rattle.std.specs.Prelude.{ℕ, ◌+◌, ◌%◌, ◌^◌, ◌≡◌, ◌↔◌, Bool, true, false, cond, ◌&&◌, ◌||◌, List, [], ◌∷◌, leb, ltb, eqb, length, Result, Ok, Err}
+use Rattle.error.specs.declared.Refusal.{Refusal}
+use Rattle.free_lists.specs.declared.calls.Answer.{Answer}
+use Rattle.free_lists.specs.declared.calls.Answer.TheVariants.{Done, At, Nothing}
 use Rattle.error.specs.Outcome.{Outcome, answer, nothing, refuse, refused}
 use Rattle.error.specs.Lent.{With, Left, leaving}
 use Rattle.fields.specs.Ranges.{Range}
@@ -29,13 +32,12 @@ use Rattle.free_regions.specs.Sets.{how_many}
 use Rattle.free_space.specs.declared.list.FreeList.{FreeList}
 use Rattle.free_space.specs.Runs.{record_of, is_list}
 use Rattle.free_space.specs.Questions.{free_bytes}
-use Rattle.free_space.specs.Calls.{Gave, record_after, keeping, freed, allocated, allocated_units, range_taken, trailing_taken}
+use Rattle.free_space.specs.declared.list.Given.{Given}
+use Rattle.free_space.specs.Calls.{record_after, keeping, freed, allocated, allocated_units, range_taken, trailing_taken}
 use Rattle.free_lists.specs.declared.calls.Which.{Which}
 use Rattle.free_lists.specs.declared.calls.Which.TheVariants.{Metadata, Raw, Unclassified}
 use Rattle.free_lists.specs.declared.calls.ListCall.{ListCall}
 use Rattle.free_lists.specs.declared.calls.ListCall.TheVariants as call
-use Rattle.free_lists.specs.declared.calls.Answered.{Answered}
-use Rattle.free_lists.specs.declared.calls.Answered.TheVariants as answered
 use Rattle.free_lists.specs.Lists.{LentList, list_in, regions_of, same, Lists}
 
 -- ---- one call on one list
@@ -56,7 +58,7 @@ effect list over l d = record { outcome = mapped over d.outcome; left = list_in 
 abbrev pub kept : Range → LentList → Outcome (With FreeList (List ℕ)) → Effect
 kept over l o = effect keeping (λ m. over) l.list (leaving l.run o)
 
-abbrev pub gave : (ℕ → Range) → LentList → Outcome (With Gave (List ℕ)) → Effect
+abbrev pub gave : (ℕ → Range) → LentList → Outcome (With Given (List ℕ)) → Effect
 gave over l o = effect (λ g. g.list) (λ g. over g.addr) l.list (leaving l.run o)
 
 abbrev pub bytes : ℕ → ℕ → Range
@@ -79,11 +81,11 @@ given_out (call.AllocWholeUnits n u) r = r.start ∷ []
 given_out (call.TakeRange a n) r = []
 given_out (call.TakeTrailing e) r = r.start ∷ []
 
-abbrev pub answered_outcome : Answered → Outcome (List ℕ)
-answered_outcome answered.Done = answer []
-answered_outcome (answered.At p) = answer (p ∷ [])
-answered_outcome answered.Nothing = nothing
-answered_outcome (answered.Refused r) = refused r
+abbrev pub answered_outcome : Result Answer Refusal → Outcome (List ℕ)
+answered_outcome (Ok Done) = answer []
+answered_outcome (Ok (At p)) = answer (p ∷ [])
+answered_outcome (Ok Nothing) = nothing
+answered_outcome (Err r) = refused r
 
 -- ---- calls in a row on three lists
 

@@ -1,15 +1,16 @@
 // A call on one of the three lists of a file, as a value, and the one function that makes it.
 ghost use Rattle.std.specs.Prelude.{◌≡◌, [], ◌∷◌};
-ghost use Rattle.free_space.specs.Calls.{kept_outcome, given_outcome, record_after, keeping};
+ghost use Rattle.error.specs.Answers.{as_outcome, as_optional_outcome};
+ghost use Rattle.free_space.specs.Calls.{record_after, keeping};
 ghost use Rattle.free_lists.specs.Lists.{list_in, lists_in};
 ghost use Rattle.free_lists.specs.History.{mapped, perform, given_out, answered_outcome, on, next};
 
 use crate::FileLists;
 use error::Refusal;
-use free_space::list::{FreeList, Given, Kept};
+use free_space::list::{FreeList, Given};
 
 // The lists of metadata, of raw data and of unclassified space.
-#[derive(Clone, Copy)]
+#[derive(Clone, Copy, Debug, PartialEq, Eq)]
 pub enum Which {
     Metadata,
     Raw,
@@ -17,7 +18,7 @@ pub enum Which {
 }
 
 // A list call with its arguments.
-#[derive(Clone, Copy)]
+#[derive(Clone, Copy, Debug, PartialEq, Eq)]
 pub enum ListCall {
     Free { addr: u64, len: u64 },
     Alloc { len: u64 },
@@ -26,63 +27,65 @@ pub enum ListCall {
     TakeTrailing { eof: u64 },
 }
 
-// What a call answers: `At` the address that it gives out, `Done` where it gives none.
-#[derive(Clone, Copy)]
-pub enum Answered {
+// What a call answers that is not refused: `At` the address that it gives out, `Done` where it gives none.
+// No Option<Option<u64>>: a call that gives no address out and one that finds none would both be None.
+#[derive(Clone, Copy, Debug, PartialEq, Eq)]
+pub enum Answer {
     Done,
     At(u64),
     Nothing,
-    Refused(Refusal),
 }
 
 // The answer, and the records of the three lists after the call.
-#[derive(Clone, Copy)]
+// The lists stand beside the answer: they are told on a refusal too.
+#[derive(Clone, Copy, Debug, PartialEq, Eq)]
 pub struct Applied {
-    pub answer: Answered,
+    pub answer: Result<Answer, Refusal>,
     pub lists: FileLists,
 }
 
 // The answer, and the record of the one list after the call.
-#[derive(Clone, Copy)]
+// The list stands beside the answer: it is told on a refusal too.
+#[derive(Clone, Copy, Debug, PartialEq, Eq)]
 pub struct Performed {
-    pub answer: Answered,
+    pub answer: Result<Answer, Refusal>,
     pub list: FreeList,
 }
 
 // After a call that gives nothing out; a refusal leaves the old record.
-fn after_kept(list: FreeList, k: Kept) -> Performed
-    ensures list { result.list ≡ record_after keeping list (kept_outcome k) }
-    ensures answer { answered_outcome result.answer ≡ mapped (λ l. []) (kept_outcome k) }
+fn after_kept(list: FreeList, k: Result<FreeList, Refusal>) -> Performed
+    ensures list { result.list ≡ record_after keeping list (as_outcome k) }
+    ensures answer { answered_outcome result.answer ≡ mapped (λ l. []) (as_outcome k) }
 {
     match k {
-        Kept::Done(after) => Performed {
-            answer: Answered::Done,
+        Ok(after) => Performed {
+            answer: Ok(Answer::Done),
             list: after,
         },
-        Kept::Refused(r) => Performed {
-            answer: Answered::Refused(r),
-            list: list,
+        Err(r) => Performed {
+            answer: Err(r),
+            list,
         },
     }
 }
 
 // After one that gives an address out.
-fn after_given(list: FreeList, g: Given) -> Performed
-    ensures list { result.list ≡ record_after (λ a. a.list) list (given_outcome g) }
-    ensures answer { answered_outcome result.answer ≡ mapped (λ a. a.addr ∷ []) (given_outcome g) }
+fn after_given(list: FreeList, g: Result<Option<Given>, Refusal>) -> Performed
+    ensures list { result.list ≡ record_after (λ a. a.list) list (as_optional_outcome g) }
+    ensures answer { answered_outcome result.answer ≡ mapped (λ a. a.addr ∷ []) (as_optional_outcome g) }
 {
     match g {
-        Given::At { addr, list: after } => Performed {
-            answer: Answered::At(addr),
+        Ok(Some(Given { addr, list: after })) => Performed {
+            answer: Ok(Answer::At(addr)),
             list: after,
         },
-        Given::Nothing => Performed {
-            answer: Answered::Nothing,
-            list: list,
+        Ok(None) => Performed {
+            answer: Ok(Answer::Nothing),
+            list,
         },
-        Given::Refused(r) => Performed {
-            answer: Answered::Refused(r),
-            list: list,
+        Err(r) => Performed {
+            answer: Err(r),
+            list,
         },
     }
 }
@@ -103,16 +106,6 @@ pub fn perform(run: &mut [u64], list: FreeList, call: ListCall) -> Performed
     }
 }
 
-pub(crate) fn lists_of(metadata: FreeList, raw: FreeList, unclassified: FreeList) -> FileLists
-    ensures { result ≡ record { metadata = metadata; raw = raw; unclassified = unclassified } }
-{
-    FileLists {
-        metadata: metadata,
-        raw: raw,
-        unclassified: unclassified,
-    }
-}
-
 // Makes a call on one of three lists.
 pub fn apply(
     metadata: &mut [u64],
@@ -127,35 +120,35 @@ pub fn apply(
     ensures answer { answered_outcome result.answer
         ≡ mapped (given_out call) (perform call (lists_in metadata.old raw.old unclassified.old lists which)).outcome }
 {
-    let m = lists.metadata;
-    let r = lists.raw;
-    let u = lists.unclassified;
     match which {
         Which::Metadata => {
-            let made = perform(metadata, m, call);
-            let answer = made.answer;
-            let after = made.list;
+            let made = perform(metadata, lists.metadata, call);
             Applied {
-                answer: answer,
-                lists: lists_of(after, r, u),
+                answer: made.answer,
+                lists: FileLists {
+                    metadata: made.list,
+                    ..lists
+                },
             }
         }
         Which::Raw => {
-            let made = perform(raw, r, call);
-            let answer = made.answer;
-            let after = made.list;
+            let made = perform(raw, lists.raw, call);
             Applied {
-                answer: answer,
-                lists: lists_of(m, after, u),
+                answer: made.answer,
+                lists: FileLists {
+                    raw: made.list,
+                    ..lists
+                },
             }
         }
         Which::Unclassified => {
-            let made = perform(unclassified, u, call);
-            let answer = made.answer;
-            let after = made.list;
+            let made = perform(unclassified, lists.unclassified, call);
             Applied {
-                answer: answer,
-                lists: lists_of(m, r, after),
+                answer: made.answer,
+                lists: FileLists {
+                    unclassified: made.list,
+                    ..lists
+                },
             }
         }
     }

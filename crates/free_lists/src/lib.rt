@@ -6,20 +6,19 @@ pub mod decide;
 mod share;
 
 ghost use Rattle.std.specs.Prelude.{◌≡◌, max};
-ghost use Rattle.error.specs.Answers.{checked_outcome, number_outcome};
+ghost use Rattle.error.specs.Answers.{as_outcome};
 ghost use Rattle.free_lists.specs.Lists.{lists_in, are_lists, together};
 ghost use Rattle.free_lists.specs.Trailing.{falling, walk, run_start};
-ghost use Rattle.free_lists.specs.Walks.{InOrder, AllInOrder, remaining, height, Onward};
+ghost use Rattle.free_lists.specs.Walks.{AllInOrder, remaining, Onward};
 
-use crate::share::{nth_region, share_any};
-use error::{Checked, Number, Refusal};
+use crate::share::{Ordered, share_any};
+use error::Refusal;
 use free_regions::FreeRegion;
 use free_space::check::is_list;
 use free_space::list::FreeList;
-use numbers::max;
 
 // The records of the three lists of a file. Their runs are lent beside them, in the same order.
-#[derive(Clone, Copy)]
+#[derive(Clone, Copy, Debug, PartialEq, Eq)]
 pub struct FileLists {
     pub metadata: FreeList,
     pub raw: FreeList,
@@ -30,29 +29,30 @@ pub struct FileLists {
 pub fn are_lists(meta: &[u64], raw: &[u64], unclassified: &[u64], lists: FileLists) -> bool
     ensures { result ≡ are_lists (lists_in meta.now raw.now unclassified.now lists) }
 {
-    if !is_list(meta, lists.metadata) {
-        return false;
-    }
-    if !is_list(raw, lists.raw) {
-        return false;
-    }
-    is_list(unclassified, lists.unclassified)
+    is_list(meta, lists.metadata)
+        && is_list(raw, lists.raw)
+        && is_list(unclassified, lists.unclassified)
 }
 
 // Refusals 3 and 5 of three lists that are given together.
-pub fn check_lists(meta: &[u64], raw: &[u64], unclassified: &[u64], lists: FileLists) -> Checked
-    ensures { checked_outcome result ≡ together (lists_in meta.now raw.now unclassified.now lists) }
+pub fn check_lists(
+    meta: &[u64],
+    raw: &[u64],
+    unclassified: &[u64],
+    lists: FileLists,
+) -> Result<(), Refusal>
+    ensures { as_outcome result ≡ together (lists_in meta.now raw.now unclassified.now lists) }
 {
     if !are_lists(meta, raw, unclassified, lists) {
-        return Checked::Refused(Refusal::NotAList);
+        return Err(Refusal::NotAList);
     }
     if share_any(meta, raw, unclassified, lists) {
-        return Checked::Refused(Refusal::SharedAddress);
+        return Err(Refusal::SharedAddress);
     }
-    Checked::Passed
+    Ok(())
 }
 
-// How many regions of each of three lists there are to look at.
+// How many regions of each of three lists there are to look at. The runs stay the same over the walk: three `Ordered` would have to say so in each step.
 #[derive(Clone, Copy)]
 struct Cursors {
     meta: usize,
@@ -62,65 +62,56 @@ struct Cursors {
 
 // The region that the walk comes to next, and the cursors after it.
 #[derive(Clone, Copy)]
-enum Reached {
-    At { region: FreeRegion, rest: Cursors },
-    Nothing,
-}
-
-// One above the address of the last of n regions; 0 for none.
-fn height_of(run: &[u64], n: usize) -> u64
-    requires { InOrder run.now n }
-    ensures { result ≡ height n run.now }
-{
-    if n == 0 {
-        return 0;
-    }
-    let last = nth_region(run, n - 1);
-    last.addr + 1
+struct Reached {
+    region: FreeRegion,
+    rest: Cursors,
 }
 
 // The last region of the list that reaches highest; on a tie the first such list's.
-fn highest(meta: &[u64], raw: &[u64], unclassified: &[u64], at: Cursors) -> Reached
+fn highest(meta: &[u64], raw: &[u64], unclassified: &[u64], at: Cursors) -> Option<Reached>
     requires { AllInOrder meta.now raw.now unclassified.now at }
     ensures { Onward meta.now raw.now unclassified.now at result }
 {
-    let a = height_of(meta, at.meta);
-    let b = height_of(raw, at.raw);
-    let c = height_of(unclassified, at.unclassified);
-    if max(b, c) <= a {
+    let m = Ordered {
+        run: meta,
+        count: at.meta,
+    };
+    let r = Ordered {
+        run: raw,
+        count: at.raw,
+    };
+    let u = Ordered {
+        run: unclassified,
+        count: at.unclassified,
+    };
+    let a = m.height();
+    let b = r.height();
+    let c = u.height();
+    if b.max(c) <= a {
         if a == 0 {
-            return Reached::Nothing;
+            return None;
         }
         let last = at.meta - 1;
-        return Reached::At {
-            region: nth_region(meta, last),
-            rest: Cursors {
-                meta: last,
-                raw: at.raw,
-                unclassified: at.unclassified,
-            },
-        };
+        return Some(Reached {
+            region: m.region(last),
+            rest: Cursors { meta: last, ..at },
+        });
     }
     if c <= b {
         let last = at.raw - 1;
-        return Reached::At {
-            region: nth_region(raw, last),
-            rest: Cursors {
-                meta: at.meta,
-                raw: last,
-                unclassified: at.unclassified,
-            },
-        };
+        return Some(Reached {
+            region: r.region(last),
+            rest: Cursors { raw: last, ..at },
+        });
     }
     let last = at.unclassified - 1;
-    Reached::At {
-        region: nth_region(unclassified, last),
+    Some(Reached {
+        region: u.region(last),
         rest: Cursors {
-            meta: at.meta,
-            raw: at.raw,
             unclassified: last,
+            ..at
         },
-    }
+    })
 }
 
 // Where the walk from the end of file down the regions of three lists ends.
@@ -130,11 +121,7 @@ fn walk_down(meta: &[u64], raw: &[u64], unclassified: &[u64], all: Cursors, eof:
 {
     let mut start = eof;
     let mut at = all;
-    loop {
-        let next = highest(meta, raw, unclassified, at);
-        let Reached::At { region: r, rest } = next else {
-            return start;
-        };
+    while let Some(Reached { region: r, rest }) = highest(meta, raw, unclassified, at) {
         if r.addr + r.len < start {
             return start;
         }
@@ -143,6 +130,7 @@ fn walk_down(meta: &[u64], raw: &[u64], unclassified: &[u64], all: Cursors, eof:
             start = r.addr;
         }
     }
+    start
 }
 
 // The lowest address of the run of free bytes that reaches the end of file, over three lists; `eof` itself where nothing there is free.
@@ -152,19 +140,14 @@ pub fn trailing_run_start(
     unclassified: &[u64],
     lists: FileLists,
     eof: u64,
-) -> Number
-    ensures { number_outcome result ≡ run_start (lists_in meta.now raw.now unclassified.now lists) eof }
+) -> Result<u64, Refusal>
+    ensures { as_outcome result ≡ run_start (lists_in meta.now raw.now unclassified.now lists) eof }
 {
-    let checked = check_lists(meta, raw, unclassified, lists);
-    match checked {
-        Checked::Refused(r) => Number::Refused(r),
-        Checked::Passed => {
-            let all = Cursors {
-                meta: lists.metadata.count,
-                raw: lists.raw.count,
-                unclassified: lists.unclassified.count,
-            };
-            Number::Is(walk_down(meta, raw, unclassified, all, eof))
-        }
-    }
+    check_lists(meta, raw, unclassified, lists)?;
+    let all = Cursors {
+        meta: lists.metadata.count,
+        raw: lists.raw.count,
+        unclassified: lists.unclassified.count,
+    };
+    Ok(walk_down(meta, raw, unclassified, all, eof))
 }

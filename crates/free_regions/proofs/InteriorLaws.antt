@@ -6,42 +6,33 @@ use mathlib.Core.Logic.{◌⊎◌, inl, inr, ⊎_elim}
 use Prim.Native.Nat.{ℕ, zero, suc, ◌+◌, ◌-◌, ◌*◌, ◌/◌, ◌%◌, ◌≤◌, ◌<◌}
 use native.Mathlib.Nat.{div-add-mod', mul-mod_left, mul-le-mul_right, div-lt_iff_lt-mul, mod-lt, add-mod_right, le_of_suc-le-suc, not-suc-le-zero, suc-mul}
 use native.Mathlib.Omega.{arith}
-use borrow.Author.Tests.{eq-eqb, ne_eqb, eqb-true, eqb-false, lt-ltb, le-ltb, ltb-true, ltb-false}
+use borrow.Author.Tests.{eq-eqb, ne_eqb, eqb-true, eqb-false, le-ltb, ltb-true, ltb-false}
 use lib.Dec.{eqb}
-use Rattle.error.specs.declared.Number.{Number}
-use Rattle.error.specs.declared.Number.TheVariants as number
+use Rattle.std.specs.Prelude.{Result, Option, Ok}
+use Rattle.error.specs.Answers.{as_outcome, as_optional_outcome}
+use Rattle.free_regions.specs.declared.Whole.{Whole}
 use Rattle.error.specs.declared.Refusal.{Refusal}
-use Rattle.error.specs.declared.Refusal.TheVariants.{Overflow}
 use Rattle.error.specs.Outcome.{Outcome, answer, nothing, refuse, refused}
-use Rattle.error.specs.Answers.{number_outcome}
-use Rattle.error.proofs.OutcomeLaws.{refuses, passes, first_answers}
+use Rattle.error.proofs.OutcomeLaws.{first_refuses, passes, first_answers}
 use Rattle.error.proofs.EndsLaws.{answers, says_nothing, chosen, untested, tested}
 use Rattle.error.proofs.TestLaws.{le-or-lt}
 use Rattle.fields.specs.Ranges.{top, sum, first_multiple}
-use Rattle.fields.proofs.RangeLaws.{sum_is, first-at, first-after, first_ge}
+use Rattle.std.specs.Int.{next_multiple_of}
+use Rattle.fields.proofs.RangeLaws.{next_first, first_ge}
 use Rattle.free_regions.specs.declared.FreeRegion.{FreeRegion}
-use Rattle.free_regions.specs.declared.Interior.{Interior}
 use Rattle.free_regions.specs.Regions.{end}
-use Rattle.free_regions.specs.Units.{last_multiple, interior_start, interior_span, Whole, interior, interior_outcome}
+use Rattle.free_regions.specs.Units.{last_multiple, interior_start, interior_span, interior}
 use Rattle.free_regions.specs.Sets.{FirstMultiple, LastMultiple, Inside, NoneInside, four, InteriorSays}
 
 -- ---- what the answer for the end tells
 
-module _ (r : FreeRegion) {o : Number} (a : number_outcome o ≡ sum r.addr r.len) where
-  pub end_is : (e : ℕ) → o ≡ number.Is e → (e ≡ end r) × (end r ≤ top)
+module _ (r : FreeRegion) {o : (Result ℕ Refusal)} (a : as_outcome o ≡ sum r.addr r.len) where
+  pub end_is : (e : ℕ) → o ≡ Ok e → (e ≡ end r) × (end r ≤ top)
   unfolding sum
   end_is e h =
-      let s : sum r.addr r.len ≡ answer e = sym a ∙ ap number_outcome h in
+      let s : sum r.addr r.len ≡ answer e = sym a ∙ ap as_outcome h in
       let p = first_answers _ (end r) e s in
       (sym p.1, ltb-false top (end r) p.0.0)
-
-  pub end-over : (x : Refusal) → o ≡ number.Refused x → top < end r
-  end-over x h =
-      ⊎_elim
-      (λ (l : end r ≤ top). let s : answer (end r) ≡ refused x = sum_is r.addr r.len l ∙ sym a ∙ ap number_outcome h in
-      let z : ◌≡◌ {A = ℕ} 0 1 = cc in absurd (omega arith))
-      (λ (l : top < end r). l)
-      (le-or-lt (end r) top)
 
 -- ---- multiples
 
@@ -63,9 +54,9 @@ whole : ℕ → ℕ → Outcome Whole
 whole s n = cond (eqb n 0) nothing (answer (record { start = s; span = n }))
 
 module _ (u : ℕ) (r : FreeRegion) where
-  pub interior-over : top < end r → refused Overflow ≡ interior u r
-  unfolding interior
-  interior-over h = refuses _ _ _ (lt-ltb top (end r) h)
+  pub interior-over : (x : Refusal) → refused x ≡ sum r.addr r.len → refused x ≡ interior u r
+  unfolding sum interior
+  interior-over x h = first_refuses _ (end r) x _ h
 
   module _ (fits : end r ≤ top) where
     interior-whole : whole (interior_start u r) (interior_span u r) ≡ interior u r
@@ -99,24 +90,19 @@ module _ (u : ℕ) (r : FreeRegion) where
       pub interior-low : e - e % u ≤ r.addr → nothing ≡ interior u r
       interior-low h = none (span (interior_start u r) refl ∙ omega (arith, first_ge r.addr u pos))
 
-      pub interior-at : r.addr < e - e % u → r.addr % u ≡ 0 → answer (record { start = r.addr; span = e - e % u - r.addr }) ≡ interior u r
-      interior-at h z =
-          let f : interior_start u r ≡ r.addr = first-at r.addr u pos z in
-          some r.addr (e - e % u - r.addr) f (span r.addr f) (omega arith)
+      -- s is the first multiple, as std gives it
+      module _ (s : ℕ) (first : s ≡ next_multiple_of r.addr u) where
+        start : interior_start u r ≡ s
+        start = sym (first ∙ next_first r.addr u n)
 
-      module _ (rest : r.addr % u ≡ 0 → ⊥) where
-        after : interior_start u r ≡ r.addr + (u - r.addr % u)
-        after = first-after r.addr u pos rest
+        pub interior-high : e - e % u ≤ s → nothing ≡ interior u r
+        interior-high h = none (span s start ∙ omega arith)
 
-        pub start-le : r.addr < e - e % u → r.addr + (u - r.addr % u) ≤ e
-        start-le h = omega (arith, last, after, first-le r.addr u (end r) pos (omega (arith, last)))
+        pub interior-is : s < e - e % u → answer (record { start = s; span = e - e % u - s }) ≡ interior u r
+        interior-is h = some s (e - e % u - s) start (span s start) (omega arith)
 
-        pub interior-high : e - e % u ≤ r.addr + (u - r.addr % u) → nothing ≡ interior u r
-        interior-high h = none (span (r.addr + (u - r.addr % u)) after ∙ omega arith)
-
-        pub interior-after : r.addr + (u - r.addr % u) < e - e % u
-            → answer (record { start = r.addr + (u - r.addr % u); span = e - e % u - (r.addr + (u - r.addr % u)) }) ≡ interior u r
-        interior-after h = some (r.addr + (u - r.addr % u)) (e - e % u - (r.addr + (u - r.addr % u))) after (span (r.addr + (u - r.addr % u)) after) (omega arith)
+      pub start-le : r.addr < e - e % u → next_multiple_of r.addr u ≤ e
+      start-le h = omega (arith, last, next_first r.addr u n, first-le r.addr u (end r) pos (omega (arith, last)))
 
 -- ---- what an answer tells of a region that ends within 64 bits
 
@@ -139,9 +125,9 @@ whole_tells s zero = (refl, λ h. absurd (not-suc-le-zero h))
 whole_tells s (suc n) = rw (ne_eqb (suc n) 0 (λ z. omega arith)) (refl, λ h. refl)
 
 -- x is the answer of the code
-pub interior-tells : (u : ℕ) (r : FreeRegion) (o x : Interior) → end r ≤ top → interior_outcome o ≡ interior u r → o ≡ x → Tells u r (interior_outcome x)
+pub interior-tells : (u : ℕ) (r : FreeRegion) (o x : (Result (Option Whole) Refusal)) → end r ≤ top → as_optional_outcome o ≡ interior u r → o ≡ x → Tells u r (as_optional_outcome x)
 interior-tells u r o x fits a h =
-    let e : whole (interior_start u r) (interior_span u r) ≡ interior_outcome x = interior-whole u r fits ∙ sym a ∙ ap interior_outcome h in
+    let e : whole (interior_start u r) (interior_span u r) ≡ as_optional_outcome x = interior-whole u r fits ∙ sym a ∙ ap as_optional_outcome h in
     subst (Tells u r) e (whole_tells (interior_start u r) (interior_span u r))
 
 -- ---- where an interior lies

@@ -21,7 +21,8 @@ use Rattle.error.specs.Ends.{Ends}
 use Rattle.fields.specs.Ranges.{top}
 use Rattle.free_regions.specs.declared.FreeRegion.{FreeRegion}
 use Rattle.free_regions.specs.Regions.{region, end, Free}
-use Rattle.free_regions.specs.Units.{Whole, interior}
+use Rattle.free_regions.specs.declared.Whole.{Whole}
+use Rattle.free_regions.specs.Units.{interior}
 
 -- ---- free bytes
 

@@ -2,71 +2,55 @@
 #![tactic(auto)]
 
 ghost use Rattle.std.specs.Prelude.{◌≡◌};
-ghost use Rattle.error.specs.Answers.{number_outcome};
+ghost use Rattle.error.specs.Answers.{as_outcome, as_optional_outcome};
 ghost use Rattle.fields.specs.Ranges.{sum};
-ghost use Rattle.free_regions.specs.Units.{interior, interior_outcome};
+ghost use Rattle.free_regions.specs.Units.{interior};
 
-use error::{Number, Refusal};
-use numbers::MAX;
+use error::Refusal;
 
 // The bytes from `addr` up to `addr + len`.
-#[derive(Clone, Copy)]
+#[derive(Clone, Copy, Debug, PartialEq, Eq)]
 pub struct FreeRegion {
     pub addr: u64,
     pub len: u64,
 }
 
 // The whole units inside a region, if there are any.
-#[derive(Clone, Copy)]
-pub enum Interior {
-    Whole { start: u64, span: u64 },
-    Nothing,
-    Refused(Refusal),
+#[derive(Clone, Copy, Debug, PartialEq, Eq)]
+pub struct Whole {
+    pub start: u64,
+    pub span: u64,
 }
 
 impl FreeRegion {
     // One past the last byte.
-    pub fn end(self) -> Number
-        ensures { number_outcome result ≡ sum self.addr self.len }
+    #[tactic(auto, unfolding(fields::specs::Ranges::sum, error::specs::Outcome::first_of))]
+    pub fn end(self) -> Result<u64, Refusal>
+        ensures { as_outcome result ≡ sum self.addr self.len }
     {
-        let len = self.len;
-        if MAX - len < self.addr {
-            return Number::Refused(Refusal::Overflow);
-        }
-        Number::Is(self.addr + len)
+        self.addr.checked_add(self.len).ok_or(Refusal::Overflow)
     }
 
     // The whole units inside the region: from the first multiple of `unit` at or after `addr` to the last at or before the end.
-    pub fn aligned_interior(self, unit: u64) -> Interior
-        ensures { interior_outcome result ≡ interior unit self }
+    pub fn aligned_interior(self, unit: u64) -> Result<Option<Whole>, Refusal>
+        ensures { as_optional_outcome result ≡ interior unit self }
     {
-        let stop = self.end();
-        let Number::Is(end) = stop else {
-            return Interior::Refused(Refusal::Overflow);
-        };
+        let end = self.end()?;
         if unit == 0 {
-            return Interior::Nothing;
+            return Ok(None);
         }
-        let addr = self.addr;
         let last = end - end % unit;
-        if last <= addr {
-            return Interior::Nothing;
+        if last <= self.addr {
+            return Ok(None);
         }
         // The first multiple is at most the last one, so that it fits.
-        let rest = addr % unit;
-        if rest == 0 {
-            return Interior::Whole {
-                start: addr,
-                span: last - addr,
-            };
-        }
-        let start = addr + (unit - rest);
+        let start = self.addr.next_multiple_of(unit);
         if last <= start {
-            return Interior::Nothing;
+            return Ok(None);
         }
-        Interior::Whole {
-            start: start,
+        Ok(Some(Whole {
+            start,
             span: last - start,
-        }
+        }))
     }
 }

@@ -1,34 +1,21 @@
 -- The cases of what each call answers. Assumes nothing.
-use Rattle.std.proofs.Common.{◌≡◌, ℕ, suc, ◌+◌, ◌-◌, ◌*◌, ◌<◌, ◌≤◌, Bool, true, false, cond, not, ◌&&◌, eqb, List, [], length, get_or, sym, refl, ap, ◌∙◌, ap₂, add-one, arith, le-ltb, lt-ltb, eq-eqb, ne_eqb}
-use mathlib.Core.Path.{subst⁻¹}
-use Rattle.error.specs.declared.Refusal.TheVariants.{NotAList, Overflow, SharedAddress, PartUnit}
-use Rattle.error.specs.Outcome.{Outcome, answer, nothing, refused, first_of}
+use Rattle.std.proofs.Common.{◌≡◌, ℕ, suc, ◌+◌, ◌-◌, ◌*◌, ◌<◌, ◌≤◌, true, false, cond, not, ◌&&◌, eqb, List, [], length, get_or, sym, refl, ap, ◌∙◌, ap₂, add-one, arith, le-ltb, eq-eqb, ne_eqb}
+use Rattle.error.specs.declared.Refusal.TheVariants.{SharedAddress}
+use Rattle.error.specs.Outcome.{Outcome, answer, nothing, refused}
 use Rattle.error.specs.Lent.{With, with}
 use Rattle.error.proofs.OutcomeLaws.{first-none, first_holds, first_passes, passes}
 use Rattle.fields.specs.Ranges.{top}
 use Rattle.free_regions.specs.declared.FreeRegion.{FreeRegion}
-use Rattle.free_regions.specs.Regions.{region, end, around, spliced, shares, insert, cut_all, Found, at, best}
+use Rattle.free_regions.specs.Regions.{region, end, around, spliced, shares, insert, Found, at, best}
 use Rattle.free_regions.specs.Units.{interior_start, interior_span}
 use Rattle.free_regions.proofs.ShareLaws.{shares_empty}
 use Rattle.pairs.proofs.PairLaws.{length-decode, decode-at}
 use Rattle.free_space.specs.declared.list.FreeList.{FreeList}
-use Rattle.free_space.specs.declared.decide.Decision.{Decision}
-use Rattle.free_space.specs.declared.decide.Decision.TheVariants.{Refused, Nothing}
 use Rattle.free_space.specs.Runs.{region_at, regions, is_list}
-use Rattle.free_space.specs.Calls.{Gave, giving, placed, without, serve, keeping, freed_regions, left_regions, allocated, allocated_units, freed, range_taken, trailing_taken, part_unit}
-use Rattle.free_space.specs.Decisions.{if_list, given_by, Applicable, Gives}
+use Rattle.free_space.specs.declared.list.Given.{Given}
+use Rattle.free_space.specs.Calls.{giving, placed, without, serve, keeping, freed_regions, left_regions, allocated, allocated_units, freed, range_taken, trailing_taken, part_unit}
 use Rattle.free_space.proofs.ListLaws.{listed}
 use Rattle.free_space.proofs.SpliceLaws.{kept_same}
-
--- ---- a decision that looks at no region
-
-pub if_gives : (xs : List ℕ) (l : FreeList) (o : Outcome (With Gave (List ℕ))) (t : Bool) (d e : Decision) → d ≡ if_list t e → t ≡ is_list xs l
-    → given_by xs l (if_list (is_list xs l) e) ≡ o → Applicable xs l e → Gives xs l o d
-if_gives xs l o t d e is tested outcome can = subst⁻¹ (Gives xs l o) is (ap (λ (b : Bool). given_by xs l (if_list b e)) tested ∙ outcome, go t)
-  where
-    go : (b : Bool) → Applicable xs l (if_list b e)
-    go true = can
-    go false = tt
 
 -- ---- allocations
 
@@ -49,18 +36,6 @@ serve-at start xs l len i s f r h room got e =
     ap (λ (q : FreeRegion). placed (giving (start q)) xs l (without (regions xs l) i (start q) len)) d ∙ sym (ap (serve start xs l len) e)
 
 module _ (xs : List ℕ) (l : FreeList) (len : ℕ) where
-  pub alloc_bad : is_list xs l ≡ false → refused NotAList ≡ allocated xs l len
-  unfolding allocated
-  alloc_bad e = sym (first_holds _ _ _ _ (ap not e))
-
-  pub alloc-zero : len ≡ 0 → given_by xs l (if_list (is_list xs l) Nothing) ≡ allocated xs l len
-  unfolding allocated first_of
-  alloc-zero z = rw (eq-eqb len 0 z) (go (is_list xs l))
-    where
-      go : (t : Bool) → given_by xs l (if_list t Nothing) ≡ cond (not t) (refused NotAList) nothing
-      go true = refl
-      go false = refl
-
   pub alloc_else : is_list xs l ≡ true → (len ≡ 0 → ⊥) → serve (λ r. r.addr) xs l len (best (λ r. r.len) len 0 (regions xs l)) ≡ allocated xs l len
   unfolding allocated
   alloc_else e n = sym (rw (ne_eqb len 0 n)) ∙ passes _ _ _ (ap not e)
@@ -68,27 +43,7 @@ module _ (xs : List ℕ) (l : FreeList) (len : ℕ) where
 -- ---- `alloc_whole_units`
 
 module _ (xs : List ℕ) (l : FreeList) (len unit : ℕ) where
-  pub units_bad : is_list xs l ≡ false → refused NotAList ≡ allocated_units xs l len unit
-  unfolding allocated_units
-  units_bad e = sym (first_holds _ _ _ _ (ap not e))
-
-  pub units_part : part_unit len unit ≡ true → given_by xs l (if_list (is_list xs l) (Refused PartUnit)) ≡ allocated_units xs l len unit
-  unfolding allocated_units first_of
-  units_part h = rw h (go (is_list xs l))
-    where
-      go : (t : Bool) → given_by xs l (if_list t (Refused PartUnit)) ≡ cond (not t) (refused NotAList) (refused PartUnit)
-      go true = refl
-      go false = refl
-
   module _ (whole : part_unit len unit ≡ false) where
-    pub units_zero : len ≡ 0 → given_by xs l (if_list (is_list xs l) Nothing) ≡ allocated_units xs l len unit
-    unfolding allocated_units first_of
-    units_zero z = rw (whole, eq-eqb len 0 z) (go (is_list xs l))
-      where
-        go : (t : Bool) → given_by xs l (if_list t Nothing) ≡ cond (not t) (refused NotAList) nothing
-        go true = refl
-        go false = refl
-
     pub units_else : is_list xs l ≡ true → (len ≡ 0 → ⊥)
         → serve (interior_start unit) xs l len (best (interior_span unit) len 0 (regions xs l)) ≡ allocated_units xs l len unit
     unfolding allocated_units
@@ -97,14 +52,6 @@ module _ (xs : List ℕ) (l : FreeList) (len unit : ℕ) where
 -- ---- `free`
 
 module _ (xs : List ℕ) (l : FreeList) (a len : ℕ) where
-  pub free_bad : is_list xs l ≡ false → refused NotAList ≡ freed xs l a len
-  unfolding freed
-  free_bad e = sym (first_holds _ _ _ _ (ap not e))
-
-  pub free-over : is_list xs l ≡ true → top < a + len → refused Overflow ≡ freed xs l a len
-  unfolding freed
-  free-over ok h = sym (first_passes _ _ _ _ (ap not ok) ∙ first_holds _ _ _ _ (lt-ltb top (a + len) h))
-
   module _ (fits : a + len ≤ top) where
     pub free-shared : is_list xs l ≡ true → shares (region a len) (regions xs l) ≡ true → refused SharedAddress ≡ freed xs l a len
     unfolding freed
@@ -129,14 +76,6 @@ module _ (xs : List ℕ) (l : FreeList) (a len : ℕ) where
 -- ---- `take_range`
 
 module _ (xs : List ℕ) (l : FreeList) (a len : ℕ) where
-  pub range_bad : is_list xs l ≡ false → refused NotAList ≡ range_taken xs l a len
-  unfolding range_taken
-  range_bad e = sym (first_holds _ _ _ _ (ap not e))
-
-  pub range-over : is_list xs l ≡ true → top < a + len → refused Overflow ≡ range_taken xs l a len
-  unfolding range_taken
-  range-over ok h = sym (first_passes _ _ _ _ (ap not ok) ∙ first_holds _ _ _ _ (lt-ltb top (a + len) h))
-
   module _ (fits : a + len ≤ top) where
     passed : (rs : List FreeRegion) → is_list xs l ≡ true → left_regions (regions xs l) a len ≡ rs → placed keeping xs l rs ≡ range_taken xs l a len
     unfolding range_taken
@@ -145,18 +84,11 @@ module _ (xs : List ℕ) (l : FreeList) (a len : ℕ) where
     pub range-zero : is_list xs l ≡ true → len ≡ 0 → answer (with l xs) ≡ range_taken xs l a len
     range-zero ok z = kept_same xs l (regions xs l) ok refl ∙ passed (regions xs l) ok (rw (eq-eqb len 0 z))
 
-    pub range_else : is_list xs l ≡ true → (len ≡ 0 → ⊥) → placed keeping xs l (cut_all a (a + len) (regions xs l)) ≡ range_taken xs l a len
-    range_else ok z = passed (cut_all a (a + len) (regions xs l)) ok (rw (ne_eqb len 0 z))
-
 -- ---- `take_trailing`
 
 module _ (xs : List ℕ) (l : FreeList) (eof : ℕ) where
-  pub trailing_bad : is_list xs l ≡ false → refused NotAList ≡ trailing_taken xs l eof
-  unfolding trailing_taken
-  trailing_bad e = sym (first_holds _ _ _ _ (ap not e))
-
   -- with m for the count of the regions
-  trail : ℕ → Outcome (With Gave (List ℕ))
+  trail : ℕ → Outcome (With Given (List ℕ))
   trail m =
       let rs = regions xs l in
       cond (not (eqb m 0) && eqb (end (get_or rs (m - 1) (region 0 0))) eof)
@@ -166,10 +98,6 @@ module _ (xs : List ℕ) (l : FreeList) (eof : ℕ) where
     trail_is : trail l.count ≡ trailing_taken xs l eof
     unfolding trailing_taken trail
     trail_is = ap trail (sym (length-decode region l.count xs (listed xs l ok).room)) ∙ passes _ _ _ (ap not ok)
-
-    pub trailing-none : l.count ≡ 0 → nothing ≡ trailing_taken xs l eof
-    unfolding trail
-    trailing-none z = sym (rw (eq-eqb l.count 0 z)) ∙ trail_is
 
     module _ (some : l.count ≡ 0 → ⊥) (r : FreeRegion) (got : r ≡ region_at xs (l.count - 1)) where
       last : get_or (regions xs l) (l.count - 1) (region 0 0) ≡ r

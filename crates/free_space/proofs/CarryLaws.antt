@@ -1,45 +1,32 @@
 -- Laws of a decision that is carried out. Assumes nothing.
 --   after         the record and the run after it
-use Rattle.std.proofs.Common.{◌≡◌, ℕ, ◌+◌, ◌-◌, ◌*◌, ◌≤◌, true, false, leb, List, length, sym, refl, ap, ◌∙◌, ap₂, arith, le-leb, leb-true}
+use Rattle.std.proofs.Common.{◌≡◌, ℕ, ◌+◌, ◌-◌, true, false, List, length, sym, refl, ap, ◌∙◌, ap₂, arith, le-leb}
+use Rattle.std.specs.Prelude.{Ok, Err, Some, None}
+use Rattle.free_space.specs.Splices.{Decision, change}
 use Rattle.error.specs.Outcome.{Outcome}
 use Rattle.error.specs.Lent.{With, with, leaving}
-use Rattle.error.proofs.TestLaws.{and_true}
-use Rattle.free_regions.specs.declared.FreeRegion.{FreeRegion}
 use Rattle.free_regions.specs.Regions.{spliced}
 use Rattle.pairs.specs.Pairs.{capacity}
 use Rattle.pairs.proofs.PairLaws.{length-spliced}
 use Rattle.free_space.specs.declared.list.FreeList.{FreeList}
 use Rattle.free_space.specs.declared.run.Patch.{Patch}
-use Rattle.free_space.specs.declared.decide.Decision.{Decision}
-use Rattle.free_space.specs.declared.decide.Decision.TheVariants.{Refused, Nothing, Change}
 use Rattle.free_space.specs.Runs.{record_of, regions, stored}
-use Rattle.free_space.specs.Calls.{Gave, record_after, keeping}
+use Rattle.free_space.specs.declared.list.Given.{Given}
+use Rattle.free_space.specs.Calls.{record_after, keeping}
 use Rattle.free_space.specs.Splices.{patch}
 use Rattle.free_space.specs.Decisions.{Applicable, Gives, Keeps, given_by, kept_by, fits, carried_out}
 use Rattle.free_space.proofs.DecodeLaws.{region_form}
 
--- what the test says, as facts
-pub fits_facts : (xs : List ℕ) (l : FreeList) (lo hi : ℕ) (p : List FreeRegion) → fits xs l lo hi p ≡ true
-    → (lo ≤ hi) × (hi ≤ l.count) × (2 * l.count ≤ length xs) × (2 * (lo + length p + (l.count - hi)) ≤ length xs)
-fits_facts xs l lo hi p e =
-    let n = l.count in
-    let a = and_true (leb lo hi) _ e in
-    let b = and_true (leb hi n) _ a.1 in
-    let c = and_true (leb n (capacity xs)) _ b.1 in
-    let f = leb-true n (capacity xs) c.0 in
-    let g = leb-true (lo + length p + (n - hi)) (capacity xs) c.1 in
-    (leb-true lo hi a.0, leb-true hi n b.0, omega arith, omega arith)
-
 -- the two cases of a change
 module _ (xs : List ℕ) (l : FreeList) (a lo hi total : ℕ) (p : Patch) where
-  pub unfit : fits xs l lo hi (patch p) ≡ false → carried_out xs l (Change a lo hi total p) ≡ with l xs
+  pub unfit : fits xs l lo hi (patch p) ≡ false → carried_out xs l (change a lo hi total p) ≡ with l xs
   unfit e = rw e
 
-  pub fit : fits xs l lo hi (patch p) ≡ true → carried_out xs l (Change a lo hi total p)
+  pub fit : fits xs l lo hi (patch p) ≡ true → carried_out xs l (change a lo hi total p)
       ≡ with (record { count = lo + length (patch p) + (l.count - hi); total = total }) (stored xs l.count (spliced (regions xs l) lo hi (patch p)))
   fit e = rw e
 
-module _ (xs : List ℕ) (l : FreeList) (a lo hi total : ℕ) (p : Patch) (can : Applicable xs l (Change a lo hi total p)) where
+module _ (xs : List ℕ) (l : FreeList) (a lo hi total : ℕ) (p : Patch) (can : Applicable xs l (change a lo hi total p)) where
   -- the record that is made is that of the regions left
   pub record_left : record { count = lo + length (patch p) + (l.count - hi); total = total } ≡ record_of (spliced (regions xs l) lo hi (patch p))
   record_left =
@@ -54,7 +41,7 @@ module _ (xs : List ℕ) (l : FreeList) (a lo hi total : ℕ) (p : Patch) (can :
       (le-leb (lo + length (patch p) + (n - hi)) (capacity xs) (omega (arith, can.3)))
 
   -- a change that can be carried out is
-  pub carried : let rs = spliced (regions xs l) lo hi (patch p) in carried_out xs l (Change a lo hi total p) ≡ with (record_of rs) (stored xs l.count rs)
+  pub carried : let rs = spliced (regions xs l) lo hi (patch p) in carried_out xs l (change a lo hi total p) ≡ with (record_of rs) (stored xs l.count rs)
   carried =
       let ys = stored xs l.count (spliced (regions xs l) lo hi (patch p)) in
       fit xs l a lo hi total p fits_true ∙ ap (λ (r : FreeList). with r ys) record_left
@@ -68,14 +55,14 @@ pub kept-carried : (xs : List ℕ) (l : FreeList) (d : Decision) (o : Outcome (W
 kept-carried xs l d o k = go d k.1 ∙ ap (after keeping xs l) k.0
   where
     go : (d : Decision) → Applicable xs l d → carried_out xs l d ≡ after keeping xs l (kept_by xs l d)
-    go (Refused r) can = refl
-    go Nothing can = refl
-    go (Change a lo hi total p) can = carried xs l a lo hi total p can
+    go (Err r) can = refl
+    go (Ok None) can = refl
+    go (Ok (Some c)) can = carried xs l c.addr c.lo c.hi c.total c.patch can
 
-pub gave-carried : (xs : List ℕ) (l : FreeList) (d : Decision) (o : Outcome (With Gave (List ℕ))) → Gives xs l o d → carried_out xs l d ≡ after (λ g. g.list) xs l o
+pub gave-carried : (xs : List ℕ) (l : FreeList) (d : Decision) (o : Outcome (With Given (List ℕ))) → Gives xs l o d → carried_out xs l d ≡ after (λ g. g.list) xs l o
 gave-carried xs l d o k = go d k.1 ∙ ap (after (λ g. g.list) xs l) k.0
   where
     go : (d : Decision) → Applicable xs l d → carried_out xs l d ≡ after (λ g. g.list) xs l (given_by xs l d)
-    go (Refused r) can = refl
-    go Nothing can = refl
-    go (Change a lo hi total p) can = carried xs l a lo hi total p can
+    go (Err r) can = refl
+    go (Ok None) can = refl
+    go (Ok (Some c)) can = carried xs l c.addr c.lo c.hi c.total c.patch can

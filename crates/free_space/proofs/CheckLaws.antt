@@ -1,11 +1,10 @@
 -- Laws of the functions that test for refusal 3: one region, an iteration of a pass, and the whole. Assumes nothing.
-use Rattle.std.proofs.Common.{◌≡◌, ℕ, suc, ◌+◌, ◌%◌, ◌^◌, ◌<◌, ◌≤◌, Bool, true, false, not, ◌&&◌, eqb, ltb, leb, List, drop, sym, refl, ap, ◌∙◌, subst, arith, ltb-true, lt-ltb, le-leb}
-use borrow.Author.Tests.{not-true, not-false}
+use Rattle.std.proofs.Common.{◌≡◌, ℕ, suc, ◌+◌, ◌<◌, ◌≤◌, Bool, true, false, ◌&&◌, eqb, leb, List, drop, sym, refl, ap, ◌∙◌, subst, arith}
 use Rattle.error.proofs.TestLaws.{and_true, true_not_false}
 use Rattle.pairs.specs.Pairs.{capacity, is_even, is_run}
 use Rattle.free_regions.specs.declared.FreeRegion.{FreeRegion}
 use Rattle.free_regions.specs.Regions.{region, end, sum_of_lengths, fits_from, ok_from}
-use Rattle.free_regions.proofs.OkLaws.{Fit, fit, fit-back}
+use Rattle.free_regions.proofs.OkLaws.{Fit, fit}
 use Rattle.pairs.proofs.PairLaws.{decode-end}
 use Rattle.pairs.proofs.RunLaws.{run_room}
 use Rattle.free_space.specs.declared.list.FreeList.{FreeList}
@@ -19,42 +18,6 @@ pub same_test : (a b : Bool) → (a ≡ true → b ≡ true) → (b ≡ true →
 same_test true b f g = sym (f refl)
 same_test false true f g = g refl
 same_test false false f g = refl
-
--- ---- one region
-
--- the sum that wraps is above the address where the region is not empty and does not wrap, and only there
-pub stands-is : (r : FreeRegion) → r.addr < 2 ^ 64 → r.len < 2 ^ 64 → ltb r.addr ((r.addr + r.len) % 2 ^ 64) ≡ fits_from 0 r
-stands-is r a l = same_test (ltb r.addr ((r.addr + r.len) % 2 ^ 64)) (fits_from 0 r) there back
-  where
-    there : ltb r.addr ((r.addr + r.len) % 2 ^ 64) ≡ true → fits_from 0 r ≡ true
-    there e =
-        let h = ltb-true r.addr ((r.addr + r.len) % 2 ^ 64) e in
-        fit-back 0 r (record { some = omega arith; within = omega arith; above = omega arith })
-
-    back : fits_from 0 r ≡ true → ltb r.addr ((r.addr + r.len) % 2 ^ 64) ≡ true
-    back e = let f = fit 0 r e in lt-ltb r.addr ((r.addr + r.len) % 2 ^ 64) (omega arith)
-
-module _ (prev : ℕ) (r : FreeRegion) where
-  pub follows_not : r.addr ≤ prev → false ≡ fits_from (suc prev) r
-  follows_not h = same_test false (fits_from (suc prev) r) (λ e. true_not_false false e refl) (λ e. absurd (let f = fit (suc prev) r e in omega arith))
-
-  pub follows_else : prev < r.addr → fits_from 0 r ≡ fits_from (suc prev) r
-  follows_else h = rw (le-leb (suc prev) r.addr h, le-leb 0 r.addr (omega arith))
-
--- ---- a flag that the code tests by `if !..`, and what its function ensures of it
-
-pub denied : {b t : Bool} → b ≡ t → not b ≡ true → t ≡ false
-denied {b} e h = sym e ∙ not-true b h
-
-pub held : {b t : Bool} → b ≡ t → not b ≡ false → t ≡ true
-held {b} e h = sym e ∙ not-false b h
-
--- the same where the test is told as one of the flag itself
-pub is_denied : {b t : Bool} → b ≡ t → b ≡ false → t ≡ false
-is_denied e h = sym e ∙ h
-
-pub is_held : {b t : Bool} → b ≡ t → b ≡ true → t ≡ true
-is_held e h = sym e ∙ h
 
 -- ---- an iteration of a pass that tests the regions and adds their lengths, from what the code reads
 

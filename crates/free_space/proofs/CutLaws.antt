@@ -10,7 +10,7 @@ use Rattle.free_regions.proofs.OrderLaws.{keep_prefix}
 use Rattle.pairs.proofs.PairLaws.{decode-drop, decode-end}
 use Rattle.free_space.specs.declared.list.FreeList.{FreeList}
 use Rattle.free_space.specs.Runs.{region_at, regions, is_list}
-use Rattle.free_space.specs.Splices.{Apart, Goes}
+use Rattle.free_space.specs.Splices.{Apart, Goes, Replaces}
 use Rattle.free_space.proofs.ListLaws.{listed, region-fits}
 use Rattle.free_space.proofs.PlaceLaws.{rest-within, next-above, later, all-before}
 use Rattle.free_regions.proofs.CutSets.{piece-none, piece-some}
@@ -104,7 +104,7 @@ module _ (xs : List ℕ) (l : FreeList) (a e lo hi : ℕ) (h : a ≤ e) (apart :
       )
 
   -- the regions from lo up to hi do: what is left of the first and of the last
-  pub cut-some : lo < hi
+  cut-some : lo < hi
       → cut_all a e (regions xs l)
       ≡ spliced (regions xs l) lo hi (piece (region_at xs lo).addr (a - (region_at xs lo).addr) ++ piece e (end (region_at xs (hi - 1)) - e))
   cut-some m =
@@ -143,12 +143,37 @@ module _ (xs : List ℕ) (l : FreeList) (a e lo hi gone : ℕ) (h : a < e) (apar
       (omega (arith, gone_less xs l lo hi gone apart.list goes, sum-pieces r.addr (a - r.addr) e (last - e)))
       ∙ ap sum_of_lengths (sym (cut-some xs l a e lo hi (omega arith) apart m))
 
-  pub left_less : (n : ℕ) → n ≡ a - (region_at xs lo).addr + (end (region_at xs (hi - 1)) - e) → n ≤ gone
+  left_less : (n : ℕ) → n ≡ a - (region_at xs lo).addr + (end (region_at xs (hi - 1)) - e) → n ≤ gone
   unfolding left
   left_less n is =
       omega (arith, is, sum_left, gone_less xs l lo hi gone apart.list goes, (listed xs l apart.list).total, sum-cut-all a e (regions xs l) (omega arith))
 
-  pub cut-total : (n : ℕ) → n ≡ a - (region_at xs lo).addr + (end (region_at xs (hi - 1)) - e)
+  cut-total : (n : ℕ) → n ≡ a - (region_at xs lo).addr + (end (region_at xs (hi - 1)) - e)
       → l.total - (gone - n) ≡ sum_of_lengths (cut_all a e (regions xs l))
   unfolding left
   cut-total n is = omega (arith, is, sum_left, left_less n is, gone_less xs l lo hi gone apart.list goes)
+
+  -- first and last are the regions that the code reads, x and y the bytes left of them
+  module _ (first last : FreeRegion) (u : first ≡ region_at xs lo) (v : last ≡ region_at xs (hi - 1)) where
+    pub cut_is : (p : List FreeRegion) → p ≡ piece first.addr (a - first.addr) ++ piece e (end last - e)
+        → cut_all a e (regions xs l) ≡ spliced (regions xs l) lo hi p
+    cut_is p is =
+        cut-some xs l a e lo hi (omega arith) apart m
+        ∙ ap (spliced (regions xs l) lo hi)
+        (sym (is ∙ ap₂ (λ (r t : FreeRegion). piece r.addr (a - r.addr) ++ piece e (end t - e)) u v))
+
+    module _ (x y : ℕ) (f : x ≡ a - first.addr) (b : y ≡ end last - e) where
+      left_is : x + y ≡ a - (region_at xs lo).addr + (end (region_at xs (hi - 1)) - e)
+      left_is = ap₂ (λ (i j : ℕ). i + j) (f ∙ ap (λ (r : FreeRegion). a - r.addr) u) (b ∙ ap (λ (r : FreeRegion). end r - e) v)
+
+      pub cut_less : x + y ≤ gone
+      cut_less = left_less (x + y) left_is
+
+      pub cut_replaces : (p : List FreeRegion) → p ≡ piece first.addr (a - first.addr) ++ piece e (end last - e)
+          → Replaces xs l lo hi (l.total - (gone - (x + y))) p
+      cut_replaces p is = record {
+        list = apart.list;
+        order = apart.high.order;
+        within = apart.high.within;
+        sum = cut-total (x + y) left_is ∙ ap sum_of_lengths (cut_is p is);
+      }

@@ -1,7 +1,9 @@
 -- Laws of the best fit: a pass upwards finds what the definition says, and what is found suffices. Assumes nothing.
-use Rattle.std.proofs.Common.{◌≡◌, ℕ, ◌+◌, ◌-◌, ◌*◌, ◌%◌, ◌^◌, ◌<◌, ◌≤◌, Bool, true, false, cond, ltb, leb, List, length, drop, sym, refl, ap, ◌∙◌, ap₂, ⊎_elim, add-one, arith, le-ltb, lt-ltb, le-leb, leb-false, leb-true}
+use Rattle.std.proofs.Common.{◌≡◌, ℕ, ◌+◌, ◌-◌, ◌*◌, ◌^◌, ◌<◌, ◌≤◌, Bool, true, false, cond, leb, List, length, drop, sym, refl, ap, ◌∙◌, ⊎_elim, add-one, arith, le-ltb, lt-ltb, le-leb, leb-false, leb-true}
 use mathlib.Core.Path.{subst⁻¹}
 use borrow.Author.Tests.{lt-leb}
+use Rattle.std.specs.Prelude.{Result, Option, Ok, Some, None}
+use Rattle.error.specs.declared.Refusal.{Refusal}
 use Rattle.error.proofs.TestLaws.{le-or-lt}
 use Rattle.free_regions.specs.declared.FreeRegion.{FreeRegion}
 use Rattle.free_regions.specs.Regions.{region, Found, none, at, one_at, lower, best}
@@ -9,8 +11,6 @@ use Rattle.free_regions.specs.Sets.{nth}
 use Rattle.free_regions.proofs.BestLaws.{best_at}
 use Rattle.pairs.proofs.PairLaws.{length-decode, decode-at, decode-drop, decode-end}
 use Rattle.free_space.specs.declared.list.FreeList.{FreeList}
-use Rattle.free_space.specs.declared.fit.Search.{Search}
-use Rattle.free_space.specs.declared.fit.Search.TheVariants.{Nothing, At}
 use Rattle.free_space.specs.declared.fit.Best.{Best}
 use Rattle.free_space.specs.Runs.{region_at, decode, regions, is_list}
 use Rattle.free_space.specs.Searches.{so_far, answered, Finds}
@@ -77,51 +77,18 @@ pub fit-end : (span : FreeRegion → ℕ) (len i n : ℕ) (xs : List ℕ) (b : B
     → lower (so_far len b) (best span len i (drop i (decode n xs))) ≡ so_far len b
 fit-end span len i n xs b l room = ap (λ (q : List FreeRegion). lower (so_far len b) (best span len i q)) (decode-end region n i xs l room) ∙ lower-none (so_far len b)
 
--- ---- the bytes left over
+-- ---- the answer
 
-module _ (len i span slack : ℕ) (b : Best) (some : 0 < len) (l : len < 2 ^ 64) (s : span < 2 ^ 64) (f : slack < 2 ^ 64) (wraps : (slack + len) % 2 ^ 64 ≡ span) where
-  pub better_new : slack < b.slack → so_far len (record { index = i; slack = slack }) ≡ lower (so_far len b) (one_at len i span)
-  better_new h = ⊎_elim enough lacks (le-or-lt len span)
-    where
-      enough : len ≤ span → so_far len (record { index = i; slack = slack }) ≡ lower (so_far len b) (one_at len i span)
-      enough k =
-          let e : slack + len ≡ span = omega arith in
-          so_far-at len (record { index = i; slack = slack }) (omega arith) ∙ ap (at i) e ∙ sym (rw (le-leb len span k) (go (ltb b.slack (2 ^ 64 - len))))
-        where
-          go : (t : Bool) → lower (cond t (at b.index (b.slack + len)) none) (at i span) ≡ at i span
-          go true = rw (lt-leb (b.slack + len) span (omega arith))
-          go false = refl
-
-      lacks : span < len → so_far len (record { index = i; slack = slack }) ≡ lower (so_far len b) (one_at len i span)
-      lacks k =
-          let o : one_at len i span ≡ none = rw (lt-leb len span k) in
-          so_far-none len (record { index = i; slack = slack }) (omega arith) ∙ sym (ap₂ lower (so_far-none len b (omega arith)) o)
-
-  pub better_old : b.slack ≤ slack → so_far len b ≡ lower (so_far len b) (one_at len i span)
-  better_old h = ⊎_elim enough lacks (le-or-lt len span)
-    where
-      enough : len ≤ span → so_far len b ≡ lower (so_far len b) (one_at len i span)
-      enough k =
-          let e : so_far len b ≡ at b.index (b.slack + len) = so_far-at len b (omega arith) in
-          let o : one_at len i span ≡ at i span = rw (le-leb len span k) in
-          let w : lower (at b.index (b.slack + len)) (at i span) ≡ at b.index (b.slack + len) = rw (le-leb (b.slack + len) span (omega arith)) in
-          e ∙ sym w ∙ sym (ap₂ lower e o)
-
-      lacks : span < len → so_far len b ≡ lower (so_far len b) (one_at len i span)
-      lacks k =
-          let o : one_at len i span ≡ none = rw (lt-leb len span k) in
-          sym (ap (lower (so_far len b)) o ∙ lower-none (so_far len b))
-
-pub found_at : (len : ℕ) (b : Best) → b.slack < 2 ^ 64 - len → At b.index ≡ answered len b
+pub found_at : (len : ℕ) (b : Best) → b.slack < 2 ^ 64 - len → Ok (Some b.index) ≡ answered len b
 found_at len b h = rw (lt-ltb b.slack (2 ^ 64 - len) h)
 
-pub found_none : (len : ℕ) (b : Best) → 2 ^ 64 - len ≤ b.slack → Nothing ≡ answered len b
+pub found_none : (len : ℕ) (b : Best) → 2 ^ 64 - len ≤ b.slack → (Ok None) ≡ answered len b
 found_none len b h = rw (le-ltb b.slack (2 ^ 64 - len) h)
 
 -- ---- what is found suffices
 
 -- the answer, where the pass came to the end of a list
-pub finds : (measure : FreeRegion → ℕ) (xs : List ℕ) (l : FreeList) (len : ℕ) (b : Best) (s : Search) → is_list xs l ≡ true
+pub finds : (measure : FreeRegion → ℕ) (xs : List ℕ) (l : FreeList) (len : ℕ) (b : Best) (s : (Result (Option ℕ) Refusal)) → is_list xs l ≡ true
     → best measure len 0 (regions xs l) ≡ so_far len b → s ≡ answered len b → Finds measure xs l len s
 finds measure xs l len b s ok e is = ⊎_elim none_left served (le-or-lt (2 ^ 64 - len) b.slack)
   where

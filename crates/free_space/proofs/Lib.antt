@@ -8,5 +8,6 @@ pub mod InsertLaws
 pub mod ListLaws
 pub mod MeetLaws
 pub mod PlaceLaws
+pub mod PointLaws
 pub mod QuestionLaws
 pub mod SpliceLaws

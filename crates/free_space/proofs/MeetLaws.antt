@@ -1,5 +1,5 @@
 -- Laws of the pass for a range. Assumes nothing.
-use Rattle.std.proofs.Common.{◌≡◌, ℕ, ◌+◌, ◌-◌, ◌<◌, ◌≤◌, true, false, ◌&&◌, ltb, List, sym, ap, ◌∙◌, arith, ltb-false, ltb-true, le-ltb, lt-ltb}
+use Rattle.std.proofs.Common.{◌≡◌, ℕ, ◌+◌, ◌-◌, ◌<◌, ◌≤◌, true, false, ◌&&◌, ltb, List, sym, ap, ◌∙◌, arith, ltb-false, ltb-true, lt-ltb}
 use Rattle.error.proofs.TestLaws.{and_true}
 use Rattle.free_regions.specs.declared.FreeRegion.{FreeRegion}
 use Rattle.free_space.specs.declared.list.FreeList.{FreeList}
@@ -17,12 +17,6 @@ apart-here xs l a e i ok past from =
 
 -- the test that `begins_below` makes
 module _ (xs : List ℕ) (l : FreeList) (i e : ℕ) where
-  pub none_below : l.count ≤ i → false ≡ (ltb i l.count && ltb (region_at xs i).addr e)
-  none_below h = sym (rw (le-ltb i l.count h))
-
-  pub one_below : i < l.count → (r : FreeRegion) → r ≡ region_at xs i → ltb r.addr e ≡ (ltb i l.count && ltb (region_at xs i).addr e)
-  one_below h r got = rw (lt-ltb i l.count h) (ap (λ (q : FreeRegion). ltb q.addr e) got)
-
   pub begins : (ltb i l.count && ltb (region_at xs i).addr e) ≡ true → (i < l.count) × ((region_at xs i).addr < e)
   begins t = let p = and_true (ltb i l.count) _ t in (ltb-true i l.count p.0, ltb-true (region_at xs i).addr e p.1)
 

@@ -1,52 +1,31 @@
 -- Laws of the inner functions: a run written over itself, the new total, and the outcome of a decision. Assumes nothing.
-use Rattle.std.proofs.Common.{◌≡◌, ℕ, ◌+◌, ◌-◌, ◌*◌, ◌<◌, ◌≤◌, Bool, true, false, cond, ltb, List, [], ◌∷◌, ◌++◌, length, replicate, sym, refl, ap, ◌∙◌, ap₂, arith, le-ltb, lt-ltb}
+use Rattle.std.proofs.Common.{◌≡◌, ℕ, ◌+◌, ◌-◌, ◌*◌, ◌<◌, ◌≤◌, Bool, true, false, cond, ltb, List, [], ◌++◌, length, replicate, sym, refl, ap, ◌∙◌, ap₂, arith, le-ltb}
+use Rattle.std.specs.Prelude.{Ok, Err, None}
+use Rattle.free_space.specs.Splices.{change}
 use Rattle.error.specs.declared.Refusal.TheVariants.{OverCapacity}
 use Rattle.error.specs.Outcome.{answer, refused}
 use Rattle.error.specs.Lent.{with, over}
 use Rattle.error.proofs.OverLaws.{over-nil, over-front}
 use Rattle.error.proofs.OutcomeLaws.{refuses, passes}
 use Rattle.free_regions.specs.declared.FreeRegion.{FreeRegion}
-use Rattle.free_regions.specs.Regions.{region, sum_of_lengths, piece, spliced}
+use Rattle.free_regions.specs.Regions.{region, sum_of_lengths, spliced}
 use Rattle.pairs.proofs.PairLaws.{length-decode, length-flat, flat-decode, length-spliced}
 use Rattle.pairs.specs.Pairs.{capacity}
-use Rattle.free_regions.proofs.CutSets.{piece-none, piece-some}
 use Rattle.free_regions.proofs.LengthLaws.{sum_parts, sum-spliced}
 use Rattle.free_space.specs.declared.list.FreeList.{FreeList}
 use Rattle.free_space.specs.declared.run.Patch.{Patch}
-use Rattle.free_space.specs.declared.decide.Decision.TheVariants.{Refused, Nothing, Change}
-use Rattle.free_space.specs.Runs.{record_of, decode, flat, regions, is_list, stored}
+use Rattle.free_space.specs.Runs.{record_of, region_at, decode, flat, regions, is_list, stored}
 use Rattle.free_space.specs.Calls.{leave, placed, giving, keeping}
 use Rattle.free_space.specs.Splices.{Goes, patch, Replaces}
 use Rattle.free_space.specs.Decisions.{fitted, given_by, kept_by}
 use Rattle.free_space.proofs.ListLaws.{listed}
 use Rattle.free_space.proofs.DecodeLaws.{region_form}
-
--- ---- what is left of a region on either side of a range
-
--- f and b are the lengths x and y of the pieces, as the code has them
-module _ (a x e y f b : ℕ) (p : f ≡ x) (q : b ≡ y) where
-  both : {m n : List FreeRegion} → piece a f ≡ m → piece e b ≡ n → m ++ n ≡ piece a x ++ piece e y
-  both g h = sym (ap₂ (λ (u v : List FreeRegion). u ++ v) (ap (piece a) (sym p) ∙ g) (ap (piece e) (sym q) ∙ h))
-
-  pub edges_none : f ≡ 0 → b ≡ 0 → [] ≡ piece a x ++ piece e y
-  edges_none z w = both (piece-none a f z) (piece-none e b w)
-
-  pub edges_back : f ≡ 0 → (b ≡ 0 → ⊥) → region e b ∷ [] ≡ piece a x ++ piece e y
-  edges_back z w = both (piece-none a f z) (piece-some e b w)
-
-  pub edges_front : (f ≡ 0 → ⊥) → b ≡ 0 → region a f ∷ [] ≡ piece a x ++ piece e y
-  edges_front z w = both (piece-some a f z) (piece-none e b w)
-
-  pub edges_both : (f ≡ 0 → ⊥) → (b ≡ 0 → ⊥) → region a f ∷ region e b ∷ [] ≡ piece a x ++ piece e y
-  edges_both z w = both (piece-some a f z) (piece-some e b w)
+use Rattle.free_space.proofs.PlaceLaws.{goes_one}
 
 -- ---- the test for room
 
 module _ (given n a lo hi total : ℕ) (p : Patch) where
-  pub fitted-full : given < lo + length (patch p) + (n - hi) → Refused (OverCapacity (lo + length (patch p) + (n - hi)) given) ≡ fitted given n a lo hi total p
-  fitted-full h = rw (lt-ltb given (lo + length (patch p) + (n - hi)) h)
-
-  pub fitted-is : lo + length (patch p) + (n - hi) ≤ given → Change a lo hi total p ≡ fitted given n a lo hi total p
+  pub fitted-is : lo + length (patch p) + (n - hi) ≤ given → change a lo hi total p ≡ fitted given n a lo hi total p
   fitted-is h = rw (le-ltb given (lo + length (patch p) + (n - hi)) h)
 
 -- a change that is fitted to the run leaves the regions, or is refused, as the definitions of the calls say
@@ -74,7 +53,7 @@ module _ (xs : List ℕ) (l : FreeList) (a lo hi total : ℕ) (p : Patch) (t : R
   given-fitted = go (ltb (capacity xs) needed) refl
     where
       go : (t : Bool) → ltb (capacity xs) needed ≡ t
-          → given_by xs l (cond t (Refused (OverCapacity needed (capacity xs))) (Change a lo hi total p)) ≡ placed (giving a) xs l rs
+          → given_by xs l (cond t (Err (OverCapacity needed (capacity xs))) (change a lo hi total p)) ≡ placed (giving a) xs l rs
       go true e = refuse (giving a) e
       go false e = accept (giving a) e
 
@@ -83,7 +62,7 @@ module _ (xs : List ℕ) (l : FreeList) (a lo hi total : ℕ) (p : Patch) (t : R
   kept-fitted = go (ltb (capacity xs) needed) refl
     where
       go : (t : Bool) → ltb (capacity xs) needed ≡ t
-          → kept_by xs l (cond t (Refused (OverCapacity needed (capacity xs))) (Change a lo hi total p)) ≡ placed keeping xs l rs
+          → kept_by xs l (cond t (Err (OverCapacity needed (capacity xs))) (change a lo hi total p)) ≡ placed keeping xs l rs
       go true e = refuse keeping e
       go false e = accept keeping e
 
@@ -95,6 +74,22 @@ new_total xs l lo hi gone total p ok goes e = omega (arith, e, (listed xs l ok).
 -- no more bytes go than there are
 pub gone_less : (xs : List ℕ) (l : FreeList) (lo hi gone : ℕ) → is_list xs l ≡ true → Goes (regions xs l) lo hi gone → gone ≤ l.total
 gone_less xs l lo hi gone ok goes = omega (arith, (listed xs l ok).total, sum_parts lo (regions xs l), goes)
+
+-- one region of a list goes, and p comes, with as many bytes less
+module _ (xs : List ℕ) (l : FreeList) (ok : is_list xs l ≡ true) (i hi : ℕ) (r : FreeRegion) (h : i < l.count) (next : hi ≡ i + 1) (got : r ≡ region_at xs i) where
+  goes : Goes (regions xs l) i hi r.len
+  goes = rw next (goes_one xs l ok i r h got)
+
+  pub one_less : r.len ≤ l.total
+  one_less = gone_less xs l i hi r.len ok goes
+
+  pub replaces_one : (gone : ℕ) (p : List FreeRegion) → sum_of_lengths p + gone ≡ r.len → Replaces xs l i hi (l.total - gone) p
+  replaces_one gone p e = record {
+    list = ok;
+    order = omega arith;
+    within = omega arith;
+    sum = new_total xs l i hi r.len (l.total - gone) p ok goes (omega (arith, one_less));
+  }
 
 -- ---- a call that changes nothing
 
@@ -111,7 +106,7 @@ record_same xs l ok =
     let q = listed xs l ok in
     ap₂ (λ (n k : ℕ). record { count = n; total = k }) (length-decode region l.count xs q.room) (sym q.total)
 
-pub kept_same : (xs : List ℕ) (l : FreeList) (rs : List FreeRegion) → is_list xs l ≡ true → rs ≡ regions xs l → kept_by xs l Nothing ≡ placed keeping xs l rs
+pub kept_same : (xs : List ℕ) (l : FreeList) (rs : List FreeRegion) → is_list xs l ≡ true → rs ≡ regions xs l → kept_by xs l (Ok None) ≡ placed keeping xs l rs
 kept_same xs l rs ok e =
     let n = l.count in
     let room = (listed xs l ok).room in

@@ -1,8 +1,6 @@
 -- The five calls that change a list: what each answers, and the run that it leaves. A call is a decision on the regions, and then the
 -- run that holds the regions decided on. Assumes nothing.
 -- In quotes: document 01's words, from "The list", from the refusal of that number or from the heading named.
---   Gave          the address that a call gives out, and the record after it
---   kept_outcome, given_outcome   the outcome that an answer of the code stands for ("Language forms": "for every case of the enum")
 --   record_after  the record after an outcome: an answer's; a refusal or Nothing leaves the old one
 --   not_list      refusal 3, "Not a list": of the run and the record
 --   overflows     refusal 4: "address plus length"
@@ -24,8 +22,9 @@
 --   trailing_taken   `take_trailing`: "drops the last region if it ends exactly at the given end of file, and gives its address; else Nothing";
 --                 refusal 3
 use Rattle.std.specs.Prelude.{ℕ, suc, ◌+◌, ◌-◌, ◌%◌, Bool, cond, not, ◌&&◌, List, [], ◌∷◌, length, ◌==◌, nat_lt, slice_index_or}
+use Rattle.free_space.specs.declared.list.Given.{Given}
 use Rattle.error.specs.declared.Refusal.TheVariants.{NotAList, Overflow, SharedAddress, PartUnit, OverCapacity}
-use Rattle.error.specs.Outcome.{Outcome, answer, nothing, refuse, refused, Condition, when, first_of}
+use Rattle.error.specs.Outcome.{Outcome, answer, nothing, refuse, Condition, when, first_of}
 use Rattle.error.specs.Lent.{With, with}
 use Rattle.fields.specs.Ranges.{top}
 use Rattle.free_regions.specs.declared.FreeRegion.{FreeRegion}
@@ -33,24 +32,7 @@ use Rattle.free_regions.specs.Regions.{region, end, shares, insert, cut_all, aro
 use Rattle.free_regions.specs.Units.{interior_start, interior_span}
 use Rattle.pairs.specs.Pairs.{capacity}
 use Rattle.free_space.specs.declared.list.FreeList.{FreeList}
-use Rattle.free_space.specs.declared.list.Kept.{Kept}
-use Rattle.free_space.specs.declared.list.Kept.TheVariants as kept
-use Rattle.free_space.specs.declared.list.Given.{Given}
-use Rattle.free_space.specs.declared.list.Given.TheVariants as given
 use Rattle.free_space.specs.Runs.{record_of, regions, is_list, stored}
-
-pub record Gave : Type 0 where
-  pub addr : ℕ
-  pub list : FreeList
-
-abbrev pub kept_outcome : Kept → Outcome FreeList
-kept_outcome (kept.Done l) = answer l
-kept_outcome (kept.Refused r) = refused r
-
-abbrev pub given_outcome : Given → Outcome Gave
-given_outcome (given.At a l) = answer (record { addr = a; list = l })
-given_outcome given.Nothing = nothing
-given_outcome (given.Refused r) = refused r
 
 -- the record of an answer; a refusal or Nothing leaves the old one
 abbrev pub record_after : {A : Type 0} → (A → FreeList) → FreeList → Outcome A → FreeList
@@ -81,7 +63,7 @@ placed give xs l rs = first_of (no_room xs rs ∷ []) (leave give xs l rs)
 abbrev pub keeping : FreeList → FreeList
 keeping l = l
 
-abbrev pub giving : ℕ → FreeList → Gave
+abbrev pub giving : ℕ → FreeList → Given
 giving a l = record { addr = a; list = l }
 
 -- ---- `free` and `take_range`: length 0 changes nothing
@@ -109,20 +91,20 @@ abbrev pub without : List FreeRegion → ℕ → ℕ → ℕ → List FreeRegion
 without rs i start len = spliced rs i (suc i) (around (slice_index_or rs i (region 0 0)) start len)
 
 -- the region that was found serves from the place that start gives
-abbrev pub serve : (FreeRegion → ℕ) → List ℕ → FreeList → ℕ → Found → Outcome (With Gave (List ℕ))
+abbrev pub serve : (FreeRegion → ℕ) → List ℕ → FreeList → ℕ → Found → Outcome (With Given (List ℕ))
 serve start xs l len none = nothing
 serve start xs l len (at i span) =
     let from = start (slice_index_or (regions xs l) i (region 0 0)) in
     placed (giving from) xs l (without (regions xs l) i from len)
 
 -- from its front
-unfoldable pub allocated : List ℕ → FreeList → ℕ → Outcome (With Gave (List ℕ))
+unfoldable pub allocated : List ℕ → FreeList → ℕ → Outcome (With Given (List ℕ))
 allocated xs l len =
     first_of (not_list xs l ∷ [])
     (cond (len == 0) nothing (serve (λ r. r.addr) xs l len (best (λ r. r.len) len 0 (regions xs l))))
 
 -- from the front of its interior
-unfoldable pub allocated_units : List ℕ → FreeList → ℕ → ℕ → Outcome (With Gave (List ℕ))
+unfoldable pub allocated_units : List ℕ → FreeList → ℕ → ℕ → Outcome (With Given (List ℕ))
 allocated_units xs l len unit =
     first_of (not_list xs l ∷ when (part_unit len unit) PartUnit ∷ [])
     (cond (len == 0) nothing (serve (interior_start unit) xs l len (best (interior_span unit) len 0 (regions xs l))))
@@ -133,7 +115,7 @@ allocated_units xs l len unit =
 abbrev pub last_ends_at : List FreeRegion → ℕ → Bool
 last_ends_at rs eof = not (length rs == 0) && end (slice_index_or rs (length rs - 1) (region 0 0)) == eof
 
-unfoldable pub trailing_taken : List ℕ → FreeList → ℕ → Outcome (With Gave (List ℕ))
+unfoldable pub trailing_taken : List ℕ → FreeList → ℕ → Outcome (With Given (List ℕ))
 trailing_taken xs l eof =
     let rs = regions xs l in
     let last = length rs - 1 in

@@ -4,20 +4,20 @@
 --   answered   the answer from what is kept at the end
 --   Serves     a place of a list at which the best fit lies
 --   Finds      what an answer says
-use Rattle.std.specs.Prelude.{◌≡◌, ℕ, ◌+◌, ◌-◌, ◌*◌, ◌^◌, ◌<◌, ◌≤◌, true, false, cond, List, length, nat_lt}
+use Rattle.std.specs.Prelude.{◌≡◌, ℕ, ◌+◌, ◌-◌, ◌*◌, ◌^◌, ◌<◌, ◌≤◌, true, false, cond, List, length, nat_lt, Result, Option, Ok, Err, Some, None}
+use Rattle.error.specs.declared.Refusal.{Refusal}
+use Rattle.error.specs.declared.Refusal.TheVariants.{NotAList}
 use Rattle.free_regions.specs.declared.FreeRegion.{FreeRegion}
 use Rattle.free_regions.specs.Regions.{Found, none, at, best}
 use Rattle.free_space.specs.declared.list.FreeList.{FreeList}
-use Rattle.free_space.specs.declared.fit.Search.{Search}
-use Rattle.free_space.specs.declared.fit.Search.TheVariants.{Bad, Nothing, At}
 use Rattle.free_space.specs.declared.fit.Best.{Best}
 use Rattle.free_space.specs.Runs.{region_at, regions, is_list}
 
 abbrev pub so_far : ℕ → Best → Found
 so_far len b = cond (nat_lt b.slack (2 ^ 64 - len)) (at b.index (b.slack + len)) none
 
-abbrev pub answered : ℕ → Best → Search
-answered len b = cond (nat_lt b.slack (2 ^ 64 - len)) (At b.index) Nothing
+abbrev pub answered : ℕ → Best → (Result (Option ℕ) Refusal)
+answered len b = cond (nat_lt b.slack (2 ^ 64 - len)) (Ok (Some b.index)) (Ok None)
 
 pub record Serves (measure : FreeRegion → ℕ) (xs : List ℕ) (l : FreeList) (len i : ℕ) : Type 0 where
   pub list : is_list xs l ≡ true
@@ -27,7 +27,7 @@ pub record Serves (measure : FreeRegion → ℕ) (xs : List ℕ) (l : FreeList) 
   pub span : ℕ
   pub is : best measure len 0 (regions xs l) ≡ at i span
 
-abbrev pub Finds : (FreeRegion → ℕ) → List ℕ → FreeList → ℕ → Search → Type 0
-Finds measure xs l len Bad = is_list xs l ≡ false
-Finds measure xs l len Nothing = (is_list xs l ≡ true) × (best measure len 0 (regions xs l) ≡ none)
-Finds measure xs l len (At i) = Serves measure xs l len i
+abbrev pub Finds : (FreeRegion → ℕ) → List ℕ → FreeList → ℕ → Result (Option ℕ) Refusal → Type 0
+Finds measure xs l len (Err r) = (is_list xs l ≡ false) × (r ≡ NotAList)
+Finds measure xs l len (Ok None) = (is_list xs l ≡ true) × (best measure len 0 (regions xs l) ≡ none)
+Finds measure xs l len (Ok (Some i)) = Serves measure xs l len i

@@ -1,4 +1,4 @@
--- What the inner functions of the calls know of a run, and what a patch holds. But for `patch`, no public contract cites this file; it serves
+-- What the inner functions of the calls know of a run, and what a patch holds. But for `Decision`, `change` and `patch`, no public contract cites this file; it serves
 -- the contracts of private functions. Assumes nothing.
 --   goes_on    the regions that are left follow one that ends at a place, and their lengths are what a sum lacks of the total
 --   Tested     where a pass stands: the regions before a place are tested
@@ -9,17 +9,18 @@
 --   Apart      the regions between two places share a byte with a range, and no others
 --   Goes       so many bytes go with the regions from a place up to another
 --   Meets      the answer of the search for the first region that can share a byte with a range of so many bytes
+--   Decision   what a call decides: a refusal, Nothing, or a change
+--   change     the decision that is a change
 --   patch      the regions that take the place of others
 --   Replaces   regions of a list can be replaced by a patch, and what is left then has a total
-use Rattle.std.specs.Prelude.{◌≡◌, ℕ, suc, ◌+◌, ◌-◌, ◌*◌, ◌<◌, ◌≤◌, Bool, true, false, ◌&&◌, List, [], ◌∷◌, length, drop, ◌==◌}
+use Rattle.std.specs.Prelude.{◌≡◌, ℕ, suc, ◌+◌, ◌-◌, ◌*◌, ◌<◌, ◌≤◌, Bool, true, false, ◌&&◌, List, [], ◌∷◌, length, drop, ◌==◌, Result, Option, Ok, Err, Some, None}
+use Rattle.error.specs.declared.Refusal.{Refusal}
+use Rattle.error.specs.declared.Refusal.TheVariants.{NotAList, Overflow}
 use Rattle.fields.specs.Ranges.{top}
 use Rattle.free_regions.specs.declared.FreeRegion.{FreeRegion}
 use Rattle.free_regions.specs.Regions.{end, sum_of_lengths, ok_from, spliced}
 use Rattle.free_space.specs.declared.list.FreeList.{FreeList}
-use Rattle.free_space.specs.declared.check.Head.{Head}
-use Rattle.free_space.specs.declared.check.Head.TheVariants as head
-use Rattle.free_space.specs.declared.meet.Meet.{Meet}
-use Rattle.free_space.specs.declared.meet.Meet.TheVariants as meet
+use Rattle.free_space.specs.declared.decide.Replacement.{Replacement}
 use Rattle.free_space.specs.declared.run.Patch.{Patch}
 use Rattle.free_space.specs.declared.run.Patch.TheVariants.{Empty, One, Two}
 use Rattle.free_space.specs.Runs.{region_at, regions, is_list}
@@ -39,10 +40,10 @@ pub record First (xs : List ℕ) (l : FreeList) (r : FreeRegion) : Type 0 where
   pub some : 0 < l.count
   pub tested : Tested xs l 1 (end r) r.len
 
-abbrev pub Begins : List ℕ → FreeList → Head → Type 0
-Begins xs l head.Bad = is_list xs l ≡ false
-Begins xs l head.Empty = (is_list xs l ≡ true) × (l.count ≡ 0)
-Begins xs l (head.First r) = First xs l r
+abbrev pub Begins : List ℕ → FreeList → Result (Option FreeRegion) Refusal → Type 0
+Begins xs l (Err r) = (is_list xs l ≡ false) × (r ≡ NotAList)
+Begins xs l (Ok None) = (is_list xs l ≡ true) × (l.count ≡ 0)
+Begins xs l (Ok (Some r)) = First xs l r
 
 -- i is the place of the first region that ends past a
 pub record Past (xs : List ℕ) (l : FreeList) (a i : ℕ) : Type 0 where
@@ -65,10 +66,16 @@ pub record Apart (xs : List ℕ) (l : FreeList) (a e lo hi : ℕ) : Type 0 where
 abbrev pub Goes : List FreeRegion → ℕ → ℕ → ℕ → Type 0
 Goes rs lo hi gone = gone + sum_of_lengths (drop hi rs) ≡ sum_of_lengths (drop lo rs)
 
-abbrev pub Meets : List ℕ → FreeList → ℕ → ℕ → Meet → Type 0
-Meets xs l a len meet.Over = top < a + len
-Meets xs l a len meet.Empty = (a + len ≤ top) × (len ≡ 0)
-Meets xs l a len (meet.Past i) = (a + len ≤ top) × (0 < len) × Past xs l a i
+abbrev pub Meets : List ℕ → FreeList → ℕ → ℕ → Result (Option ℕ) Refusal → Type 0
+Meets xs l a len (Err r) = (top < a + len) × (r ≡ Overflow)
+Meets xs l a len (Ok None) = (a + len ≤ top) × (len ≡ 0)
+Meets xs l a len (Ok (Some i)) = (a + len ≤ top) × (0 < len) × Past xs l a i
+
+abbrev pub Decision : Type 0
+Decision = Result (Option Replacement) Refusal
+
+abbrev pub change : ℕ → ℕ → ℕ → ℕ → Patch → Decision
+change a lo hi total p = Ok (Some (record { addr = a; lo = lo; hi = hi; total = total; patch = p }))
 
 abbrev pub patch : Patch → List FreeRegion
 patch Empty = []

@@ -6,6 +6,7 @@ ghost use Rattle.free_space.specs.Splices.{First, Begins};
 
 use crate::list::FreeList;
 use crate::run::region_at;
+use error::Refusal;
 use free_regions::FreeRegion;
 use pairs::is_run;
 
@@ -13,50 +14,39 @@ use pairs::is_run;
 pub(crate) fn stands(r: FreeRegion) -> bool
     ensures { result ≡ fits_from 0 r }
 {
-    r.addr < std::num::wrapping_add_u64(r.addr, r.len)
+    r.addr < r.addr.wrapping_add(r.len)
 }
 
 // Whether a region can follow one that ends at `prev`.
 pub(crate) fn follows(prev: u64, r: FreeRegion) -> bool
     ensures { result ≡ fits_from (suc prev) r }
 {
-    if r.addr <= prev {
-        return false;
-    }
-    stands(r)
-}
-
-// How a list begins.
-#[derive(Clone, Copy)]
-pub(crate) enum Head {
-    Bad,
-    Empty,
-    First(FreeRegion),
+    prev < r.addr && stands(r)
 }
 
 // The first region, if there is room for the count and the region stands. It follows none, so a pass begins after it.
-pub(crate) fn first_region(run: &[u64], list: FreeList) -> Head
+pub(crate) fn first_region(run: &[u64], list: FreeList) -> Result<Option<FreeRegion>, Refusal>
     ensures { Begins run.now list result }
 {
-    let count = list.count;
-    if !is_run(run, count) {
-        return Head::Bad;
+    if !is_run(run, list.count) {
+        return Err(Refusal::NotAList);
     }
-    if count == 0 {
+    if list.count == 0 {
         if list.total == 0 {
-            return Head::Empty;
+            return Ok(None);
         }
-        return Head::Bad;
+        return Err(Refusal::NotAList);
     }
     let r = region_at(run, 0);
     if !stands(r) {
-        return Head::Bad;
+        return Err(Refusal::NotAList);
     }
-    Head::First(r)
+    Ok(Some(r))
 }
 
 // Whether the regions after the first follow, and all lengths add up to the total. The sum of the first lengths is at most
 // the end of the last of them, so that it does not overflow. Two regions in an iteration: with one, the sum takes a third more time.
+// A `while`: a `for` with `step_by` would be left in two ways, and is no plainer.
 fn rest_is_list(run: &[u64], list: FreeList, first: FreeRegion) -> bool
     requires { First run.now list first }
     ensures { result ≡ is_list run.now list }
@@ -96,10 +86,9 @@ fn rest_is_list(run: &[u64], list: FreeList, first: FreeRegion) -> bool
 pub fn is_list(run: &[u64], list: FreeList) -> bool
     ensures { result ≡ is_list run.now list }
 {
-    let h = first_region(run, list);
-    match h {
-        Head::Bad => false,
-        Head::Empty => true,
-        Head::First(r) => rest_is_list(run, list, r),
+    match first_region(run, list) {
+        Err(_) => false,
+        Ok(None) => true,
+        Ok(Some(r)) => rest_is_list(run, list, r),
     }
 }

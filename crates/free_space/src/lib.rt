@@ -10,3 +10,4 @@ mod meet;
 pub mod questions;
 pub mod run;
 mod units;
+mod valid;

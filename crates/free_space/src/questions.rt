@@ -1,55 +1,61 @@
 // What is asked of a list without changing it.
-ghost use Rattle.std.specs.Prelude.{◌≡◌};
-ghost use Rattle.error.specs.Answers.{number_outcome};
+ghost use Rattle.std.specs.Prelude.{◌≡◌, ℕ};
+ghost use Rattle.error.specs.Answers.{as_outcome};
 ghost use Rattle.free_space.specs.Questions.{free_bytes, largest_of, largest_units_of};
-ghost use Rattle.free_space.specs.Passes.{greatest_of};
+ghost use Rattle.free_space.specs.Passes.{Measures, greatest_of};
+ghost use Rattle.free_regions.specs.declared.FreeRegion.{FreeRegion};
 ghost use Rattle.free_space.specs.Splices.{First};
 
-use crate::check::{Head, first_region, follows};
+use crate::check::{first_region, follows};
 use crate::list::FreeList;
 use crate::run::region_at;
-use crate::units::{Measure, measured};
-use error::{Number, Refusal};
+use crate::units::whole_units;
+use error::Refusal;
 use free_regions::FreeRegion;
 
 // The greatest measure of the regions of a list from its first on. The test for refusal 3 goes with it, so that each pair is read once.
-fn greatest_after(run: &[u64], list: FreeList, first: FreeRegion, what: Measure) -> Number
-    requires { First run.now list first }
-    ensures { number_outcome result ≡ greatest_of what run.now list }
+// By the place, as the list's definition and `region_at` have it.
+fn greatest_after<M: Fn(FreeRegion) -> u64>(
+    run: &[u64],
+    list: FreeList,
+    first: FreeRegion,
+    measure: M,
+) -> Result<u64, Refusal>
+    requires first { First run.now list first }
+    requires calls { M.IsAlwaysCallable measure }
+    ensures { (m : FreeRegion → ℕ) → Measures m (M.post measure) → as_outcome result ≡ greatest_of m run.now list }
 {
-    let count = list.count;
-    let mut most = measured(what, first);
+    let mut most = measure(first);
     let mut end = first.addr + first.len;
     let mut sum = first.len;
-    let mut i = 1;
-    while i < count {
+    for i in 1..list.count {
         let r = region_at(run, i);
         if !follows(end, r) {
-            return Number::Refused(Refusal::NotAList);
+            return Err(Refusal::NotAList);
         }
-        let m = measured(what, r);
+        most = most.max(measure(r));
         end = r.addr + r.len;
         sum += r.len;
-        i += 1;
-        if most < m {
-            most = m;
-        }
     }
     if list.total != sum {
-        return Number::Refused(Refusal::NotAList);
+        return Err(Refusal::NotAList);
     }
-    Number::Is(most)
+    Ok(most)
 }
 
-fn greatest_of(run: &[u64], list: FreeList, what: Measure) -> Number
-    ensures { number_outcome result ≡ greatest_of what run.now list }
+#[tactic(auto, unfolding(error::specs::Outcome::first_of))]
+fn greatest_of<M: Fn(FreeRegion) -> u64>(
+    run: &[u64],
+    list: FreeList,
+    measure: M,
+) -> Result<u64, Refusal>
+    requires { M.IsAlwaysCallable measure }
+    ensures { (m : FreeRegion → ℕ) → Measures m (M.post measure) → as_outcome result ≡ greatest_of m run.now list }
 {
-    let h = first_region(run, list);
-    match h {
-        Head::Bad => Number::Refused(Refusal::NotAList),
-        Head::Empty => Number::Is(0),
-        Head::First(r) => greatest_after(run, list, r, what),
-    }
+    let Some(first) = first_region(run, list)? else {
+        return Ok(0);
+    };
+    greatest_after(run, list, first, measure)
 }
 
 impl FreeList {
@@ -61,16 +67,18 @@ impl FreeList {
     }
 
     // The length of the longest region.
-    pub fn largest(self, run: &[u64]) -> Number
-        ensures { number_outcome result ≡ largest_of run.now self }
+    #[tactic(auto, unfolding(crate::specs::Questions::largest_of))]
+    pub fn largest(self, run: &[u64]) -> Result<u64, Refusal>
+        ensures { as_outcome result ≡ largest_of run.now self }
     {
-        greatest_of(run, self, Measure::Length)
+        greatest_of(run, self, |r| r.len)
     }
 
     // The length of the longest run of whole units inside a region.
-    pub fn largest_whole_units(self, run: &[u64], unit: u64) -> Number
-        ensures { number_outcome result ≡ largest_units_of run.now self unit }
+    #[tactic(auto, unfolding(crate::specs::Questions::largest_units_of))]
+    pub fn largest_whole_units(self, run: &[u64], unit: u64) -> Result<u64, Refusal>
+        ensures { as_outcome result ≡ largest_units_of run.now self unit }
     {
-        greatest_of(run, self, Measure::Units(unit))
+        greatest_of(run, self, |r| whole_units(r, unit).span)
     }
 }

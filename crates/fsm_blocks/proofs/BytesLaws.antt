@@ -1,10 +1,11 @@
 -- Laws of the numbers that bytes spell, at the widths that the parse has a function for, and of rows of fields. Assumes nothing.
-use mathlib.Core.Path.{◌≡◌, ap}
-use Prim.Native.Nat.{ℕ, suc, ◌+◌, ◌*◌, ◌≤◌, ◌<◌, min}
+use mathlib.Core.Path.{◌≡◌, ap, ◌∙◌}
+use Prim.Native.Nat.{ℕ, suc, ◌+◌, ◌*◌, ◌-◌, ◌≤◌, ◌<◌, min}
 use native.Mathlib.Omega.{arith}
 use mathlib.Core.List.{List, ◌++◌}
 use lib.ListN.{length, take, drop, get_or}
-use lib.Seq.{drop-drop, drop-cons}
+use lib.Seq.{drop-drop, drop-cons, take_all}
+use Rattle.std.specs.Array.{IsWholeChunk}
 use Rattle.fields.specs.Le.{le_value}
 use Rattle.fields.specs.Layout.{Field, field, layout, widths, span, FieldFits, le_at}
 use Rattle.fields.proofs.LayoutLaws.{le_at-one, field-read}
@@ -26,7 +27,7 @@ le_at-two p l h =
 
 pub le_at_eight : (p : ℕ) (l : List ℕ) → p + 8 ≤ length l
     → get_or l p 0 + get_or l (p + 1) 0 * 256 + get_or l (p + 2) 0 * 65536 + get_or l (p + 3) 0 * 16777216
-    + (get_or l (p + 4) 0 + get_or l (p + 5) 0 * 256 + get_or l (p + 6) 0 * 65536 + get_or l (p + 7) 0 * 16777216) * 4294967296
+    + get_or l (p + 4) 0 * 4294967296 + get_or l (p + 5) 0 * 1099511627776 + get_or l (p + 6) 0 * 281474976710656 + get_or l (p + 7) 0 * 72057594037927936
     ≡ le_at p 8 l
 unfolding le_value
 le_at_eight p l h =
@@ -39,6 +40,17 @@ le_at_eight p l h =
     let g = le_at-next (p + 6) (p + 7) 1 l (omega arith) (omega arith) in
     let z = le_at-one (p + 7) l in
     omega arith
+
+-- the bytes of a number, taken as an array
+module _ (p n : ℕ) (l xs : List ℕ) (c : IsWholeChunk (take (p + n - p) (drop p l)) xs n) where
+  pub chunk_length : length xs ≡ n
+  chunk_length = ap length c.same ∙ c.long
+
+  pub chunk_value : le_at 0 n xs ≡ le_at p n l
+  chunk_value =
+      let k : p + n - p ≡ n = omega arith in
+      let e : length xs ≡ n = chunk_length in
+      ap le_value (take_all n xs (omega arith) ∙ c.same ∙ ap (λ (m : ℕ). take m (drop p l)) k)
 
 pub le_at-drop : (k p w : ℕ) (l : List ℕ) → le_at p w (drop k l) ≡ le_at (k + p) w l
 le_at-drop k p w l = ap (λ (r : List ℕ). le_value (take w r)) (drop-drop p k l)

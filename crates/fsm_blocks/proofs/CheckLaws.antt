@@ -1,18 +1,17 @@
 -- Conditions that are tested as a `Checked` before what comes after them, and the ends of a block's checks. Assumes nothing.
 use mathlib.Core.Path.{◌≡◌, sym, ap, ◌∙◌}
-use mathlib.Core.Bool.{true, false, not}
+use mathlib.Core.Bool.{false, not}
 use mathlib.Core.List.{List, [], ◌∷◌, ◌++◌}
-use Prim.Native.Nat.{ℕ, ◌+◌, ◌≤◌, ◌<◌, min}
+use Prim.Native.Nat.{ℕ, ◌+◌, ◌≤◌, min}
 use native.Mathlib.Omega.{arith}
-use borrow.Author.Tests.{lt-ltb, le-ltb, ltb-false, eq-eqb, ne_eqb}
+use borrow.Author.Tests.{le-ltb, ltb-false, eq-eqb, ne_eqb}
 use lib.Dec.{eqb}
 use lib.ListN.{length, take, drop, get_or}
 use lib.Seq.{length-take-le}
-use Rattle.error.specs.declared.Checked.{Checked}
-use Rattle.error.specs.declared.Checked.TheVariants.{Passed, Refused}
+use Rattle.std.specs.Prelude.{Result, Ok, Err}
+use Rattle.error.specs.Answers.{as_outcome}
 use Rattle.error.specs.declared.Refusal.{Refusal}
-use Rattle.error.specs.declared.Refusal.TheVariants.{Short, InvalidManager, VersionOrClient, BackAddress}
-use Rattle.error.specs.Answers.{checked_outcome}
+use Rattle.error.specs.declared.Refusal.TheVariants.{VersionOrClient, BackAddress}
 use Rattle.error.specs.Outcome.{Outcome, answer, refused, Condition, when, first_of}
 use Rattle.error.proofs.OutcomeLaws.{NoneHolds, first_holds, first_passes, first_pass, first_shows, first-append, first_refuses}
 use Rattle.fields.specs.Le.{le_value}
@@ -30,22 +29,22 @@ ok = answer tt
 
 -- ---- conditions that were tested
 
-module _ (cs : List Condition) (c : Checked) (k : checked_outcome c ≡ first_of cs ok) where
-  pub checked_refused : {A : Type 0} (x : Outcome A) (r : Refusal) → c ≡ Refused r → refused r ≡ first_of cs x
-  checked_refused x r e = first_refuses cs tt r x (sym (ap checked_outcome e) ∙ k)
+module _ (cs : List Condition) (c : (Result (Unit {0}) Refusal)) (k : as_outcome c ≡ first_of cs ok) where
+  pub checked_refused : {A : Type 0} (x : Outcome A) (r : Refusal) → c ≡ Err r → refused r ≡ first_of cs x
+  checked_refused x r e = first_refuses cs tt r x (sym (ap as_outcome e) ∙ k)
 
-  pub none-holds : c ≡ Passed → NoneHolds cs
-  none-holds e = (first_shows cs ok tt (sym k ∙ ap checked_outcome e)).0
+  pub none-holds : c ≡ (Ok tt) → NoneHolds cs
+  none-holds e = (first_shows cs ok tt (sym k ∙ ap as_outcome e)).0
 
-  pub checked_passed : {A : Type 0} (x : Outcome A) → c ≡ Passed → x ≡ first_of cs x
+  pub checked_passed : {A : Type 0} (x : Outcome A) → c ≡ (Ok tt) → x ≡ first_of cs x
   checked_passed x e = sym (first_pass cs x (none-holds e))
 
   -- with more of them after these
   module _ (ds : List Condition) where
-    pub part_refused : (r : Refusal) → c ≡ Refused r → checked_outcome c ≡ first_of (cs ++ ds) ok
-    part_refused r e = ap checked_outcome e ∙ checked_refused (first_of ds ok) r e ∙ sym (first-append cs ds ok)
+    pub part_refused : (r : Refusal) → c ≡ Err r → refused r ≡ first_of (cs ++ ds) ok
+    part_refused r e = checked_refused (first_of ds ok) r e ∙ sym (first-append cs ds ok)
 
-    pub part_passed : c ≡ Passed → first_of ds ok ≡ first_of (cs ++ ds) ok
+    pub part_passed : c ≡ (Ok tt) → first_of ds ok ≡ first_of (cs ++ ds) ok
     part_passed e = checked_passed (first_of ds ok) e ∙ sym (first-append cs ds ok)
 
 -- ---- `verify_block`
@@ -54,15 +53,7 @@ module _ (size c d : ℕ) (bs : List ℕ) where
   abbrev block : Outcome (Unit {0})
   block = first_of (block_checks size c d bs) ok
 
-  pub block_short : length bs < size → refused (Short size (length bs)) ≡ block
-  unfolding first_of
-  block_short h = rw (lt-ltb (length bs) size h)
-
   module _ (long : size ≤ length bs) where
-    pub block_unsigned : not (signed 70 83 c d bs) ≡ true → refused InvalidManager ≡ block
-    unfolding first_of
-    block_unsigned h = rw (le-ltb (length bs) size long, h)
-
     module _ (sign : not (signed 70 83 c d bs) ≡ false) where
       pub block_version : (get_or bs 4 0 ≡ 0 → ⊥) → refused (VersionOrClient (get_or bs 4 0)) ≡ block
       unfolding first_of
@@ -72,7 +63,7 @@ module _ (size c d : ℕ) (bs : List ℕ) where
       unfolding first_of
       block_passed h = rw (le-ltb (length bs) size long, sign, le_at-one 4 bs, eq-eqb (get_or bs 4 0) 0 h)
 
-  pub block_long : (v : Checked) → checked_outcome v ≡ block → v ≡ Passed → size ≤ length bs
+  pub block_long : (v : (Result (Unit {0}) Refusal)) → as_outcome v ≡ block → v ≡ (Ok tt) → size ≤ length bs
   block_long v k e = ltb-false (length bs) size (none-holds (block_checks size c d bs) v k e).0
 
 -- behind a test of the length, a block's checksum is the only condition of `verify_trailing`
@@ -82,7 +73,7 @@ sum_alone bs long = first_passes _ _ _ _ (le-ltb (length bs) 4 long)
 
 -- ---- `verify_fshd`
 
-module _ (O : ℕ) (bs : List ℕ) (v : Checked) (k : checked_outcome v ≡ block (fshd_size O) 72 68 bs) (e : v ≡ Passed) where
+module _ (O : ℕ) (bs : List ℕ) (v : (Result (Unit {0}) Refusal)) (k : as_outcome v ≡ block (fshd_size O) 72 68 bs) (e : v ≡ (Ok tt)) where
   abbrev after-version : List Condition
   after-version = wrong_byte 1 (le_at 5 1 bs) ∷ wrong_sum (take (fshd_size O) bs) ∷ []
 
@@ -102,20 +93,20 @@ module _ (O : ℕ) (bs : List ℕ) (v : Checked) (k : checked_outcome v ≡ bloc
 
 -- ---- `verify_fsse`
 
-module _ (O slot : ℕ) (bs : List ℕ) (v s : Checked) (k : checked_outcome v ≡ block (9 + O) 83 69 bs) (e : v ≡ Passed) (t : checked_outcome s ≡ trailing bs) where
+module _ (O slot : ℕ) (bs : List ℕ) (v s : (Result (Unit {0}) Refusal)) (k : as_outcome v ≡ block (9 + O) 83 69 bs) (e : v ≡ (Ok tt)) (t : as_outcome s ≡ trailing bs) where
   abbrev back : List Condition
   back = when (not (eqb (le_at 5 O bs) slot)) BackAddress ∷ []
 
   long : 9 + O ≤ length bs
   long = block_long (9 + O) 83 69 bs v k e
 
-  sum_is : checked_outcome s ≡ first_of (wrong_sum bs ∷ []) ok
+  sum_is : as_outcome s ≡ first_of (wrong_sum bs ∷ []) ok
   sum_is = t ∙ sum_alone bs (omega (arith, long))
 
-  pub fsse-sum : (r : Refusal) → s ≡ Refused r → checked_outcome s ≡ first_of (fsse_checks Strict O slot bs) ok
+  pub fsse-sum : (r : Refusal) → s ≡ Err r → refused r ≡ first_of (fsse_checks Strict O slot bs) ok
   fsse-sum r q = part_refused (wrong_sum bs ∷ []) s sum_is back r q ∙ part_passed (block_checks (9 + O) 83 69 bs) v k (wrong_sum bs ∷ back) e
 
-  module _ (q : s ≡ Passed) (few : O ≤ 8) {a : ℕ} (read : a ≡ le_value (take (min O 8) (drop 5 bs))) where
+  module _ (q : s ≡ (Ok tt)) (few : O ≤ 8) {a : ℕ} (read : a ≡ le_value (take (min O 8) (drop 5 bs))) where
     behind_sum : first_of back ok ≡ first_of (fsse_checks Strict O slot bs) ok
     behind_sum = part_passed (wrong_sum bs ∷ []) s sum_is back q ∙ part_passed (block_checks (9 + O) 83 69 bs) v k (wrong_sum bs ∷ back) e
 

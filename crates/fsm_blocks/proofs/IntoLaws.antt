@@ -1,10 +1,10 @@
 -- Sections that are read into a lent run, refusals first: the cases that `parse_fsse` and `read_persisted_sections` share. Assumes nothing.
 use mathlib.Core.Path.{◌≡◌, sym, ap, ◌∙◌}
-use mathlib.Core.Bool.{true, false, not}
+use mathlib.Core.Bool.{false, not}
 use mathlib.Core.List.{List, [], ◌∷◌}
 use Prim.Native.Nat.{ℕ, ◌-◌, ◌/◌, ◌%◌, ◌^◌, ◌≤◌, ◌<◌}
 use native.Mathlib.Omega.{arith}
-use borrow.Author.Tests.{lt-ltb, le-ltb, eq-eqb, ne_eqb}
+use borrow.Author.Tests.{lt-ltb, le-ltb, eq-eqb}
 use lib.Dec.{eqb}
 use lib.ListN.{length}
 use Rattle.error.specs.declared.Refusal.TheVariants.{Width, NotAList, OverCapacity}
@@ -22,15 +22,7 @@ module _ (O : ℕ) (out : List ℕ) (o : Outcome (List FreeSection)) where
   abbrev pub into : Outcome (With ℕ (List ℕ))
   into = first_of (when (not (valid_width O)) Width ∷ when (not (eqb (length out % 2) 0)) NotAList ∷ []) (and_then o (into_run out))
 
-  pub into-width : not (valid_width O) ≡ true → left (refused Width) out ≡ leaving out into
-  unfolding first_of
-  into-width h = rw h
-
   module _ (v : not (valid_width O) ≡ false) where
-    pub into_odd : (length out % 2 ≡ 0 → ⊥) → left (refused NotAList) out ≡ leaving out into
-    unfolding first_of
-    into_odd h = rw (v, ne_eqb (length out % 2) 0 h)
-
     module _ (even : length out % 2 ≡ 0) where
       into-run : into ≡ and_then o (into_run out)
       unfolding first_of

@@ -2,7 +2,7 @@
 use mathlib.Core.Path.{◌≡◌, refl, sym, ap, ◌∙◌}
 use mathlib.Core.Logic.{⊎_elim}
 use Prim.Native.Nat.{ℕ, zero, suc, ◌+◌, ◌-◌, ◌*◌, ◌/◌, ◌^◌, ◌≤◌, ◌<◌}
-use native.Mathlib.Nat.{mul-le-mul, mul-le-mul_right, div-mul-le_self, div-lt_iff_lt-mul}
+use native.Mathlib.Nat.{mul-le-mul}
 use native.Mathlib.Omega.{arith}
 use mathlib.Core.List.{List, [], ◌∷◌, ◌++◌, append-nil}
 use lib.ListN.{length, take, drop, length-drop, drop_of_length-le}
@@ -22,15 +22,6 @@ use Rattle.fsm_sections.proofs.StoredLaws.{too_great}
 use Rattle.fsm_blocks.specs.Fsse.{size_by}
 use Rattle.fsm_blocks.specs.Groups.{Widths}
 use Rattle.fsm_blocks.specs.Settings.{starting_set, widths_for, used_by, fsse_used, blocks_size}
-
--- ---- sums up to 2^64 - 1
-
-module _ (from n w : ℕ) (some : 0 < w) (low : from ≤ top) where
-  pub times-over : (18446744073709551615 - from) / w < n → refused Overflow ≡ storable (from + n * w)
-  times-over h = too_great (from + n * w) (omega (arith, (div-lt_iff_lt-mul some).0 h))
-
-  pub times-low : n ≤ (18446744073709551615 - from) / w → from + n * w ≤ top
-  times-low h = omega (arith, mul-le-mul_right w h, div-mul-le_self (18446744073709551615 - from) w)
 
 -- ---- the widths of the starting settings
 

@@ -8,13 +8,10 @@ use borrow.Author.Tests.{lt-ltb, le-ltb, eq-eqb, ne_eqb, ltb-true, ltb-false}
 use lib.Dec.{ltb}
 use lib.ListN.{length, drop, length-drop}
 use lib.Seq.{take_all}
+use Rattle.std.specs.Prelude.{Result, Ok, Err}
+use Rattle.error.specs.Answers.{as_outcome}
 use Rattle.error.specs.declared.Refusal.{Refusal}
 use Rattle.error.specs.declared.Refusal.TheVariants.{Overflow, InvalidManager}
-use Rattle.error.specs.declared.Checked.{Checked}
-use Rattle.error.specs.declared.Checked.TheVariants as checked
-use Rattle.error.specs.declared.Number.{Number}
-use Rattle.error.specs.declared.Number.TheVariants as number
-use Rattle.error.specs.Answers.{number_outcome, checked_outcome}
 use Rattle.error.specs.Outcome.{Outcome, answer, nothing, refuse, refused, Condition, when, first_of, and_then}
 use Rattle.error.proofs.OutcomeLaws.{first_pass, first_shows, then_first}
 use Rattle.fields.specs.Layout.{window}
@@ -22,33 +19,30 @@ use Rattle.fields.specs.Ranges.{top, sum, undefined_addr}
 use Rattle.fields.specs.Width.{valid_width}
 use Rattle.fsm_sections.specs.declared.FreeSection.{FreeSection}
 use Rattle.fsm_blocks.specs.declared.header.FsmHeader.{FsmHeader}
-use Rattle.fsm_blocks.specs.declared.header.HeaderAnswer.{HeaderAnswer}
-use Rattle.fsm_blocks.specs.declared.header.HeaderAnswer.TheVariants as header
-use Rattle.fsm_blocks.specs.Answers.{header_outcome}
 use Rattle.fsm_blocks.specs.Fshd.{Header, taken, kept, parse_fshd, parsed_fshd}
 use Rattle.fsm_blocks.specs.declared.checks.Reading.{Reading}
 use Rattle.fsm_blocks.specs.Checks.{fshd_checks, fsse_checks}
 use Rattle.fsm_blocks.specs.Reading.{read_named, read_manager}
 use Rattle.fsm_blocks.specs.Parts.{sections_by}
-use Rattle.fsm_blocks.specs.Named.{full, refusal_in}
+use Rattle.fsm_blocks.specs.Named.{full}
 use Rattle.fsm_blocks.proofs.FshdLaws.{parse_sized}
 use Rattle.fsm_blocks.proofs.ThenLaws.{then_refused}
 use Rattle.fsm_blocks.proofs.CheckLaws.{checked_refused, checked_passed}
 
 -- ---- an address and the base
 
-module _ (a b : ℕ) {r : Number} (s : number_outcome r ≡ sum a b) where
-  pub sum_over : (x : Refusal) → r ≡ number.Refused x → top < a + b
+module _ (a b : ℕ) {r : (Result ℕ Refusal)} (s : as_outcome r ≡ sum a b) where
+  pub sum_over : (x : Refusal) → r ≡ Err x → top < a + b
   unfolding sum first_of
-  sum_over x e = go (ltb top (a + b)) refl (sym (ap number_outcome e) ∙ s)
+  sum_over x e = go (ltb top (a + b)) refl (sym (ap as_outcome e) ∙ s)
     where
       go : (t : Bool) → ltb top (a + b) ≡ t → refused x ≡ first_of (when t Overflow ∷ []) (answer (a + b)) → top < a + b
       go true q p = ltb-true top (a + b) q
       go false q p = let z : ◌≡◌ {A = ℕ} 0 1 = cc in absurd (omega arith)
 
-  pub sum_is : (n : ℕ) → r ≡ number.Is n → (n ≡ a + b) × (a + b ≤ top)
+  pub sum_is : (n : ℕ) → r ≡ Ok n → (n ≡ a + b) × (a + b ≤ top)
   unfolding sum first_of
-  sum_is n e = go (ltb top (a + b)) refl (sym (ap number_outcome e) ∙ s)
+  sum_is n e = go (ltb top (a + b)) refl (sym (ap as_outcome e) ∙ s)
     where
       go : (t : Bool) → ltb top (a + b) ≡ t → answer n ≡ first_of (when t Overflow ∷ []) (answer (a + b)) → (n ≡ a + b) × (a + b ≤ top)
       go true q p = let z : ◌≡◌ {A = ℕ} 0 1 = cc in absurd (omega arith)
@@ -84,20 +78,14 @@ module _ (how : Reading) (O base slot : ℕ) (h : FsmHeader) (bytes : List ℕ) 
             let m : h.fsse_addr + base + h.fsse_used ≤ length bytes = omega arith in
             rw (at.0, ne_eqb h.fsse_addr (undefined_addr O) some, le-ltb top (h.fsse_addr + base) at.1, le-ltb (length bytes) (h.fsse_addr + base + h.fsse_used) m)
 
-        -- as the code takes them
         abbrev checks : Outcome (Unit {0})
-        checks = first_of (fsse_checks how O slot (window start (start + h.fsse_used - start) bytes)) (answer tt)
+        checks = first_of (fsse_checks how O slot list) (answer tt)
 
-        same : checks ≡ first_of (fsse_checks how O slot list) (answer tt)
-        same =
-            let n : start + h.fsse_used - start ≡ h.fsse_used = omega arith in
-            ap (λ (n : ℕ). first_of (fsse_checks how O slot (window start n bytes)) (answer tt)) n
+        pub named_refused : (c : (Result (Unit {0}) Refusal)) → as_outcome c ≡ checks → (r : Refusal) → c ≡ Err r → refused r ≡ read_named how O base slot (full h) bytes
+        named_refused c k r q = checked_refused (fsse_checks how O slot list) c k (sections_by h O list) r q ∙ sym by_list
 
-        pub named_refused : (c : Checked) → checked_outcome c ≡ checks → (r : Refusal) → c ≡ checked.Refused r → refused r ≡ read_named how O base slot (full h) bytes
-        named_refused c k r q = checked_refused (fsse_checks how O slot list) c (k ∙ same) (sections_by h O list) r q ∙ sym by_list
-
-        pub named_is : (c : Checked) → checked_outcome c ≡ checks → c ≡ checked.Passed → sections_by h O list ≡ read_named how O base slot (full h) bytes
-        named_is c k q = checked_passed (fsse_checks how O slot list) c (k ∙ same) (sections_by h O list) q ∙ sym by_list
+        pub named_is : (c : (Result (Unit {0}) Refusal)) → as_outcome c ≡ checks → c ≡ (Ok tt) → sections_by h O list ≡ read_named how O base slot (full h) bytes
+        named_is c k q = checked_passed (fsse_checks how O slot list) c k (sections_by h O list) q ∙ sym by_list
 
 -- ---- `locate`
 
@@ -150,22 +138,20 @@ module _ (how : Reading) (O base slot : ℕ) (bytes : List ℕ) where
           abbrev header_in : List ℕ → Outcome FsmHeader
           header_in l = first_of (fshd_checks how O l) (kept (parsed_fshd O l))
 
-          checked_header : (a : HeaderAnswer) → header_outcome a ≡ header_in (window start (length bytes - start) bytes) → header_outcome a ≡ first_of tests (kept (parse_fshd O header-bytes))
+          checked_header : (a : (Result FsmHeader Refusal)) → as_outcome a ≡ header_in (window start (length bytes - start) bytes) → as_outcome a ≡ first_of tests (kept (parse_fshd O header-bytes))
           checked_header a p = p ∙ ap header_in (from_place start bytes) ∙ ap (λ (o : Outcome Header). first_of tests (kept o)) (parse_sized O header-bytes v)
 
-          pub manager-refused : {a : HeaderAnswer} → header_outcome a ≡ header_in (window start (length bytes - start) bytes)
-              → (r x : Refusal) → a ≡ header.Refused r → x ≡ refusal_in a → refused x ≡ read_manager how O base slot bytes
-          manager-refused {a} p r x e q =
-              let k : x ≡ r = q ∙ ap refusal_in e in
-              ap refused k
-              ∙ sym
+          pub manager-refused : {a : (Result FsmHeader Refusal)} → as_outcome a ≡ header_in (window start (length bytes - start) bytes)
+              → (r : Refusal) → a ≡ Err r → refused r ≡ read_manager how O base slot bytes
+          manager-refused {a} p r e =
+              sym
               (by_header
               ∙ sym (then_first tests (parse_fshd O header-bytes) (λ h. read_named how O base slot h bytes))
               ∙ then_refused (first_of tests (parse_fshd O header-bytes)) taken (λ h. read_named how O base slot h bytes) _ _
-              (then_first tests (parse_fshd O header-bytes) (λ h. answer (taken h)) ∙ sym (checked_header a p) ∙ ap header_outcome e))
+              (then_first tests (parse_fshd O header-bytes) (λ h. answer (taken h)) ∙ sym (checked_header a p) ∙ ap as_outcome e))
 
-          pub manager-is : {a : HeaderAnswer} → header_outcome a ≡ header_in (window start (length bytes - start) bytes)
-              → (h : FsmHeader) → a ≡ header.Header h → read_named how O base slot (full h) bytes ≡ read_manager how O base slot bytes
+          pub manager-is : {a : (Result FsmHeader Refusal)} → as_outcome a ≡ header_in (window start (length bytes - start) bytes)
+              → (h : FsmHeader) → a ≡ Ok h → read_named how O base slot (full h) bytes ≡ read_manager how O base slot bytes
           manager-is {a} p h e =
-              let q = first_shows tests (kept (parse_fshd O header-bytes)) h (sym (checked_header a p) ∙ ap header_outcome e) in
+              let q = first_shows tests (kept (parse_fshd O header-bytes)) h (sym (checked_header a p) ∙ ap as_outcome e) in
               sym (by_header ∙ first_pass tests named q.0 ∙ then_kept how O base slot bytes (parse_fshd O header-bytes) h q.1)

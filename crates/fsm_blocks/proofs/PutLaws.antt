@@ -38,46 +38,45 @@ module _ (s : List ℕ) (width size : ℕ) where
       rw (e, drop-drop (suc width) p s, add-one width)
 
   -- at the head of the loop: what is left to put gives the run that is to be
-  pub record Filling (out₀ : List ℕ) (at count from : ℕ) (out : List ℕ) (left p k : ℕ) : Type 0 where
-    pub inside : p + left * (width + 1) ≤ length s
-    pub room : k + 2 * left ≤ length out
-    pub same_length : length out ≡ length out₀
-    pub same : over from (entries count at) out₀ ≡ over k (entries left p) out
-
   module _ (out₀ : List ℕ) (at count from : ℕ) where
-    pub fill_start : at + count * (width + 1) ≤ length s → from + 2 * count ≤ length out₀ → Filling out₀ at count from out₀ count at from
-    fill_start h r = record { inside = h; room = r; same_length = refl; same = refl }
+    abbrev pub entry : ℕ → ℕ
+    entry i = at + i * (width + 1)
 
-    module _ (out : List ℕ) (left p k : ℕ) (now : Filling out₀ at count from out left p k) where
-      pub fill_step : 0 < left → (v : ℕ) → v ≡ le_at p width s → (out' : List ℕ) → out' ≡ over k (v ∷ size ∷ []) out
-          → Filling out₀ at count from out' (left - 1) (p + (width + 1)) (k + 2)
+    -- at the head of the loop: what is left to put gives the run that is to be
+    pub record Filling (out : List ℕ) (i : ℕ) : Type 0 where
+      pub same_length : length out ≡ length out₀
+      pub same : over from (entries count at) out₀ ≡ over (from + 2 * i) (entries (count - i) (entry i)) out
+
+    pub fill_start : Filling out₀ 0
+    fill_start =
+        let k : from ≡ from + 2 * 0 = omega arith in
+        let n : count ≡ count - 0 = omega arith in
+        let p : at ≡ at + 0 * (width + 1) = omega arith in
+        record { same_length = refl; same = ap₂ (λ (j : ℕ) (l : List ℕ). over j l out₀) k (ap₂ entries n p) }
+
+    module _ (out : List ℕ) (i : ℕ) (now : Filling out i) where
+      pub fill_step : i < count → (v : ℕ) → v ≡ le_at (entry i) width s → (out' : List ℕ) → out' ≡ over (from + 2 * i) (v ∷ size ∷ []) out → Filling out' (i + 1)
       fill_step h v e out' o =
-          let n : left ≡ suc (left - 1) = omega arith in
-          let m : left * (width + 1) ≡ width + 1 + (left - 1) * (width + 1) = ap (λ (i : ℕ). i * (width + 1)) n ∙ omega arith in
-          let kept : length out' ≡ length out = ap length o ∙ length_over k (v ∷ size ∷ []) out in
+          let left : ℕ = count - (i + 1) in
+          let n : count - i ≡ suc left = omega arith in
+          let k : from + 2 * i + 2 ≡ from + 2 * (i + 1) = omega arith in
+          let p : entry i + (width + 1) ≡ entry (i + 1) = omega arith in
           record {
-            inside = omega (arith, now.inside);
-            room = omega (arith, now.room);
-            same_length = kept ∙ now.same_length;
+            same_length = ap length o ∙ length_over (from + 2 * i) (v ∷ size ∷ []) out ∙ now.same_length;
             same =
                 now.same
-                ∙ ap (λ (i : ℕ). over k (entries i p) out) n
-                ∙ ap (λ (l : List ℕ). over k l out) (entries_suc (left - 1) p ∙ ap (λ (i : ℕ). i ∷ size ∷ entries (left - 1) (p + (width + 1))) (sym e))
-                ∙ sym (over_right k (v ∷ size ∷ []) (entries (left - 1) (p + (width + 1))) out)
-                ∙ ap (λ (l : List ℕ). over (k + 2) (entries (left - 1) (p + (width + 1))) l) (sym o);
+                ∙ ap (λ (j : ℕ). over (from + 2 * i) (entries j (entry i)) out) n
+                ∙ ap (λ (l : List ℕ). over (from + 2 * i) l out) (entries_suc left (entry i) ∙ ap (λ (j : ℕ). j ∷ size ∷ entries left (entry i + (width + 1))) (sym e))
+                ∙ sym (over_right (from + 2 * i) (v ∷ size ∷ []) (entries left (entry i + (width + 1))) out)
+                ∙ ap₂ (λ (j : ℕ) (l : List ℕ). over j (entries left (entry i + (width + 1))) l) k (sym o)
+                ∙ ap (λ (q : ℕ). over (from + 2 * (i + 1)) (entries left q) out') p;
           }
 
-      pub entry_in : 0 < left → p + (width + 1) ≤ length s
-      entry_in h =
-          let n : left ≡ suc (left - 1) = omega arith in
-          let m : left * (width + 1) ≡ width + 1 + (left - 1) * (width + 1) = ap (λ (i : ℕ). i * (width + 1)) n ∙ omega arith in
-          omega (arith, now.inside)
-
-      pub fill_end : left ≤ 0 → out ≡ over from (entries count at) out₀
+      pub fill_end : count ≤ i → out ≡ over from (entries count at) out₀
       unfolding addresses with_size
       fill_end h =
-          let z : left ≡ 0 = omega arith in
-          sym (now.same ∙ ap (λ (i : ℕ). over k (entries i p) out) z ∙ over-nil k out)
+          let z : count - i ≡ 0 = omega arith in
+          sym (now.same ∙ ap (λ (j : ℕ). over (from + 2 * i) (entries j (entry i)) out) z ∙ over-nil (from + 2 * i) out)
 
 -- ---- `put_groups`
 

@@ -1,16 +1,15 @@
 -- The returns of `read_by`. Assumes nothing.
 use mathlib.Core.Path.{◌≡◌, sym, ap, ◌∙◌, subst}
-use mathlib.Core.Bool.{false, true, not}
+use mathlib.Core.Bool.{false, not}
 use mathlib.Core.List.{List, [], ◌∷◌}
 use Prim.Native.Nat.{ℕ, ◌-◌, ◌*◌, ◌/◌, ◌%◌, ◌^◌, ◌≤◌, ◌<◌}
 use native.Mathlib.Omega.{arith}
 use lib.Dec.{eqb}
 use lib.ListN.{length}
+use Rattle.std.specs.Prelude.{Result, Ok, Err}
+use Rattle.error.specs.Answers.{as_outcome}
 use Rattle.error.specs.declared.Refusal.{Refusal}
 use Rattle.error.specs.declared.Refusal.TheVariants.{Width, NotAList, OverCapacity}
-use Rattle.error.specs.declared.Number.{Number}
-use Rattle.error.specs.declared.Number.TheVariants as number
-use Rattle.error.specs.Answers.{number_outcome}
 use Rattle.error.proofs.OutcomeLaws.{then_then}
 use Rattle.error.specs.Outcome.{Outcome, answer, refused, when, first_of, and_then, sat}
 use Rattle.error.specs.Lent.{With, left, leaving, over}
@@ -24,7 +23,7 @@ use Rattle.fsm_blocks.specs.Parts.{got, Accepted}
 use Rattle.fsm_blocks.specs.Named.{slots_count}
 use Rattle.fsm_blocks.proofs.AlikeLaws.{accepted-alike}
 use Rattle.fsm_blocks.proofs.ThenLaws.{sized_is}
-use Rattle.fsm_blocks.proofs.IntoLaws.{into, into-width, into_odd, into-refused, into-over, into-is}
+use Rattle.fsm_blocks.proofs.IntoLaws.{into, into-refused, into-over, into-is}
 
 module _ (how : Reading) (slots : List ℕ) (base O : ℕ) (bytes out : List ℕ) where
   -- all slots' sections as one list
@@ -37,29 +36,21 @@ module _ (how : Reading) (slots : List ℕ) (base O : ℕ) (bytes out : List ℕ
       ap (λ (x : Outcome (With ℕ (List ℕ))). leaving out (first_of (when (not (valid_width O)) Width ∷ when (not (eqb (length out % 2) 0)) NotAList ∷ []) x))
       (then_then (read_slots how O base slots bytes) (λ ls. answer (joined ls)) (into_run out))
 
-  pub read-width : not (valid_width O) ≡ true → left (refused Width) out ≡ leaving out (persisted how slots base O bytes out)
-  read-width e = into-width O out whole e ∙ as_into
-
   module _ (v : not (valid_width O) ≡ false) where
-    pub read_odd : (length out % 2 ≡ 0 → ⊥) → left (refused NotAList) out ≡ leaving out (persisted how slots base O bytes out)
-    read_odd e = into_odd O out whole v e ∙ as_into
-
     whole-count : and_then whole (λ l. answer (sat (length l))) ≡ slots_count how O base slots bytes
     unfolding slots_count and_then whole
     whole-count = then_then (read_slots how O base slots bytes) (λ ls. answer (joined ls)) (λ l. answer (sat (length l)))
 
     module _ (even : length out % 2 ≡ 0) where
-      pub read-refused : {c : Number} (r : Refusal) → c ≡ number.Refused r → number_outcome c ≡ slots_count how O base slots bytes → (a : Outcome ℕ) → a ≡ number_outcome c
-          → left a out ≡ leaving out (persisted how slots base O bytes out)
-      read-refused r e k a q =
-          let s : a ≡ refused r = q ∙ ap number_outcome e in
-          ap (λ (x : Outcome ℕ). left x out) s
-          ∙ into-refused O out whole v even _ _ (whole-count ∙ sym k ∙ ap number_outcome e)
+      pub read-refused : {c : (Result ℕ Refusal)} (r : Refusal) → c ≡ Err r → as_outcome c ≡ slots_count how O base slots bytes
+          → left (refused r) out ≡ leaving out (persisted how slots base O bytes out)
+      read-refused r e k =
+          into-refused O out whole v even _ _ (whole-count ∙ sym k ∙ ap as_outcome e)
           ∙ as_into
 
-      module _ {c : Number} (n : ℕ) (is : c ≡ number.Is n) (k : number_outcome c ≡ slots_count how O base slots bytes) where
+      module _ {c : (Result ℕ Refusal)} (n : ℕ) (is : c ≡ Ok n) (k : as_outcome c ≡ slots_count how O base slots bytes) where
         count-is : slots_count how O base slots bytes ≡ answer n
-        count-is = sym k ∙ ap number_outcome is
+        count-is = sym k ∙ ap as_outcome is
 
         read_parts : Accepted (read_slots how O base slots bytes) × (sat (length (joined (got (read_slots how O base slots bytes)))) ≡ n)
         unfolding slots_count

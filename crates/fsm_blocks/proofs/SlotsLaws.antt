@@ -1,18 +1,17 @@
 -- The managers of all slots: the cases of `manager_count`, and the loops that count and put their sections. Assumes nothing.
 use mathlib.Core.Path.{◌≡◌, refl, sym, ap, ap₂, ◌∙◌, subst}
-use mathlib.Core.Bool.{true, false, not}
+use mathlib.Core.Bool.{false, not}
 use mathlib.Core.List.{List, [], ◌∷◌}
-use Prim.Native.Nat.{ℕ, ◌+◌, ◌*◌, ◌-◌, ◌^◌, ◌≤◌, ◌<◌}
+use Prim.Native.Nat.{ℕ, ◌+◌, ◌*◌, ◌^◌, ◌≤◌, ◌<◌}
 use native.Mathlib.Nat.{zero-add}
 use native.Mathlib.Numerals.{add-one}
 use native.Mathlib.Omega.{arith}
 use lib.ListN.{length, drop, get_or, length-append, drop_of_length-le}
 use lib.Seq.{drop-cons}
+use Rattle.std.specs.Prelude.{Result, Option, Ok, Err, None, Some}
+use Rattle.error.specs.Answers.{as_outcome}
+use Rattle.fsm_blocks.specs.declared.manager.SectionList.{SectionList}
 use Rattle.error.specs.declared.Refusal.{Refusal}
-use Rattle.error.specs.declared.Refusal.TheVariants.{Width}
-use Rattle.error.specs.declared.Number.{Number}
-use Rattle.error.specs.declared.Number.TheVariants as number
-use Rattle.error.specs.Answers.{number_outcome}
 use Rattle.error.specs.Outcome.{Outcome, answer, refused, first_of, and_then, sat}
 use Rattle.error.specs.Lent.{over}
 use Rattle.error.proofs.OverLaws.{length_over, over-nil}
@@ -23,8 +22,6 @@ use Rattle.pairs.proofs.PairLaws.{over-flat}
 use Rattle.fsm_sections.specs.declared.FreeSection.{FreeSection}
 use Rattle.fsm_sections.specs.Sections.{flat}
 use Rattle.fsm_blocks.specs.declared.header.FsmHeader.{FsmHeader}
-use Rattle.fsm_blocks.specs.declared.manager.Named.{Named}
-use Rattle.fsm_blocks.specs.declared.manager.Named.TheVariants.{Nowhere, At, Refused}
 use Rattle.fsm_blocks.specs.declared.checks.Reading.{Reading}
 use Rattle.fsm_blocks.specs.Reading.{read_manager, read_slots, joined}
 use Rattle.fsm_blocks.specs.Parts.{got, Accepted, counted, sections_by}
@@ -36,63 +33,57 @@ use Rattle.fsm_sections.proofs.SectionsLaws.{section_form}
 -- ---- one manager
 
 module _ (how : Reading) (O base slot : ℕ) (bytes : List ℕ) where
-  pub count-width : not (valid_width O) ≡ true → refused Width ≡ manager_count how O base slot bytes
-  unfolding manager_count first_of
-  count-width h = rw h
-
   module _ (v : not (valid_width O) ≡ false) where
     sized : manager_count how O base slot bytes ≡ counted (read_manager how O base slot bytes)
     unfolding manager_count first_of
     sized = rw v
 
-    module _ (found : Named) (l : named_outcome O bytes found ≡ read_manager how O base slot bytes) where
+    module _ (found : (Result (Option SectionList) Refusal)) (l : named_outcome O bytes found ≡ read_manager how O base slot bytes) where
       found-count : counted (named_outcome O bytes found) ≡ manager_count how O base slot bytes
       found-count = ap counted l ∙ sym sized
 
-      pub count_none : found ≡ Nowhere → answer 0 ≡ manager_count how O base slot bytes
+      pub count_none : found ≡ (Ok None) → answer 0 ≡ manager_count how O base slot bytes
       unfolding and_then
-      count_none e = sym (ap (λ (f : Named). counted (named_outcome O bytes f)) e) ∙ found-count
+      count_none e = sym (ap (λ (f : (Result (Option SectionList) Refusal)). counted (named_outcome O bytes f)) e) ∙ found-count
 
-      pub count-refused : (r : Refusal) → found ≡ Refused r → refused r ≡ manager_count how O base slot bytes
+      pub count-refused : (r : Refusal) → found ≡ Err r → refused r ≡ manager_count how O base slot bytes
       unfolding and_then
-      count-refused r e = sym (ap (λ (f : Named). counted (named_outcome O bytes f)) e) ∙ found-count
+      count-refused r e = sym (ap (λ (f : (Result (Option SectionList) Refusal)). counted (named_outcome O bytes f)) e) ∙ found-count
 
-      pub count_at : (start : ℕ) (h : FsmHeader) → found ≡ At start h → (x : Outcome ℕ)
-          → x ≡ counted (sections_by h O (window start (start + h.fsse_used - start) bytes)) → x ≡ manager_count how O base slot bytes
+      pub count_at : (start : ℕ) (h : FsmHeader) → found ≡ Ok (Some (record { start = start; header = h })) → (x : Outcome ℕ)
+          → x ≡ counted (sections_by h O (window start h.fsse_used bytes)) → x ≡ manager_count how O base slot bytes
       count_at start h e x q =
-          let n : start + h.fsse_used - start ≡ h.fsse_used = omega arith in
-          q ∙ ap (λ (k : ℕ). counted (sections_by h O (window start k bytes))) n ∙ sym (ap (λ (f : Named). counted (named_outcome O bytes f)) e) ∙ found-count
+          q ∙ sym (ap (λ (f : (Result (Option SectionList) Refusal)). counted (named_outcome O bytes f)) e) ∙ found-count
 
   -- ---- `put_manager`
 
-  module _ (found : Named) (l : named_outcome O bytes found ≡ read_manager how O base slot bytes) where
+  module _ (found : (Result (Option SectionList) Refusal)) (l : named_outcome O bytes found ≡ read_manager how O base slot bytes) where
     nothing_put : read_manager how O base slot bytes ≡ answer [] → (from : ℕ) (out : List ℕ)
         → (out ≡ over from (flat (got (read_manager how O base slot bytes))) out) × (from ≡ from + 2 * length (got (read_manager how O base slot bytes)))
     nothing_put e from out =
         let n : length (got (read_manager how O base slot bytes)) ≡ 0 = ap (λ (o : Outcome (List FreeSection)). length (got o)) e in
         (sym (ap (λ (o : Outcome (List FreeSection)). over from (flat (got o)) out) e ∙ over-nil from out), omega arith)
 
-    pub put-none : found ≡ Nowhere → (from : ℕ) (out : List ℕ)
+    pub put-none : found ≡ (Ok None) → (from : ℕ) (out : List ℕ)
         → (out ≡ over from (flat (got (read_manager how O base slot bytes))) out) × (from ≡ from + 2 * length (got (read_manager how O base slot bytes)))
     put-none e = nothing_put (sym l ∙ ap (named_outcome O bytes) e)
 
-    pub put_refused : (r : Refusal) → found ≡ Refused r → Accepted (read_manager how O base slot bytes) → (from : ℕ) (out : List ℕ)
+    pub put_refused : (r : Refusal) → found ≡ Err r → Accepted (read_manager how O base slot bytes) → (from : ℕ) (out : List ℕ)
         → (out ≡ over from (flat (got (read_manager how O base slot bytes))) out) × (from ≡ from + 2 * length (got (read_manager how O base slot bytes)))
     put_refused r e a from out = not-refused (read_manager how O base slot bytes) _ _ a (sym l ∙ ap (named_outcome O bytes) e)
 
-    module _ (start : ℕ) (h : FsmHeader) (e : found ≡ At start h) where
-      pub list-is : sections_by h O (window start (start + h.fsse_used - start) bytes) ≡ read_manager how O base slot bytes
+    module _ (start : ℕ) (h : FsmHeader) (e : found ≡ Ok (Some (record { start = start; header = h }))) where
+      pub list-is : sections_by h O (window start h.fsse_used bytes) ≡ read_manager how O base slot bytes
       list-is =
-          let n : start + h.fsse_used - start ≡ h.fsse_used = omega arith in
-          ap (λ (k : ℕ). sections_by h O (window start k bytes)) n ∙ sym (ap (named_outcome O bytes) e) ∙ l
+          sym (ap (named_outcome O bytes) e) ∙ l
 
       pub list-total : Accepted (read_manager how O base slot bytes) → length (got (read_manager how O base slot bytes)) ≡ h.total_sections
       list-total a =
           ap (λ (o : Outcome (List FreeSection)). length (got o)) (sym list-is)
-          ∙ read-total O _ _ _ (window start (start + h.fsse_used - start) bytes) (subst Accepted (sym list-is) a)
+          ∙ read-total O _ _ _ (window start h.fsse_used bytes) (subst Accepted (sym list-is) a)
 
 -- a list that was found lies within the bytes
-pub inside-at : (len : ℕ) (found : Named) (start : ℕ) (h : FsmHeader) → Inside len found → found ≡ At start h → start + h.fsse_used ≤ len
+pub inside-at : (len : ℕ) (found : (Result (Option SectionList) Refusal)) (start : ℕ) (h : FsmHeader) → Inside len found → found ≡ Ok (Some (record { start = start; header = h })) → start + h.fsse_used ≤ len
 inside-at len found start h i e = subst (Inside len) e i
 
 sat-few : (n : ℕ) → sat n < 2 ^ 64
@@ -150,17 +141,16 @@ module _ (how : Reading) (O base : ℕ) (bytes : List ℕ) where
         here = now.same ∙ ap (λ (s : List ℕ). after needed (read_slots how O base s bytes)) next ∙ ap (after needed) (slots-cons (get_or slots i 0) (drop (i + 1) slots))
 
         module _ (v : not (valid_width O) ≡ false) where
-          pub sum_refused : {c : Number} (r : Refusal) → c ≡ number.Refused r → number_outcome c ≡ manager_count how O base (get_or slots i 0) bytes → number_outcome c ≡ slots_count how O base slots bytes
+          pub sum_refused : {c : (Result ℕ Refusal)} (r : Refusal) → c ≡ Err r → as_outcome c ≡ manager_count how O base (get_or slots i 0) bytes → refused r ≡ slots_count how O base slots bytes
           unfolding and_then
           sum_refused r e q =
-              ap number_outcome e
-              ∙ sym (here ∙ ap (after needed) (then_refused (read_manager how O base (get_or slots i 0) bytes) length _ _ _ (sym (sized how O base (get_or slots i 0) bytes v) ∙ sym q ∙ ap number_outcome e)))
+              sym (here ∙ ap (after needed) (then_refused (read_manager how O base (get_or slots i 0) bytes) length _ _ _ (sym (sized how O base (get_or slots i 0) bytes v) ∙ sym q ∙ ap as_outcome e)))
 
-          pub sum_step : {c : Number} (n : ℕ) → c ≡ number.Is n → number_outcome c ≡ manager_count how O base (get_or slots i 0) bytes → (m : ℕ) → m ≡ sat (needed + n) → Summing slots m (i + 1)
+          pub sum_step : {c : (Result ℕ Refusal)} (n : ℕ) → c ≡ Ok n → as_outcome c ≡ manager_count how O base (get_or slots i 0) bytes → (m : ℕ) → m ≡ sat (needed + n) → Summing slots m (i + 1)
           unfolding and_then
           sum_step n e q m s =
               let o : Outcome (List FreeSection) = read_manager how O base (get_or slots i 0) bytes in
-              let k = sized_is o length n (sym (sized how O base (get_or slots i 0) bytes v) ∙ sym q ∙ ap number_outcome e) in
+              let k = sized_is o length n (sym (sized how O base (get_or slots i 0) bytes v) ∙ sym q ∙ ap as_outcome e) in
               record {
                 within = omega arith;
                 few = rw s (sat-few (needed + n));

@@ -7,7 +7,7 @@
 --   group_bytes   groups: count, size, entries ("A group is a count", "a size (8), then address (O) and class byte for each")
 --   entry_size, head_size   how many bytes an entry takes; a count with its size
 --   Entries       the addresses of some entries, how many sections are still to come, and the bytes left
---   after         an entry's address before those of the entries after it
+--   in_front      an entry's address before those of the entries after it
 --   read_entries  c entries where `left` sections are still to come: "A group head or entry that passes the payload, or an entry beyond the
 --                 total, is 10"
 --   read_more     the sections of a group before those read after it

@@ -4,6 +4,5 @@ pub mod Fsse
 pub mod Settings
 pub mod Checks
 pub mod Reading
-pub mod Answers
 pub mod Parts
 pub mod Named

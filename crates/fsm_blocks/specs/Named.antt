@@ -1,23 +1,19 @@
 -- Where a manager's section list stands, as the reader finds it. Assumes nothing.
--- In quotes: document 01's words, from "Blocks on file". The first four serve contracts of private functions.
+-- In quotes: document 01's words, from "Blocks on file". The first three serve contracts of private functions.
 --   full            a header of which only the six fields are known, the others 0
 --   named_outcome   the sections of a section list that was found
 --   Inside          the list that was found lies within the bytes
---   refusal_in      the refusal of a header's answer that is one
 --   manager_count   `manager_count`: refusal 1, then the manager's own; how many sections it has ("Each manager's answer is taken apart")
 --   slots_count     how many sections all slots have, at most 2^64 - 1 ("the needed count covering all managers")
-use Rattle.std.specs.Prelude.{ℕ, ◌+◌, ◌≤◌, not, List, [], ◌∷◌, length}
+use Rattle.std.specs.Prelude.{ℕ, ◌+◌, ◌≤◌, not, List, [], ◌∷◌, length, Result, Option, Ok, Err, Some, None}
+use Rattle.fsm_blocks.specs.declared.manager.SectionList.{SectionList}
 use Rattle.error.specs.declared.Refusal.{Refusal}
-use Rattle.error.specs.declared.Refusal.TheVariants.{Width, InvalidManager}
+use Rattle.error.specs.declared.Refusal.TheVariants.{Width}
 use Rattle.error.specs.Outcome.{Outcome, answer, refused, when, first_of, and_then, sat}
 use Rattle.fields.specs.Layout.{window}
 use Rattle.fields.specs.Width.{valid_width}
 use Rattle.fsm_sections.specs.declared.FreeSection.{FreeSection}
 use Rattle.fsm_blocks.specs.declared.header.FsmHeader.{FsmHeader}
-use Rattle.fsm_blocks.specs.declared.header.HeaderAnswer.{HeaderAnswer}
-use Rattle.fsm_blocks.specs.declared.header.HeaderAnswer.TheVariants as header
-use Rattle.fsm_blocks.specs.declared.manager.Named.{Named}
-use Rattle.fsm_blocks.specs.declared.manager.Named.TheVariants.{Nowhere, At, Refused}
 use Rattle.fsm_blocks.specs.declared.checks.Reading.{Reading}
 use Rattle.fsm_blocks.specs.Fshd.{Header}
 use Rattle.fsm_blocks.specs.Reading.{read_manager, read_slots, joined}
@@ -41,19 +37,15 @@ full h = record {
   allocated = 0;
 }
 
-abbrev pub named_outcome : ℕ → List ℕ → Named → Outcome (List FreeSection)
-named_outcome O bytes Nowhere = answer []
-named_outcome O bytes (At start h) = sections_by h O (window start h.fsse_used bytes)
-named_outcome O bytes (Refused r) = refused r
+abbrev pub named_outcome : ℕ → List ℕ → Result (Option SectionList) Refusal → Outcome (List FreeSection)
+named_outcome O bytes (Ok None) = answer []
+named_outcome O bytes (Ok (Some l)) = sections_by l.header O (window l.start l.header.fsse_used bytes)
+named_outcome O bytes (Err r) = refused r
 
-abbrev pub Inside : ℕ → Named → Type 0
-Inside len Nowhere = Unit {0}
-Inside len (At start h) = start + h.fsse_used ≤ len
-Inside len (Refused r) = Unit {0}
-
-abbrev pub refusal_in : HeaderAnswer → Refusal
-refusal_in (header.Header h) = InvalidManager
-refusal_in (header.Refused r) = r
+abbrev pub Inside : ℕ → Result (Option SectionList) Refusal → Type 0
+Inside len (Ok None) = Unit {0}
+Inside len (Ok (Some l)) = l.start + l.header.fsse_used ≤ len
+Inside len (Err r) = Unit {0}
 
 unfoldable pub manager_count : Reading → ℕ → ℕ → ℕ → List ℕ → Outcome ℕ
 manager_count how O base slot bytes = first_of (when (not (valid_width O)) Width ∷ []) (counted (read_manager how O base slot bytes))

@@ -1,44 +1,34 @@
 // The section list, FSSE.
-ghost use Rattle.std.specs.Prelude.{◌≡◌, false, not, ◌+◌, ◌*◌, ◌≤◌, length};
-ghost use Rattle.error.specs.Answers.{number_outcome};
+ghost use Rattle.std.specs.Prelude.{◌≡◌, ◌+◌, ◌*◌, ◌≤◌, length};
+ghost use Rattle.error.specs.Answers.{as_outcome};
 ghost use Rattle.error.specs.Lent.{left, leaving, over};
-ghost use Rattle.fields.specs.Width.{valid_width};
 ghost use Rattle.fsm_sections.specs.Sections.{flat};
-ghost use Rattle.fsm_blocks.specs.Answers.{sections_outcome};
 ghost use Rattle.fsm_blocks.specs.Reading.{parsed_fsse};
 ghost use Rattle.fsm_blocks.specs.Parts.{got, Accepted, counted, sections_by};
 
 use crate::groups::{groups_count, put_groups, widths_of};
 use crate::header::{FsmHeader, is_signed};
-use error::{Number, Refusal};
-use fields::width::is_width;
-
-// How many sections were read into the lent run.
-#[derive(Clone, Copy)]
-pub enum SectionsAnswer {
-    Read(u64),
-    Refused(Refusal),
-}
+use crate::size::OffsetSize;
+use error::Refusal;
 
 // How many sections a list holds.
-pub(crate) fn fsse_count(bytes: &[u8], header: FsmHeader, offset_size: u8) -> Number
-    requires { not (valid_width offset_size) ≡ false }
-    ensures { number_outcome result ≡ counted (sections_by header offset_size bytes.now) }
+pub(crate) fn fsse_count(bytes: &[u8], header: FsmHeader, size: OffsetSize) -> Result<u64, Refusal>
+    ensures { as_outcome result ≡ counted (sections_by header size.bytes bytes.now) }
 {
-    let o = offset_size as usize;
+    let o = size.bytes as usize;
     let len = bytes.len();
     if len < 9 + o {
-        return Number::Refused(Refusal::Short {
+        return Err(Refusal::Short {
             expected: (9 + o) as u64,
             available: len as u64,
         });
     }
-    if !is_signed(bytes, 83, 69) {
-        return Number::Refused(Refusal::InvalidManager);
+    if !is_signed(bytes, b'S', b'E') {
+        return Err(Refusal::InvalidManager);
     }
     let bits = header.addr_space_bits;
-    if (bits == 0) | (64 < bits) {
-        return Number::Refused(Refusal::InvalidManager);
+    if bits == 0 || 64 < bits {
+        return Err(Refusal::InvalidManager);
     }
     let start = 5 + o;
     let end = len - 4;
@@ -49,16 +39,15 @@ pub(crate) fn fsse_count(bytes: &[u8], header: FsmHeader, offset_size: u8) -> Nu
 pub(crate) fn put_fsse(
     bytes: &[u8],
     header: FsmHeader,
-    offset_size: u8,
+    size: OffsetSize,
     out: &mut [u64],
     from: usize,
 )
-    requires width { not (valid_width offset_size) ≡ false }
-    requires accepted { Accepted (sections_by header offset_size bytes.now) }
+    requires accepted { Accepted (sections_by header size.bytes bytes.now) }
     requires room { from + 2 * header.total_sections ≤ length out.old }
-    ensures { out.new ≡ over from (flat (got (sections_by header offset_size bytes.now))) out.old }
+    ensures { out.new ≡ over from (flat (got (sections_by header size.bytes bytes.now))) out.old }
 {
-    let start = 5 + offset_size as usize;
+    let start = 5 + size.bytes as usize;
     let end = bytes.len() - 4;
     put_groups(
         &bytes[start..end],
@@ -69,44 +58,30 @@ pub(crate) fn put_fsse(
     );
 }
 
-// A count as an answer of this module.
-pub(crate) fn answer_of(n: Number) -> SectionsAnswer
-    ensures { sections_outcome result ≡ number_outcome n }
-{
-    match n {
-        Number::Is(n) => SectionsAnswer::Read(n),
-        Number::Refused(r) => SectionsAnswer::Refused(r),
-    }
-}
-
 // Reads the sections of the list `bytes`, whose header is given, into the run `out`. Versions, back address, class bytes and
 // checksum are not tested, nor what follows the last section.
+#[tactic(auto, unfolding(crate::specs::Reading::parsed_fsse, error::specs::Outcome::first_of))]
 pub fn parse_fsse(
     bytes: &[u8],
     header: FsmHeader,
     offset_size: u8,
     out: &mut [u64],
-) -> SectionsAnswer
-    ensures { left (sections_outcome result) out.new
+) -> Result<u64, Refusal>
+    ensures { left (as_outcome result) out.new
         ≡ leaving out.old (parsed_fsse header offset_size bytes.now out.old) }
 {
-    if !is_width(offset_size) {
-        return SectionsAnswer::Refused(Refusal::Width);
-    }
+    let size = OffsetSize::new(offset_size)?;
     if out.len() % 2 != 0 {
-        return SectionsAnswer::Refused(Refusal::NotAList);
+        return Err(Refusal::NotAList);
     }
-    let sections = fsse_count(bytes, header, offset_size);
-    let Number::Is(n) = sections else {
-        return answer_of(sections);
-    };
+    let n = fsse_count(bytes, header, size)?;
     let capacity = (out.len() / 2) as u64;
     if capacity < n {
-        return SectionsAnswer::Refused(Refusal::OverCapacity {
+        return Err(Refusal::OverCapacity {
             needed: n,
             given: capacity,
         });
     }
-    put_fsse(bytes, header, offset_size, out, 0);
-    SectionsAnswer::Read(n)
+    put_fsse(bytes, header, size, out, 0);
+    Ok(n)
 }

@@ -1,6 +1,6 @@
 // The groups of a section list: for each size a count, the size, and the entries.
-ghost use Rattle.std.specs.Prelude.{◌≡◌, ◌+◌, ◌*◌, ◌≤◌, ◌<◌, min, ltb, length, take, drop};
-ghost use Rattle.error.specs.Answers.{number_outcome};
+ghost use Rattle.std.specs.Prelude.{◌≡◌, ◌+◌, ◌*◌, ◌≤◌, min, ltb, length, take, drop};
+ghost use Rattle.error.specs.Answers.{as_outcome};
 ghost use Rattle.error.specs.Lent.{over};
 ghost use Rattle.fields.specs.Le.{le_value};
 ghost use Rattle.fields.specs.Layout.{le_at};
@@ -9,47 +9,29 @@ ghost use Rattle.fsm_blocks.specs.Groups.{parse_groups};
 ghost use Rattle.fsm_blocks.specs.Parts.{got, Accepted, counted, addresses, widths_in, Narrow, WidthsOf};
 
 use crate::header::FsmHeader;
-use error::{Number, Refusal};
+use error::Refusal;
 use fields::bytes::read_uint_le;
 use fields::width::enc_size;
 use pairs::put_pair;
 
-fn wide(x: u8) -> u64
-    ensures { (result ≡ x) × (result < 256) }
-{
-    x as u64
-}
-
-// The number that eight bytes at `at` spell: as one sum, which takes one load.
+// The number that eight bytes at `at` spell: one load.
 fn eight_at(bytes: &[u8], at: usize) -> u64
     requires { at + 8 ≤ length bytes.now }
     ensures { result ≡ le_at at 8 bytes.now }
 {
-    let low = wide(bytes[at])
-        + wide(bytes[at + 1]) * 0x100
-        + wide(bytes[at + 2]) * 0x1_0000
-        + wide(bytes[at + 3]) * 0x100_0000;
-    let high = wide(bytes[at + 4])
-        + wide(bytes[at + 5]) * 0x100
-        + wide(bytes[at + 6]) * 0x1_0000
-        + wide(bytes[at + 7]) * 0x100_0000;
-    low + high * 0x1_0000_0000
+    let eight: [u8; 8] = bytes[at..at + 8].try_into().unwrap();
+    u64::from_le_bytes(eight)
 }
 
 // The number that `width` bytes at `at` spell, as `read_uint_le` has it: eight bytes in one load.
 pub fn number_at(bytes: &[u8], at: usize, width: usize) -> u64
     ensures { result ≡ le_value (take (min width 8) (drop at bytes.now)) }
 {
-    if width != 8 {
-        return read_uint_le(bytes, at, width);
+    if width == 8 && 8 <= bytes.len() && at <= bytes.len() - 8 {
+        eight_at(bytes, at)
+    } else {
+        read_uint_le(bytes, at, width)
     }
-    if bytes.len() < 8 {
-        return read_uint_le(bytes, at, width);
-    }
-    if bytes.len() - 8 < at {
-        return read_uint_le(bytes, at, width);
-    }
-    eight_at(bytes, at)
 }
 
 // The number that `width` bytes at `at` spell. Sizes and addresses mostly take eight bytes, and the counts of fewer than 65,536
@@ -58,16 +40,15 @@ fn field_at(bytes: &[u8], at: usize, width: usize) -> u64
     requires { (width ≤ 8) × (at + width ≤ length bytes.now) }
     ensures { result ≡ le_at at width bytes.now }
 {
-    if width == 8 {
-        return eight_at(bytes, at);
+    match width {
+        8 => eight_at(bytes, at),
+        1 => u64::from(bytes[at]),
+        2 => {
+            let two: [u8; 2] = bytes[at..at + 2].try_into().unwrap();
+            u64::from(u16::from_le_bytes(two))
+        }
+        _ => read_uint_le(bytes, at, width),
     }
-    if width == 1 {
-        return wide(bytes[at]);
-    }
-    if width == 2 {
-        return wide(bytes[at]) + wide(bytes[at + 1]) * 0x100;
-    }
-    read_uint_le(bytes, at, width)
 }
 
 // The bytes that a group's count, its size and an address take.
@@ -90,7 +71,8 @@ pub(crate) fn widths_of(header: FsmHeader) -> GroupWidths
     }
 }
 
-// Whether `count` entries take more than `room` bytes. Where the product may wrap, the quotient decides.
+// Whether `count` entries take more than `room` bytes. Where the product may wrap, the quotient decides; std's checked_mul divides at
+// each call, and this only there.
 fn passes(room: u64, count: u64, entry: u64) -> bool
     requires { (1 ≤ entry) × (entry ≤ 9) }
     ensures { result ≡ ltb room (count * entry) }
@@ -101,34 +83,35 @@ fn passes(room: u64, count: u64, entry: u64) -> bool
     room / entry < count
 }
 
-// How many sections groups hold: `total`, or a refusal. The entries are passed over.
-pub(crate) fn groups_count(groups: &[u8], w: GroupWidths, total: u64) -> Number
+// How many sections groups hold: `total`, or a refusal. The entries are passed over. A `while`, as each group says how far it reaches.
+pub(crate) fn groups_count(groups: &[u8], w: GroupWidths, total: u64) -> Result<u64, Refusal>
     requires { Narrow w }
-    ensures { number_outcome result ≡ counted (parse_groups (widths_in w) total groups.now) }
+    ensures { as_outcome result ≡ counted (parse_groups (widths_in w) total groups.now) }
 {
     let mut at = 0;
     let mut left = total;
     while 0 < left {
         let room = groups.len() - at;
         if room < w.counts + w.sizes {
-            return Number::Refused(Refusal::InvalidManager);
+            return Err(Refusal::InvalidManager);
         }
         let count = field_at(groups, at, w.counts);
         if left < count {
-            return Number::Refused(Refusal::InvalidManager);
+            return Err(Refusal::InvalidManager);
         }
         let rest = room - (w.counts + w.sizes);
         let entry = w.addresses + 1;
         if passes(rest as u64, count, entry as u64) {
-            return Number::Refused(Refusal::InvalidManager);
+            return Err(Refusal::InvalidManager);
         }
         at = at + (w.counts + w.sizes) + count as usize * entry;
-        left = left - count;
+        left -= count;
     }
-    Number::Is(total)
+    Ok(total)
 }
 
 // Puts `count` entries of one size into the run.
+// By the place: two runs with other steps.
 fn put_entries(
     groups: &[u8],
     at: usize,
@@ -141,19 +124,13 @@ fn put_entries(
     requires { (width ≤ 8) × (at + count * (width + 1) ≤ length groups.now) × (from + 2 * count ≤ length out.old) }
     ensures { out.new ≡ over from (flat (with_size size (addresses width count (drop at groups.now)))) out.old }
 {
-    let mut left = count;
-    let mut p = at;
-    let mut k = from;
-    while 0 < left {
-        let addr = field_at(groups, p, width);
-        put_pair(out, k, addr, size);
-        p += width + 1;
-        k += 2;
-        left -= 1;
+    for i in 0..count {
+        let addr = field_at(groups, at + i * (width + 1), width);
+        put_pair(out, from + 2 * i, addr, size);
     }
 }
 
-// Puts the sections of accepted groups into the run.
+// Puts the sections of accepted groups into the run. A `while`, as in `groups_count`.
 pub(crate) fn put_groups(groups: &[u8], w: GroupWidths, total: u64, out: &mut [u64], from: usize)
     requires widths { Narrow w }
     requires accepted { Accepted (parse_groups (widths_in w) total groups.now) }
@@ -170,7 +147,7 @@ pub(crate) fn put_groups(groups: &[u8], w: GroupWidths, total: u64, out: &mut [u
         let n = count as usize;
         put_entries(groups, first, w.addresses, n, size, out, k);
         at = first + n * (w.addresses + 1);
-        k = k + 2 * n;
-        left = left - count;
+        k += 2 * n;
+        left -= count;
     }
 }

@@ -8,3 +8,4 @@ pub mod header;
 pub mod length;
 pub mod manager;
 pub mod persisted;
+mod size;

@@ -1,53 +1,50 @@
 // One manager: where its section list stands, how many sections it has, and these put into a run.
-ghost use Rattle.std.specs.Prelude.{◌≡◌, false, not, ◌+◌, ◌*◌, ◌≤◌, length};
-ghost use Rattle.error.specs.Answers.{number_outcome};
+ghost use Rattle.std.specs.Prelude.{◌≡◌, ◌+◌, ◌*◌, ◌≤◌, length};
+ghost use Rattle.error.specs.Answers.{as_outcome};
 ghost use Rattle.error.specs.Lent.{over};
 ghost use Rattle.error.specs.Outcome.{first_of};
-ghost use Rattle.fields.specs.Width.{valid_width};
+ghost use Rattle.fields.specs.Layout.{window};
 ghost use Rattle.fsm_sections.specs.Sections.{flat};
 ghost use Rattle.fsm_blocks.specs.declared.checks.Reading.TheVariants.{Loose};
-ghost use Rattle.fsm_blocks.specs.Answers.{header_outcome};
 ghost use Rattle.fsm_blocks.specs.Fshd.{kept, parsed_fshd};
 ghost use Rattle.fsm_blocks.specs.Checks.{fshd_checks};
 ghost use Rattle.fsm_blocks.specs.Reading.{read_named, read_manager};
 ghost use Rattle.fsm_blocks.specs.Parts.{got, Accepted};
-ghost use Rattle.fsm_blocks.specs.Named.{full, named_outcome, Inside, refusal_in, manager_count};
+ghost use Rattle.fsm_blocks.specs.Named.{full, named_outcome, Inside, manager_count};
 
 use crate::checks::{Reading, check_fshd, check_fsse};
 use crate::fsse::{fsse_count, put_fsse};
-use crate::header::{FsmHeader, HeaderAnswer};
-use error::{Checked, Number, Refusal};
+use crate::header::FsmHeader;
+use crate::size::OffsetSize;
+use error::Refusal;
 use fields::address::BaseAddress;
 use fields::convert::undefined_addr;
-use fields::width::is_width;
 
 // Where a manager's section list stands, with the header that names it.
 #[derive(Clone, Copy)]
-pub(crate) enum Named {
-    Nowhere,
-    At { start: u64, header: FsmHeader },
-    Refused(Refusal),
+pub(crate) struct SectionList {
+    pub(crate) start: u64,
+    pub(crate) header: FsmHeader,
 }
 
-fn refusal_in(answer: HeaderAnswer) -> Refusal
-    ensures { result ≡ refusal_in answer }
-{
-    match answer {
-        HeaderAnswer::Header(_) => Refusal::InvalidManager,
-        HeaderAnswer::Refused(r) => r,
+impl SectionList {
+    // The bytes of the list.
+    fn of(self, bytes: &[u8]) -> &[u8]
+        requires { self.start + self.header.fsse_used ≤ length bytes.now }
+        ensures { result.now ≡ window self.start self.header.fsse_used bytes.now }
+    {
+        let first = self.start as usize;
+        &bytes[first..first + self.header.fsse_used as usize]
     }
 }
 
 // The header at the start of `bytes`, after the tests of the reading.
-fn header_at(bytes: &[u8], offset_size: u8, reading: Reading) -> HeaderAnswer
-    ensures { header_outcome result
+fn header_at(bytes: &[u8], offset_size: u8, reading: Reading) -> Result<FsmHeader, Refusal>
+    ensures { as_outcome result
         ≡ first_of (fshd_checks reading offset_size bytes.now) (kept (parsed_fshd offset_size bytes.now)) }
 {
-    let checked = check_fshd(bytes, offset_size, reading);
-    match checked {
-        Checked::Refused(r) => HeaderAnswer::Refused(r),
-        Checked::Passed => FsmHeader::parse(bytes, offset_size),
-    }
+    check_fshd(bytes, offset_size, reading)?;
+    FsmHeader::parse(bytes, offset_size)
 }
 
 // The section list that a header names, which stands at `slot`. The undefined address is skipped before the base is added.
@@ -56,86 +53,73 @@ fn list_of(
     slot: u64,
     header: FsmHeader,
     base: BaseAddress,
-    offset_size: u8,
+    size: OffsetSize,
     reading: Reading,
-) -> Named
-    requires { not (valid_width offset_size) ≡ false }
-    ensures named { named_outcome offset_size bytes.now result
-        ≡ read_named reading offset_size base.0 slot (full header) bytes.now }
+) -> Result<Option<SectionList>, Refusal>
+    ensures named { named_outcome size.bytes bytes.now result
+        ≡ read_named reading size.bytes base.0 slot (full header) bytes.now }
     ensures inside { Inside (length bytes.now) result }
 {
     let fsse = header.fsse_addr;
-    if fsse == undefined_addr(offset_size) {
-        return Named::Nowhere;
+    if fsse == undefined_addr(size.bytes) {
+        return Ok(None);
     }
-    let Number::Is(start) = base.absolute(fsse) else {
-        return Named::Refused(Refusal::InvalidManager);
+    let Ok(start) = base.absolute(fsse) else {
+        return Err(Refusal::InvalidManager);
     };
     let len = bytes.len() as u64;
     if len < start {
-        return Named::Refused(Refusal::InvalidManager);
+        return Err(Refusal::InvalidManager);
     }
     if len - start < header.fsse_used {
-        return Named::Refused(Refusal::InvalidManager);
+        return Err(Refusal::InvalidManager);
     }
-    let first = start as usize;
-    let end = first + header.fsse_used as usize;
-    let checked = check_fsse(&bytes[first..end], slot, offset_size, reading);
-    match checked {
-        Checked::Refused(r) => Named::Refused(r),
-        Checked::Passed => Named::At {
-            start: start,
-            header: header,
-        },
-    }
+    let list = SectionList { start, header };
+    check_fsse(list.of(bytes), slot, size, reading)?;
+    Ok(Some(list))
 }
 
 // The section list of the manager whose header a slot names. The base is added to both addresses.
-fn locate(bytes: &[u8], slot: u64, base: BaseAddress, offset_size: u8, reading: Reading) -> Named
-    requires { not (valid_width offset_size) ≡ false }
-    ensures named { named_outcome offset_size bytes.now result ≡ read_manager reading offset_size base.0 slot bytes.now }
+fn locate(
+    bytes: &[u8],
+    slot: u64,
+    base: BaseAddress,
+    size: OffsetSize,
+    reading: Reading,
+) -> Result<Option<SectionList>, Refusal>
+    ensures named { named_outcome size.bytes bytes.now result ≡ read_manager reading size.bytes base.0 slot bytes.now }
     ensures inside { Inside (length bytes.now) result }
 {
-    if slot == undefined_addr(offset_size) {
-        return Named::Nowhere;
+    if slot == undefined_addr(size.bytes) {
+        return Ok(None);
     }
-    let Number::Is(start) = base.absolute(slot) else {
-        return Named::Refused(Refusal::InvalidManager);
+    let Ok(start) = base.absolute(slot) else {
+        return Err(Refusal::InvalidManager);
     };
     if (bytes.len() as u64) < start {
-        return Named::Refused(Refusal::InvalidManager);
+        return Err(Refusal::InvalidManager);
     }
     let first = start as usize;
-    let answer = header_at(&bytes[first..], offset_size, reading);
-    let HeaderAnswer::Header(header) = answer else {
-        return Named::Refused(refusal_in(answer));
-    };
-    list_of(bytes, slot, header, base, offset_size, reading)
+    let header = header_at(&bytes[first..], size.bytes, reading)?;
+    list_of(bytes, slot, header, base, size, reading)
 }
 
 // How many sections the manager has whose header `slot` names.
+#[tactic(auto, unfolding(crate::specs::Named::manager_count, error::specs::Outcome::first_of))]
 pub fn manager_count(
     bytes: &[u8],
     slot: u64,
     base: BaseAddress,
     offset_size: u8,
     reading: Reading,
-) -> Number
-    ensures { number_outcome result ≡ manager_count reading offset_size base.0 slot bytes.now }
+) -> Result<u64, Refusal>
+    ensures { as_outcome result ≡ manager_count reading offset_size base.0 slot bytes.now }
 {
-    if !is_width(offset_size) {
-        return Number::Refused(Refusal::Width);
-    }
-    let found = locate(bytes, slot, base, offset_size, reading);
-    match found {
-        Named::Nowhere => Number::Is(0),
-        Named::Refused(r) => Number::Refused(r),
-        Named::At { start, header } => {
-            let first = start as usize;
-            let end = first + header.fsse_used as usize;
-            fsse_count(&bytes[first..end], header, offset_size)
-        }
-    }
+    let size = OffsetSize::new(offset_size)?;
+    let Some(list) = locate(bytes, slot, base, size, reading)? else {
+        return Ok(0);
+    };
+    fsse_count(list.of(bytes), list.header, size)
 }
 
 // Puts the sections of an accepted manager into the run, and gives the place after them. What was accepted strictly is read alike
@@ -144,25 +128,22 @@ pub(crate) fn put_manager(
     bytes: &[u8],
     slot: u64,
     base: BaseAddress,
-    offset_size: u8,
+    size: OffsetSize,
     out: &mut [u64],
     from: usize,
 ) -> usize
-    requires width { not (valid_width offset_size) ≡ false }
-    requires accepted { Accepted (read_manager Loose offset_size base.0 slot bytes.now) }
-    requires room { from + 2 * length (got (read_manager Loose offset_size base.0 slot bytes.now)) ≤ length out.old }
-    ensures put { out.new ≡ over from (flat (got (read_manager Loose offset_size base.0 slot bytes.now))) out.old }
-    ensures next { result ≡ from + 2 * length (got (read_manager Loose offset_size base.0 slot bytes.now)) }
+    requires accepted { Accepted (read_manager Loose size.bytes base.0 slot bytes.now) }
+    requires room { from + 2 * length (got (read_manager Loose size.bytes base.0 slot bytes.now)) ≤ length out.old }
+    ensures put { out.new ≡ over from (flat (got (read_manager Loose size.bytes base.0 slot bytes.now))) out.old }
+    ensures next { result ≡ from + 2 * length (got (read_manager Loose size.bytes base.0 slot bytes.now)) }
 {
-    let found = locate(bytes, slot, base, offset_size, Reading::Loose);
-    match found {
-        Named::Nowhere => from,
-        Named::Refused(_) => from,
-        Named::At { start, header } => {
-            let first = start as usize;
-            let end = first + header.fsse_used as usize;
-            put_fsse(&bytes[first..end], header, offset_size, out, from);
-            from + 2 * header.total_sections as usize
+    // Two arms and no `let .. else`, nor one arm for both: in those the prover is not told which of the two it is.
+    match locate(bytes, slot, base, size, Reading::Loose) {
+        Ok(None) => from,
+        Err(_) => from,
+        Ok(Some(list)) => {
+            put_fsse(list.of(bytes), list.header, size, out, from);
+            from + 2 * list.header.total_sections as usize
         }
     }
 }

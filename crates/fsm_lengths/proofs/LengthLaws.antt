@@ -5,12 +5,13 @@ use Prim.Native.Nat.{ℕ, zero, suc, ◌+◌, ◌*◌, ◌^◌, ◌≤◌, ◌<�
 use native.Mathlib.Nat.{mul-le-mul}
 use native.Mathlib.Omega.{arith}
 use native.Mathlib.Numerals.{add-one}
-use mathlib.Core.Bool.{Bool, true, false, cond, not}
+use mathlib.Core.Bool.{Bool, true, false, cond, not, ◌||◌}
 use mathlib.Core.List.{List, [], ◌∷◌, map}
 use lib.Dec.{leb, ltb, eqb}
 use lib.ListN.{length, drop, get_or, drop_of_length-le}
 use lib.Seq.{drop-cons}
 use borrow.Author.Tests.{eqb-true, eqb-false, ltb-true, ltb-false, leb-true, eq-eqb, ne_eqb, lt-ltb, le-ltb}
+use Rattle.std.specs.List.{list_any}
 use Rattle.error.specs.declared.Refusal.TheVariants.{Width, Overflow}
 use Rattle.error.specs.Outcome.{refused}
 use Rattle.error.proofs.TestLaws.{and_true, true_not_false}
@@ -112,24 +113,16 @@ module _ (zs : List ℕ) (i : ℕ) where
   pub no_size : length zs ≤ i → unplaced (drop i zs) ≡ []
   no_size h = ap unplaced (drop_of_length-le zs {i = i} h)
 
-module _ (z : ℕ) (zs : List ℕ) (from i : ℕ) (e : of_size z (unplaced (drop i zs)) ≡ of_size z (unplaced (drop from zs))) where
-  pub comes_here : i < length zs → z ≡ get_or zs i 0 → true ≡ ltb 0 (of_size z (unplaced (drop from zs)))
-  unfolding of_size
-  comes_here h p =
-      let q : of_size z (unplaced (drop i zs)) ≡ 1 + of_size z (unplaced (drop (i + 1) zs)) = rw (next-size zs i h, eq-eqb z (get_or zs i 0) p) in
-      sym (lt-ltb 0 (of_size z (unplaced (drop from zs))) (omega arith))
-
-  pub comes_later : i < length zs → (z ≡ get_or zs i 0 → ⊥) → of_size z (unplaced (drop (i + 1) zs)) ≡ of_size z (unplaced (drop from zs))
-  unfolding of_size
-  comes_later h n =
-      let q : of_size z (unplaced (drop i zs)) ≡ 0 + of_size z (unplaced (drop (i + 1) zs)) = rw (next-size zs i h, ne_eqb z (get_or zs i 0) n) in
-      omega arith
-
-  pub comes_never : length zs ≤ i → false ≡ ltb 0 (of_size z (unplaced (drop from zs)))
-  unfolding of_size
-  comes_never h =
-      let q : of_size z (unplaced (drop i zs)) ≡ 0 = rw (no_size zs i h) in
-      sym (le-ltb 0 (of_size z (unplaced (drop from zs))) (omega arith))
+-- whether a size stands in a list
+pub stands : (z : ℕ) (zs : List ℕ) → list_any (λ y. eqb y z) zs ≡ ltb 0 (of_size z (unplaced zs))
+unfolding of_size
+stands z [] = sym (le-ltb 0 0 (omega arith))
+stands z (y ∷ zs) = pick (eqb y z) (eqb-true y z) (eqb-false y z) (stands z zs)
+  where
+    pick : (t : Bool) → (t ≡ true → y ≡ z) → (t ≡ false → y ≡ z → ⊥) → list_any (λ y. eqb y z) zs ≡ ltb 0 (of_size z (unplaced zs))
+        → (t || list_any (λ y. eqb y z) zs) ≡ ltb 0 (cond (eqb z y) 1 0 + of_size z (unplaced zs))
+    pick true f g h = rw (eq-eqb z y (sym (f refl))) (sym (lt-ltb 0 (1 + of_size z (unplaced zs)) (omega arith)))
+    pick false f g h = let q : 0 + of_size z (unplaced zs) ≡ of_size z (unplaced zs) = omega arith in rw (ne_eqb z y (λ e. g refl (sym e)), q) h
 
 -- n are counted before place i, and all are counted once
 module _ (zs : List ℕ) (i n : ℕ) (e : n + distinct (unplaced (drop i zs)) ≡ distinct (unplaced zs)) where
@@ -170,10 +163,6 @@ module _ (zs : List ℕ) (i n : ℕ) (e : n + space (unplaced (drop i zs)) ≡ s
   all_added h p =
       let q : space (unplaced (drop i zs)) ≡ 0 = rw (no_size zs i h) in
       sym (le-ltb top (space (unplaced zs)) (omega arith))
-
-pub one_at_most : (t : Bool) → cond t 0 1 ≤ 1
-one_at_most true = omega arith
-one_at_most false = omega arith
 
 -- ---- the formula
 

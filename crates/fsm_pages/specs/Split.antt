@@ -3,18 +3,15 @@
 --   split_tests     refusals 2, 3, 4, in this order
 --   split_count     `split_count`: those; then how many pieces there are, at most 2^64 - 1
 --   split_into      `split_at_pages`: refusals 2, 3, 4, then 14 with the exact number of pieces (at most 2^64 - 1); the pieces in input order
---   split_outcome   the outcome that an answer of the code stands for (document 01, "Language forms": "for every case of the enum")
 use Rattle.std.specs.Prelude.{ℕ, not, List, [], ◌∷◌, eqb, length}
 use Rattle.error.specs.declared.Refusal.TheVariants.{Page, NotAList, Overflow}
-use Rattle.error.specs.Outcome.{Outcome, answer, refused, Condition, when, first_of, sat}
+use Rattle.error.specs.Outcome.{Outcome, answer, Condition, when, first_of, sat}
 use Rattle.error.specs.Lent.{With}
 use Rattle.pairs.specs.Pairs.{is_even, is_run}
 use Rattle.fsm_sections.specs.Sections.{decode}
 use Rattle.fsm_sections.specs.Pages.{split}
 use Rattle.fsm_sections.specs.Runs.{ends_above}
 use Rattle.fsm_blocks.specs.Reading.{into_run}
-use Rattle.fsm_pages.specs.declared.pages.Split.{Split}
-use Rattle.fsm_pages.specs.declared.pages.Split.TheVariants as code
 
 abbrev pub split_tests : List ℕ → ℕ → ℕ → List Condition
 split_tests xs n page = when (eqb page 0) Page ∷ when (not (is_run xs n)) NotAList ∷ when (ends_above (decode n xs)) Overflow ∷ []
@@ -31,7 +28,3 @@ split_into xs n page out =
     ∷ when (ends_above (decode n xs)) Overflow
     ∷ [])
     (into_run out (split page (decode n xs)))
-
-abbrev pub split_outcome : Split → Outcome ℕ
-split_outcome (code.Pieces n) = answer n
-split_outcome (code.Refused r) = refused r

@@ -1,25 +1,18 @@
 // Sections cut at page boundaries.
 ghost use Rattle.std.specs.Prelude.{◌≡◌, false, [], ◌∷◌, ◌+◌, ◌-◌, ◌*◌, ◌/◌, ◌%◌, ◌^◌, ◌≤◌, ◌<◌, length};
+ghost use Rattle.error.specs.Answers.{as_outcome};
 ghost use Rattle.error.specs.declared.Refusal.TheVariants.{Overflow};
-ghost use Rattle.error.specs.Answers.{number_outcome};
 ghost use Rattle.error.specs.Lent.{left, leaving, over};
 ghost use Rattle.error.specs.Outcome.{answer, when, first_of, sat};
 ghost use Rattle.fsm_sections.specs.Sections.{section, decode, flat};
 ghost use Rattle.fsm_sections.specs.Pages.{pieces, split};
 ghost use Rattle.fsm_sections.specs.Runs.{ends_above};
-ghost use Rattle.fsm_pages.specs.Split.{split_count, split_into, split_outcome};
+ghost use Rattle.fsm_pages.specs.Split.{split_count, split_into};
 
-use error::{Number, Refusal};
-use fsm_sections::run::{RunCursor, next_in};
-use numbers::{MAX, quotient, remainder, saturating_add};
+use error::Refusal;
+use fsm_sections::run::Regions;
+use numbers::{quotient, remainder};
 use pairs::is_run;
-
-// How many pieces a run of sections was cut into.
-#[derive(Clone, Copy)]
-pub enum Split {
-    Pieces(usize),
-    Refused(Refusal),
-}
 
 // How many bytes there are from an address up to the next page multiple.
 fn room_in(page: u64, addr: u64) -> u64
@@ -30,49 +23,46 @@ fn room_in(page: u64, addr: u64) -> u64
 }
 
 // How many pieces all sections have, at most 2^64 - 1: one of each that is not empty, and those after the first page multiple.
-fn pieces_in(sections: &[u64], count: usize, page: u64) -> Number
+// A run and a count, as the public functions take them; `Regions::new` cuts the run.
+fn pieces_in(sections: &[u64], count: usize, page: u64) -> Result<u64, Refusal>
     requires page { 0 < page }
-    ensures { number_outcome result ≡ first_of (when (ends_above (decode count sections.now)) Overflow ∷ [])
+    ensures { as_outcome result ≡ first_of (when (ends_above (decode count sections.now)) Overflow ∷ [])
         (answer (sat (length (split page (decode count sections.now))))) }
 {
     let mut some: u64 = 0;
     let mut more: u64 = 0;
-    let mut at = RunCursor::start();
-    loop {
-        let t = next_in(sections, count, at);
-        if t.end {
-            return Number::Is(saturating_add(some, more));
-        }
-        let addr = t.region.addr;
-        let size = t.region.size;
-        if MAX - size < addr {
-            return Number::Refused(Refusal::Overflow);
+    for region in Regions::new(sections, count) {
+        let addr = region.addr;
+        let size = region.size;
+        if u64::MAX - size < addr {
+            return Err(Refusal::Overflow);
         }
         let room = room_in(page, addr);
         if room < size {
-            more = saturating_add(more, 1 + quotient(size - room - 1, page));
+            more = more.saturating_add(1 + quotient(size - room - 1, page));
         }
         if size != 0 {
             some += 1;
         }
-        at = t.at;
     }
+    Ok(some.saturating_add(more))
 }
 
 // How many pieces sections have, at most 2^64 - 1: counted in closed form, section by section.
-pub fn split_count(sections: &[u64], count: usize, page: u64) -> Number
-    ensures { number_outcome result ≡ split_count sections.now count page }
+pub fn split_count(sections: &[u64], count: usize, page: u64) -> Result<u64, Refusal>
+    ensures { as_outcome result ≡ split_count sections.now count page }
 {
     if page == 0 {
-        return Number::Refused(Refusal::Page);
+        return Err(Refusal::Page);
     }
     if !is_run(sections, count) {
-        return Number::Refused(Refusal::NotAList);
+        return Err(Refusal::NotAList);
     }
     pieces_in(sections, count, page)
 }
 
-// Puts the pieces of a section into the run, and gives the place after them.
+// Puts the pieces of a section into the run, and gives the place after them. A `while`, as the first and the last piece are shorter
+// than a page; the places are written here, as `put_pair` would test its bounds for each piece.
 fn put_pieces(page: u64, addr: u64, size: u64, out: &mut [u64], from: usize) -> usize
     requires fits { (0 < page) × (addr + size < 2 ^ 64) }
     requires room { from + 2 * length (pieces page (section addr size)) ≤ length out.old }
@@ -107,39 +97,34 @@ fn put_split(sections: &[u64], count: usize, page: u64, out: &mut [u64])
     ensures { out.new ≡ over 0 (flat (split page (decode count sections.now))) out.old }
 {
     let mut k = 0;
-    let mut at = RunCursor::start();
-    loop {
-        let t = next_in(sections, count, at);
-        if t.end {
-            return;
-        }
-        k = put_pieces(page, t.region.addr, t.region.size, out, k);
-        at = t.at;
+    for region in Regions::new(sections, count) {
+        k = put_pieces(page, region.addr, region.size, out, k);
     }
 }
 
 // Cuts each section at every page multiple and puts the pieces into the run `out`. An empty section has none.
-pub fn split_at_pages(sections: &[u64], count: usize, page: u64, out: &mut [u64]) -> Split
-    ensures { left (split_outcome result) out.new ≡ leaving out.old (split_into sections.now count page out.old) }
+pub fn split_at_pages(
+    sections: &[u64],
+    count: usize,
+    page: u64,
+    out: &mut [u64],
+) -> Result<usize, Refusal>
+    ensures { left (as_outcome result) out.new ≡ leaving out.old (split_into sections.now count page out.old) }
 {
     if page == 0 {
-        return Split::Refused(Refusal::Page);
+        return Err(Refusal::Page);
     }
     if out.len() % 2 != 0 {
-        return Split::Refused(Refusal::NotAList);
+        return Err(Refusal::NotAList);
     }
-    match split_count(sections, count, page) {
-        Number::Refused(r) => Split::Refused(r),
-        Number::Is(needed) => {
-            let capacity = (out.len() / 2) as u64;
-            if capacity < needed {
-                return Split::Refused(Refusal::OverCapacity {
-                    needed: needed,
-                    given: capacity,
-                });
-            }
-            put_split(sections, count, page, out);
-            Split::Pieces(needed as usize)
-        }
+    let needed = split_count(sections, count, page)?;
+    let capacity = (out.len() / 2) as u64;
+    if capacity < needed {
+        return Err(Refusal::OverCapacity {
+            needed,
+            given: capacity,
+        });
     }
+    put_split(sections, count, page, out);
+    Ok(needed as usize)
 }

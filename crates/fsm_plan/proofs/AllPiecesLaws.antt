@@ -1,14 +1,14 @@
 -- Whether an address of one of all pieces of sections does not fit the offset size. Assumes nothing.
 use mathlib.Core.Path.{◌≡◌, refl, sym, ap, ap₂, ◌∙◌}
 use mathlib.Core.Logic.{◌⊎◌, inl, inr, ⊎_elim}
-use Prim.Native.Nat.{ℕ, zero, suc, ◌+◌, ◌-◌, ◌*◌, ◌/◌, ◌^◌, ◌≤◌, ◌<◌}
+use Prim.Native.Nat.{ℕ, zero, suc, ◌+◌, ◌-◌, ◌*◌, ◌/◌, ◌^◌, ◌≤◌, ◌<◌, max}
 use native.Mathlib.Nat.{le-div_iff_mul-le, div-lt_iff_lt-mul, div-mul-le_self, mul-le-mul_right}
 use native.Mathlib.Omega.{arith}
 use mathlib.Core.Bool.{Bool, true, false, cond, ◌||◌}
 use mathlib.Core.List.{List, [], ◌∷◌, ◌++◌}
 use lib.Dec.{ltb, leb}
 use borrow.Author.Tests.{leb-true, le-leb}
-use Rattle.error.proofs.TestLaws.{or_decides, or-leaves}
+use Rattle.error.proofs.TestLaws.{le-or-lt, or_decides, or-leaves}
 use Rattle.fsm_sections.specs.declared.FreeSection.{FreeSection}
 use Rattle.fsm_sections.specs.Sections.{section}
 use Rattle.fsm_sections.specs.Pages.{page_end, cut_at, pieces_from, pieces, split, below_page, from_page, slot0, slot2, slot6}
@@ -18,7 +18,6 @@ use Rattle.fsm_sections.specs.Runs.{wide, any_of, any_wide}
 -- ---- a test of some section
 
 pub any_append : (test : FreeSection → Bool) (l m : List FreeSection) → any_of test (l ++ m) ≡ (any_of test l || any_of test m)
-unfolding any_of
 any_append test [] m = refl
 any_append test (s ∷ l) m = pick (test s) (any_append test l m)
   where
@@ -28,7 +27,7 @@ any_append test (s ∷ l) m = pick (test s) (any_append test l m)
 
 -- below a page or not
 pub any_parts : (test : FreeSection → Bool) (page : ℕ) (l : List FreeSection) → (any_of test (below_page page l) || any_of test (from_page page l)) ≡ any_of test l
-unfolding any_of below_page from_page
+unfolding below_page from_page
 any_parts test page [] = refl
 any_parts test page (s ∷ l) = pick (ltb s.size page) (any_parts test page l)
   where
@@ -81,7 +80,6 @@ or_false_right false = refl
 -- the last piece has the greatest address
 wide_from : (o fuel page a e m : ℕ) → 0 < page → e ≤ a + fuel → a < e → a ≤ m → (e - 1) / page * page ≤ m → (m ≡ a) ⊎ (m ≡ (e - 1) / page * page)
     → any_wide o (pieces_from fuel page a e) ≡ wide o m
-unfolding any_of
 wide_from o zero page a e m p h l u v w = absurd (omega arith)
 wide_from o (suc fuel) page a e m p h l u v w =
     ap (any_wide o) (pieces_more fuel page a e l) ∙ ⊎_elim (more (wide_from o fuel page (page_end page a) e m p)) last (below_or_not (page_end page a) e)
@@ -112,7 +110,7 @@ wide_from o (suc fuel) page a e m p h l u v w =
 
 module _ (o page addr size : ℕ) (p : 0 < page) where
   pub wide-none : size ≡ 0 → false ≡ any_wide o (pieces page (section addr size))
-  unfolding pieces any_of
+  unfolding pieces
   wide-none z = sym (ap (any_wide o) (pieces_none size page addr (addr + size) (omega arith)))
 
   -- the last page multiple within is the q-th
@@ -126,19 +124,25 @@ module _ (o page addr size : ℕ) (p : 0 < page) where
     pub at-fits : at ≤ addr + (size - 1)
     at-fits = rw qe (div-mul-le_self (addr + (size - 1)) page)
 
-    pub wide-first : at < addr → wide o addr ≡ any_wide o (pieces page (section addr size))
+    wide-first : at < addr → wide o addr ≡ any_wide o (pieces page (section addr size))
     unfolding pieces
     wide-first h = sym (wide_from o size page addr (addr + size) addr p (omega arith) (omega arith) (omega arith) (omega (arith, last-is)) (inl refl))
 
-    pub wide-last : addr ≤ at → wide o at ≡ any_wide o (pieces page (section addr size))
+    wide-last : addr ≤ at → wide o at ≡ any_wide o (pieces page (section addr size))
     unfolding pieces
     wide-last h = sym (wide_from o size page addr (addr + size) at p (omega arith) (omega arith) h (omega (arith, last-is)) (inr (sym last-is)))
+
+    -- the greater of the two
+    pub wide_greatest : (m : ℕ) → m ≡ max at addr → wide o m ≡ any_wide o (pieces page (section addr size))
+    wide_greatest m e = ⊎_elim
+        (λ (h : addr ≤ at). let q : m ≡ at = omega arith in rw q (wide-last h))
+        (λ (h : at < addr). let q : m ≡ addr = omega arith in rw q (wide-first h)) (le-or-lt addr at)
 
 -- ---- the passes over all sections
 
 module _ (page o : ℕ) (l : List FreeSection) (v : Bool) (p : any_wide o (split page l) ≡ v) where
   pub any_wide-end : l ≡ [] → false ≡ v
-  unfolding split any_of
+  unfolding split
   any_wide-end e = ap (λ (k : List FreeSection). any_wide o (split page k)) (sym e) ∙ p
 
   module _ (x : FreeSection) (m : List FreeSection) (e : l ≡ x ∷ m) (t : Bool) (f : t ≡ any_wide o (pieces page x)) where

@@ -7,12 +7,11 @@ use mathlib.Core.List.{List}
 use lib.Dec.{ltb}
 use lib.ListN.{length}
 use borrow.Author.Tests.{ltb-false}
-use Rattle.error.specs.declared.Checked.{Checked}
-use Rattle.error.specs.declared.Checked.TheVariants as checked
+use Rattle.std.specs.Prelude.{Result, Ok, Err}
+use Rattle.error.specs.Answers.{as_outcome}
 use Rattle.error.specs.declared.Refusal.{Refusal}
 use Rattle.error.specs.declared.Refusal.TheVariants.{Overflow, SharedAddress, WideAddress}
 use Rattle.error.specs.Outcome.{Outcome, answer, refused, first_of, and_then}
-use Rattle.error.specs.Answers.{checked_outcome}
 use Rattle.error.proofs.TestLaws.{or_false, or_decides, or-leaves}
 use Rattle.error.proofs.OutcomeLaws.{first-none, first_holds, first_passes, first_pass, first_shows, then_answers}
 use Rattle.fields.specs.Ranges.{top, undefined_addr}
@@ -30,57 +29,53 @@ use Rattle.fsm_blocks.proofs.LengthLaws.{size-least}
 use Rattle.fsm_plan.specs.declared.Counts.{Counts}
 use Rattle.fsm_plan.specs.declared.chains.Paged.{Paged}
 use Rattle.fsm_plan.specs.declared.measure.Measure.{Measure}
-use Rattle.fsm_plan.specs.declared.measure.Measured.{Measured}
-use Rattle.fsm_plan.specs.declared.measure.Measured.TheVariants as measures
 use Rattle.fsm_plan.specs.declared.blocks.Measures.{Measures}
-use Rattle.fsm_plan.specs.declared.blocks.SlotsMeasured.{SlotsMeasured}
-use Rattle.fsm_plan.specs.declared.blocks.SlotsMeasured.TheVariants as slots
 use Rattle.fsm_plan.specs.declared.blocks.PagedManagerPlan.{PagedManagerPlan}
 use Rattle.fsm_plan.specs.declared.blocks.BlocksPlan.{BlocksPlan}
 use Rattle.fsm_plan.specs.Order.{repeats, source_of}
 use Rattle.fsm_plan.specs.Blocks.{paged, in_slot0, in_slot2, in_large, wide_sections, size_tests, measure_of, measured, measures_of, slots_measured}
-use Rattle.fsm_plan.specs.Blocks.{end_at, managers_at, blocks_at, wide_block, wide_managers, Placed, run_tests, planned_from, planned_blocks, Ready, measured_outcome, measures_outcome}
+use Rattle.fsm_plan.specs.Blocks.{end_at, managers_at, blocks_at, wide_block, wide_managers, Placed, run_tests, planned_from, planned_blocks, Ready}
 use Rattle.fsm_plan.proofs.RunsLaws.{Tested, tests_refuse, tests_pass, tests_show, small_same, large_given}
 use Rattle.fsm_plan.proofs.MeasureLaws.{measure_refused, measure_known, measured-same}
 
 -- ---- the sections of a slot as its source gives them
 
-module _ (O page : ℕ) (some : 0 < page) (s : Source) (c : Measured) where
-  pub small_measured : (m : ℕ) (xs : List ℕ) → s ≡ small_source page m → measured_outcome c ≡ measured O (sections_of (chains_of s xs xs xs))
-      → measured_outcome c ≡ measured O (slot0 page (decode m xs))
+module _ (O page : ℕ) (some : 0 < page) (s : Source) (c : (Result Measure Refusal)) where
+  pub small_measured : (m : ℕ) (xs : List ℕ) → s ≡ small_source page m → as_outcome c ≡ measured O (sections_of (chains_of s xs xs xs))
+      → as_outcome c ≡ measured O (slot0 page (decode m xs))
   small_measured m xs e f =
       f ∙ ap (λ (x : Source). measured O (sections_of (chains_of x xs xs xs))) e
       ∙ measured-same O (slot0 page (decode m xs)) (sections_of (chains_of (small_source page m) xs xs xs)) (small_same page m xs some)
 
-  pub large_measured : (n : Counts) (xs ys zs : List ℕ) → s ≡ source_of (paged n page) → measured_outcome c ≡ measured O (sections_of (chains_of s xs ys zs))
-      → measured_outcome c ≡ measured O (in_large (paged n page) xs ys zs)
+  pub large_measured : (n : Counts) (xs ys zs : List ℕ) → s ≡ source_of (paged n page) → as_outcome c ≡ measured O (sections_of (chains_of s xs ys zs))
+      → as_outcome c ≡ measured O (in_large (paged n page) xs ys zs)
   large_measured n xs ys zs e f =
       f ∙ ap (λ (x : Source). measured O (sections_of (chains_of x xs ys zs))) e
       ∙ ap (measured O) (sym (slot6-runs page n.meta n.raw n.unclassified xs ys zs some))
 
 -- ---- the slots in order
 
-module _ (s : Paged) (a b c : List ℕ) (O : ℕ) (x : Measured) (xe : measured_outcome x ≡ measured O (in_slot0 s a b c)) where
-  pub slots-first : (r : Refusal) → x ≡ measures.Refused r → refused Overflow ≡ slots_measured s a b c O
+module _ (s : Paged) (a b c : List ℕ) (O : ℕ) (x : (Result Measure Refusal)) (xe : as_outcome x ≡ measured O (in_slot0 s a b c)) where
+  pub slots-first : (r : Refusal) → x ≡ Err r → refused r ≡ slots_measured s a b c O
   unfolding slots_measured
   slots-first r h = measure_refused O (in_slot0 s a b c) x xe r h _
 
-  module _ (m0 : Measure) (h0 : x ≡ measures.Is m0) (y : Measured) (ye : measured_outcome y ≡ measured O (in_slot2 s a b c)) where
+  module _ (m0 : Measure) (h0 : x ≡ Ok m0) (y : (Result Measure Refusal)) (ye : as_outcome y ≡ measured O (in_slot2 s a b c)) where
     after_first : slots_measured s a b c O ≡ first_of (size_tests O (in_slot2 s a b c)) (first_of (size_tests O (in_large s a b c)) (answer (measures_of s a b c O)))
     unfolding slots_measured
     after_first = first_pass (size_tests O (in_slot0 s a b c)) _ (measure_known O (in_slot0 s a b c) x xe m0 h0).0
 
-    pub slots-second : (r : Refusal) → y ≡ measures.Refused r → refused Overflow ≡ slots_measured s a b c O
+    pub slots-second : (r : Refusal) → y ≡ Err r → refused r ≡ slots_measured s a b c O
     slots-second r h = measure_refused O (in_slot2 s a b c) y ye r h _ ∙ sym after_first
 
-    module _ (m2 : Measure) (h2 : y ≡ measures.Is m2) (z : Measured) (ze : measured_outcome z ≡ measured O (in_large s a b c)) where
+    module _ (m2 : Measure) (h2 : y ≡ Ok m2) (z : (Result Measure Refusal)) (ze : as_outcome z ≡ measured O (in_large s a b c)) where
       after-second : slots_measured s a b c O ≡ first_of (size_tests O (in_large s a b c)) (answer (measures_of s a b c O))
       after-second = after_first ∙ first_pass (size_tests O (in_slot2 s a b c)) _ (measure_known O (in_slot2 s a b c) y ye m2 h2).0
 
-      pub slots_third : (r : Refusal) → z ≡ measures.Refused r → refused Overflow ≡ slots_measured s a b c O
+      pub slots_third : (r : Refusal) → z ≡ Err r → refused r ≡ slots_measured s a b c O
       slots_third r h = measure_refused O (in_large s a b c) z ze r h _ ∙ sym after-second
 
-      pub slots_are : (m6 : Measure) → z ≡ measures.Is m6 → answer (record { slot0 = m0; slot2 = m2; slot6 = m6 }) ≡ slots_measured s a b c O
+      pub slots_are : (m6 : Measure) → z ≡ Ok m6 → answer (record { slot0 = m0; slot2 = m2; slot6 = m6 }) ≡ slots_measured s a b c O
       slots_are m6 h =
           let p = (measure_known O (in_slot0 s a b c) x xe m0 h0).1 in
           let q = (measure_known O (in_slot2 s a b c) y ye m2 h2).1 in
@@ -153,35 +148,35 @@ module _ (a b c : List ℕ) (s : Paged) (O : ℕ) (m : Measures) (h : Ready a b 
 
 -- ---- `plan_blocks`, by its branches
 
-module _ (a b c : List ℕ) (n : Counts) (page start O : ℕ) (x : Checked) (xe : checked_outcome x ≡ first_of (run_tests a b c n page O) (answer tt)) where
+module _ (a b c : List ℕ) (n : Counts) (page start O : ℕ) (x : (Result (Unit {0}) Refusal)) (xe : as_outcome x ≡ first_of (run_tests a b c n page O) (answer tt)) where
   abbrev s : Paged
   s = paged n page
 
-  pub blocks_tested : (r : Refusal) → x ≡ checked.Refused r → refused r ≡ planned_blocks a b c n page start O
+  pub blocks_tested : (r : Refusal) → x ≡ Err r → refused r ≡ planned_blocks a b c n page start O
   unfolding planned_blocks
   blocks_tested r h = tests_refuse a b c n page O x xe r h _
 
-  module _ (h : x ≡ checked.Passed) (y : SlotsMeasured) (ye : measures_outcome y ≡ slots_measured s a b c O) where
-    then_from : and_then (measures_outcome y) (λ m. planned_from a b c (undefined_addr O) s m start O) ≡ planned_blocks a b c n page start O
+  module _ (h : x ≡ (Ok tt)) (y : (Result Measures Refusal)) (ye : as_outcome y ≡ slots_measured s a b c O) where
+    then_from : and_then (as_outcome y) (λ m. planned_from a b c (undefined_addr O) s m start O) ≡ planned_blocks a b c n page start O
     unfolding planned_blocks
     then_from =
         ap (λ (z : Outcome Measures). and_then z (λ m. planned_from a b c (undefined_addr O) s m start O)) ye
         ∙ tests_pass a b c n page O x xe h _
 
-    pub blocks_measured : (r : Refusal) → y ≡ slots.Refused r → refused r ≡ planned_blocks a b c n page start O
+    pub blocks_measured : (r : Refusal) → y ≡ Err r → refused r ≡ planned_blocks a b c n page start O
     unfolding and_then
-    blocks_measured r g = ap (λ (z : SlotsMeasured). and_then (measures_outcome z) (λ m. planned_from a b c (undefined_addr O) s m start O)) (sym g) ∙ then_from
+    blocks_measured r g = ap (λ (z : (Result Measures Refusal)). and_then (as_outcome z) (λ m. planned_from a b c (undefined_addr O) s m start O)) (sym g) ∙ then_from
 
-    module _ (m : Measures) (g : y ≡ slots.Are m) where
+    module _ (m : Measures) (g : y ≡ Ok m) where
       pub blocks_from : planned_from a b c (undefined_addr O) s m start O ≡ planned_blocks a b c n page start O
       unfolding and_then
-      blocks_from = ap (λ (z : SlotsMeasured). and_then (measures_outcome z) (λ m. planned_from a b c (undefined_addr O) s m start O)) (sym g) ∙ then_from
+      blocks_from = ap (λ (z : (Result Measures Refusal)). and_then (as_outcome z) (λ m. planned_from a b c (undefined_addr O) s m start O)) (sym g) ∙ then_from
 
       pub blocks_ready : Ready a b c s O m
       unfolding slots_measured
       blocks_ready =
           let t = tests_show a b c n page O x xe h in
-          let p = first_shows (size_tests O (in_slot0 s a b c)) _ m (sym ye ∙ ap measures_outcome g) in
+          let p = first_shows (size_tests O (in_slot0 s a b c)) _ m (sym ye ∙ ap as_outcome g) in
           let q = first_shows (size_tests O (in_slot2 s a b c)) _ m p.1 in
           let r = first_shows (size_tests O (in_large s a b c)) _ m q.1 in
           let e : answer (measures_of s a b c O) ≡ answer m = r.1 in
@@ -234,7 +229,7 @@ module _ (a b c : List ℕ) (n : Counts) (page start O : ℕ) (p : BlocksPlan) (
       let s0 = or_false (any_wide O (in_slot0 s a b c)) (any_wide O (in_slot2 s a b c) || any_wide O (in_large s a b c)) w.1 in
       let s2 = or_false (any_wide O (in_slot2 s a b c)) (any_wide O (in_large s a b c)) s0.1 in
       record {
-        tested = tests_show a b c n page O checked.Passed (sym (first_pass (run_tests a b c n page O) (answer tt) f.0)) refl;
+        tested = tests_show a b c n page O (Ok tt) (sym (first_pass (run_tests a b c n page O) (answer tt) f.0)) refl;
         sum0 = ltb-false top _ p0.0.0;
         sum2 = ltb-false top _ p2.0.0;
         sum6 = ltb-false top _ p6.0.0;

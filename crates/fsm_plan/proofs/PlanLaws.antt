@@ -6,6 +6,8 @@ use mathlib.Core.Bool.{true, false, not}
 use mathlib.Core.List.{List, ◌++◌}
 use lib.ListN.{length, take, drop}
 use borrow.Author.Tests.{lt-ltb, le-ltb, eq-eqb, ne_eqb}
+use Rattle.std.specs.Prelude.{Result, Ok, Err}
+use Rattle.error.specs.Answers.{as_outcome}
 use Rattle.error.specs.declared.Refusal.{Refusal}
 use Rattle.error.specs.declared.Refusal.TheVariants.{Width, Page, NotAList, OverCapacity}
 use Rattle.error.specs.Outcome.{Outcome, answer, refused, and_then}
@@ -26,10 +28,8 @@ use Rattle.fsm_plan.specs.declared.Counts.{Counts}
 use Rattle.fsm_plan.specs.declared.chains.Paged.{Paged}
 use Rattle.fsm_plan.specs.declared.blocks.PagedManagerPlan.{PagedManagerPlan}
 use Rattle.fsm_plan.specs.declared.blocks.BlocksPlan.{BlocksPlan}
-use Rattle.fsm_plan.specs.declared.blocks.BlocksPlanned.{BlocksPlanned}
-use Rattle.fsm_plan.specs.declared.blocks.BlocksPlanned.TheVariants as blocks
 use Rattle.fsm_plan.specs.Order.{by_addr, source_of, in_slot6}
-use Rattle.fsm_plan.specs.Blocks.{paged, in_slot0, in_slot2, in_large, planned_blocks, blocks_outcome}
+use Rattle.fsm_plan.specs.Blocks.{paged, in_slot0, in_slot2, in_large, planned_blocks}
 use Rattle.fsm_plan.specs.Plan.{Counted, plan_sections, plan_count, planned_into, planned}
 use Rattle.fsm_plan.proofs.BlocksLaws.{Accepted, accepted}
 
@@ -127,24 +127,24 @@ module _ (a b c : List ℕ) (n : Counts) (page start O : ℕ) (out : List ℕ) w
           ap (leaving out)
           (sym (first_passes _ Width _ _ v ∙ first_passes _ Page _ _ (ne_eqb page 0 p) ∙ first_holds _ NotAList _ _ (ap not (ne_eqb (length out % 2) 0 h))))
 
-      module _ (e : length out % 2 ≡ 0) (x : BlocksPlanned) (xe : blocks_outcome x ≡ planned_blocks a b c n page start O) where
-        after : and_then (blocks_outcome x) into ≡ whole
+      module _ (e : length out % 2 ≡ 0) (x : (Result BlocksPlan Refusal)) (xe : as_outcome x ≡ planned_blocks a b c n page start O) where
+        after : and_then (as_outcome x) into ≡ whole
         unfolding planned
         after =
             ap (λ (z : Outcome BlocksPlan). and_then z into) xe
             ∙ sym (first_passes _ Width _ _ v ∙ first_passes _ Page _ _ (ne_eqb page 0 p) ∙ first_passes _ NotAList _ _ (ap not (eq-eqb (length out % 2) 0 e)) ∙ first-none _)
 
-        pub planned-refused : (r : Refusal) → x ≡ blocks.Refused r → left (refused r) out ≡ leaving out whole
+        pub planned-refused : (r : Refusal) → x ≡ Err r → left (refused r) out ≡ leaving out whole
         unfolding and_then
-        planned-refused r h = ap (leaving out) (ap (λ (z : BlocksPlanned). and_then (blocks_outcome z) into) (sym h) ∙ after)
+        planned-refused r h = ap (leaving out) (ap (λ (z : (Result BlocksPlan Refusal)). and_then (as_outcome z) into) (sym h) ∙ after)
 
-        module _ (plan : BlocksPlan) (h : x ≡ blocks.Plan plan) where
+        module _ (plan : BlocksPlan) (h : x ≡ Ok plan) where
           pub planned-into : leaving out (into plan) ≡ leaving out whole
           unfolding and_then
-          planned-into = ap (leaving out) (ap (λ (z : BlocksPlanned). and_then (blocks_outcome z) into) (sym h) ∙ after)
+          planned-into = ap (leaving out) (ap (λ (z : (Result BlocksPlan Refusal)). and_then (as_outcome z) into) (sym h) ∙ after)
 
           pub planned-accepted : Accepted a b c n page start O plan
-          planned-accepted = accepted a b c n page start O plan (sym xe ∙ ap blocks_outcome h)
+          planned-accepted = accepted a b c n page start O plan (sym xe ∙ ap as_outcome h)
 
 pub accepted-counted : (a b c : List ℕ) (n : Counts) (page start O : ℕ) (p : BlocksPlan) → Accepted a b c n page start O p → Counted (paged n page) a b c p.managers
 accepted-counted a b c n page start O p h =

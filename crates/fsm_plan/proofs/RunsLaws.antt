@@ -7,12 +7,11 @@ use mathlib.Core.Bool.{Bool, true, false, cond, ◌&&◌, ◌||◌, not}
 use mathlib.Core.List.{List, [], ◌∷◌, ◌++◌}
 use lib.Dec.{leb, eqb}
 use borrow.Author.Tests.{leb-true, eqb-false, not-false, eq-eqb, ne_eqb}
-use Rattle.error.specs.declared.Checked.{Checked}
-use Rattle.error.specs.declared.Checked.TheVariants as checked
+use Rattle.std.specs.Prelude.{Result, Ok, Err}
+use Rattle.error.specs.Answers.{as_outcome}
 use Rattle.error.specs.declared.Refusal.{Refusal}
 use Rattle.error.specs.declared.Refusal.TheVariants.{Width, Page, NotAList, Overflow}
 use Rattle.error.specs.Outcome.{Outcome, answer, refused, when, first_of}
-use Rattle.error.specs.Answers.{checked_outcome}
 use Rattle.error.proofs.TestLaws.{and_true, or_false}
 use Rattle.error.proofs.OutcomeLaws.{NoneHolds, first-none, first_holds, first_passes, first_pass, first_answers, first_refuses}
 use Rattle.fields.specs.Ranges.{top}
@@ -75,13 +74,13 @@ module _ (xs ys zs : List ℕ) (n : Counts) (page O : ℕ) where
 
   -- ---- what the answer says
 
-  module _ (c : Checked) (e : checked_outcome c ≡ tests) where
-    pub tests_refuse : {A : Type 0} (r : Refusal) → c ≡ checked.Refused r → (x : Outcome A) → refused r ≡ first_of (run_tests xs ys zs n page O) x
-    tests_refuse r h x = first_refuses (run_tests xs ys zs n page O) tt r x (ap checked_outcome (sym h) ∙ e)
+  module _ (c : (Result (Unit {0}) Refusal)) (e : as_outcome c ≡ tests) where
+    pub tests_refuse : {A : Type 0} (r : Refusal) → c ≡ Err r → (x : Outcome A) → refused r ≡ first_of (run_tests xs ys zs n page O) x
+    tests_refuse r h x = first_refuses (run_tests xs ys zs n page O) tt r x (ap as_outcome (sym h) ∙ e)
 
-    module _ (h : c ≡ checked.Passed) where
+    module _ (h : c ≡ (Ok tt)) where
       none : NoneHolds (run_tests xs ys zs n page O)
-      none = (first_answers (run_tests xs ys zs n page O) tt tt (sym e ∙ ap checked_outcome h)).0
+      none = (first_answers (run_tests xs ys zs n page O) tt tt (sym e ∙ ap as_outcome h)).0
 
       pub tests_pass : {A : Type 0} (x : Outcome A) → x ≡ first_of (run_tests xs ys zs n page O) x
       tests_pass x = sym (first_pass (run_tests xs ys zs n page O) x none)

@@ -6,19 +6,15 @@ use native.Mathlib.Nat.{mul-le-mul_right}
 use native.Mathlib.Omega.{arith}
 use mathlib.Core.Bool.{Bool, true, false}
 use mathlib.Core.List.{List, []}
+use Rattle.std.proofs.Common.{rules}
+use Rattle.std.specs.Prelude.{Option, Some, None, SomeIff, ◌^◌}
 use Rattle.error.proofs.TestLaws.{le-or-lt}
 use Rattle.fsm_sections.specs.declared.FreeSection.{FreeSection}
 use Rattle.fsm_sections.specs.declared.Chain.{Chain}
-use Rattle.fsm_sections.specs.declared.Source.{Source}
-use Rattle.fsm_sections.specs.declared.next.Cursor.{Cursor}
-use Rattle.fsm_sections.specs.declared.next.Step.{Step}
-use Rattle.fsm_sections.specs.Chains.{sections_in, sections_of}
-use Rattle.fsm_sections.specs.Sources.{chains_of, Given}
-use Rattle.fsm_sections.specs.Nexts.{start}
-use Rattle.fsm_sections.specs.Steps.{rest, Taking, Stepped}
-use Rattle.fsm_sections.proofs.StepLaws.{rest_all, take_by}
-use Rattle.fsm_plan.specs.declared.sharing.Floor.{Floor}
-use Rattle.fsm_plan.specs.declared.sharing.Floor.TheVariants.{To}
+use Rattle.fsm_sections.specs.declared.next.Chains.{Chains}
+use Rattle.fsm_sections.specs.Chains.{sections_in}
+use Rattle.fsm_sections.specs.Steps.{rest, CanGo, Taking}
+use Rattle.fsm_sections.proofs.StepLaws.{take_by}
 use Rattle.fsm_plan.specs.Order.{at_addr, repeats, Common, Meet, Paging, Alike, Raised}
 use Rattle.fsm_plan.proofs.AddrLaws.{at-append, at-sorted, at-index, at_none, at_once, repeats-not, repeats_yes}
 
@@ -46,10 +42,10 @@ module _ (l m : List FreeSection) (r : Bool) (h : Meet r l m) where
 -- ---- the floor after a chain
 
 module _ (floor : ℕ) (t : Chain) where
-  pub raised_none : t.count ≡ 0 → Raised floor t (To floor)
+  pub raised_none : t.count ≡ 0 → Raised floor t (Some floor)
   raised_none e = (omega arith, λ x h. absurd (omega (arith, at_none x t.addr t.size t.count (λ i l q. absurd (omega arith)))))
 
-  pub raised_to : floor ≤ t.addr → Raised floor t (To (t.addr + (t.count - 1) * t.size + 1))
+  raised_to : floor ≤ t.addr → Raised floor t (Some (t.addr + (t.count - 1) * t.size + 1))
   raised_to l = (omega arith, within)
     where
       within : (x : ℕ) → 0 < at_addr x (sections_in t) → (floor ≤ x) × (x < t.addr + (t.count - 1) * t.size + 1)
@@ -58,111 +54,113 @@ module _ (floor : ℕ) (t : Chain) where
           let b : p.index ≤ t.count - 1 = omega (arith, p.below) in
           (omega (arith, p.is), omega (arith, p.is, mul-le-mul_right t.size b))
 
+-- a sum that may not fit
+pub raised_by : (floor : ℕ) (t : Chain) → floor ≤ t.addr → (r : Option ℕ)
+    → SomeIff r (t.addr + (t.count - 1) * t.size + 1 < 2 ^ 64) (t.addr + (t.count - 1) * t.size + 1) → Raised floor t r
+raised_by floor t h None e = tt
+raised_by floor t h (Some f) e = let q : f ≡ t.addr + (t.count - 1) * t.size + 1 = search rules in rw q (raised_to floor t h)
+
 -- ---- the passes
 
-module _ (s : Source) (a b c : List ℕ) where
-  abbrev left : Cursor → List FreeSection
-  left at = rest s a b c at
+-- no chain that was passed has an address of t
+abbrev pub Unmet : Chain → Chains → Chains → Type 0
+Unmet t first x = (z : ℕ) → 0 < at_addr z (sections_in t) → at_addr z (rest x) ≡ at_addr z (rest first)
 
-  abbrev all : List FreeSection
-  all = sections_of (chains_of s a b c)
-
-  -- no chain that was passed has an address of t
-  abbrev pub Unmet : Step → Cursor → Type 0
-  Unmet t at = (x : ℕ) → 0 < at_addr x (sections_in t.chain) → at_addr x (left at) ≡ at_addr x (left t.at)
-
+module _ (all : List FreeSection) where
   -- the chains that were passed share no address with another
-  pub record Apart (at : Cursor) : Type 0 where
-    pub few : (x : ℕ) → at_addr x all ≤ at_addr x (left at) + 1
-    pub same : (x : ℕ) → 0 < at_addr x (left at) → at_addr x all ≡ at_addr x (left at)
+  pub record Apart (x : Chains) : Type 0 where
+    pub go : CanGo x
+    pub few : (z : ℕ) → at_addr z all ≤ at_addr z (rest x) + 1
+    pub same : (z : ℕ) → 0 < at_addr z (rest x) → at_addr z all ≡ at_addr z (rest x)
 
   -- the same where they stand below the floor
-  pub record Below (floor : ℕ) (at : Cursor) : Type 0 where
-    pub few : (x : ℕ) → at_addr x all ≤ at_addr x (left at) + 1
-    pub same : (x : ℕ) → floor ≤ x → at_addr x all ≡ at_addr x (left at)
+  pub record Below (floor : ℕ) (x : Chains) : Type 0 where
+    pub go : CanGo x
+    pub few : (z : ℕ) → at_addr z all ≤ at_addr z (rest x) + 1
+    pub same : (z : ℕ) → floor ≤ z → at_addr z all ≡ at_addr z (rest x)
 
-  module _ (g : Given s a b c) where
-    begin : (x : ℕ) → at_addr x (left start) ≡ at_addr x all
-    begin x = ap (at_addr x) (rest_all s a b c)
+  pub apart_start : (x : Chains) → CanGo x → rest x ≡ all → Apart x
+  apart_start x g e = record { go = g; few = λ z. omega (arith, ap (at_addr z) e); same = λ z h. sym (ap (at_addr z) e) }
 
-    pub apart_start : (at : Cursor) → at ≡ start → Apart at
-    apart_start at e = rw e (record { few = λ x. omega (arith, begin x); same = λ x h. sym (begin x) })
+  pub below_start : (x : Chains) → CanGo x → rest x ≡ all → Below 0 x
+  below_start x g e = record { go = g; few = λ z. omega (arith, ap (at_addr z) e); same = λ z h. sym (ap (at_addr z) e) }
 
-    pub below_start : (at : Cursor) → at ≡ start → Below 0 at
-    below_start at e = rw e (record { few = λ x. omega (arith, begin x); same = λ x h. sym (begin x) })
+module _ (x : Chains) (e : rest x ≡ []) where
+  done : (z : ℕ) → at_addr z (rest x) ≡ 0
+  done z = ap (at_addr z) e ∙ at-nil z
 
-    module _ (at : Cursor) (r : Step) (w : Stepped s a b c at r) (e : r.end ≡ true) where
-      done : (x : ℕ) → at_addr x (left at) ≡ 0
-      done x = ap (at_addr x) (w.none e) ∙ at-nil x
+  pub unmet_end : (t : Chain) (first : Chains) → Unmet t first x → Meet false (sections_in t) (rest first)
+  unmet_end t first h = λ z l. sym (h z l) ∙ done z
 
-      pub unmet_end : (t : Step) → Unmet t at → Meet false (sections_in t.chain) (left t.at)
-      unmet_end t h = λ x l. sym (h x l) ∙ done x
+  pub apart_end : (all : List FreeSection) → Apart all x → false ≡ repeats all
+  apart_end all p = repeats-not all (λ z. omega (arith, p.few z, done z))
 
-      pub apart_end : Apart at → false ≡ repeats all
-      apart_end p = repeats-not all (λ x. omega (arith, p.few x, done x))
+  pub below_end : (all : List FreeSection) (floor : ℕ) → Below all floor x → repeats all ≡ false
+  below_end all floor p = sym (repeats-not all (λ z. omega (arith, p.few z, done z)))
 
-      pub below_end : (floor : ℕ) → Below floor at → repeats all ≡ false
-      below_end floor p = sym (repeats-not all (λ x. omega (arith, p.few x, done x)))
+module _ (x : Chains) (u : Chain) (y : Chains) (w : Taking x u y) (g : CanGo x) where
+  parts : (z : ℕ) → at_addr z (rest x) ≡ at_addr z (sections_in u) + at_addr z (rest y)
+  parts z = take_by x u y w g (at_addr z) (at-sorted z) ∙ at-append z (sections_in u) (rest y)
 
-    module _ (at : Cursor) (u : Step) (w : Stepped s a b c at u) (ve : u.end ≡ false) where
-      pub taking : Taking s a b c at u
-      taking = w.some ve
+  module _ (t : Chain) (first : Chains) (h : Unmet t first x) (r : Bool) (m : Meet r (sections_in t) (sections_in u)) where
+    pub unmet_found : r ≡ true → Meet true (sections_in t) (rest first)
+    unmet_found e =
+        let q = meet_yes (sections_in t) (sections_in u) r m e in
+        record { addr = q.addr; first = q.first; second = omega (arith, h q.addr q.first, parts q.addr, q.second) }
 
-      parts : (x : ℕ) → at_addr x (left at) ≡ at_addr x (sections_in u.chain) + at_addr x (left u.at)
-      parts x = take_by s a b c g at u taking (at_addr x) (at-sorted x) ∙ at-append x (sections_in u.chain) (left u.at)
+    pub unmet_step : r ≡ false → Unmet t first y
+    unmet_step e = λ z l. omega (arith, meet_no (sections_in t) (sections_in u) r m e z l, parts z, h z l)
 
-      module _ (t : Step) (h : Unmet t at) (r : Bool) (m : Meet r (sections_in t.chain) (sections_in u.chain)) where
-        pub unmet_found : r ≡ true → Meet true (sections_in t.chain) (left t.at)
-        unmet_found e =
-            let q = meet_yes (sections_in t.chain) (sections_in u.chain) r m e in
-            record { addr = q.addr; first = q.first; second = omega (arith, h q.addr q.first, parts q.addr, q.second) }
+module _ (all : List FreeSection) (x : Chains) (u : Chain) (y : Chains) (w : Taking x u y) where
+  module _ (p : Apart all x) (r : Bool) (m : Meet r (sections_in u) (rest y)) where
+    pub apart_found : r ≡ true → true ≡ repeats all
+    apart_found e =
+        let q = meet_yes (sections_in u) (rest y) r m e in
+        let parts-q = parts x u y w p.go q.addr in
+        let l : 0 < at_addr q.addr (rest x) = omega (arith, parts-q, q.first) in
+        repeats_yes all q.addr (omega (arith, parts-q, q.first, q.second, p.same q.addr l))
 
-        pub unmet_step : r ≡ false → Unmet t u.at
-        unmet_step e = λ x l. omega (arith, meet_no (sections_in t.chain) (sections_in u.chain) r m e x l, parts x, h x l)
+    pub apart_step : r ≡ false → Apart all y
+    apart_step e = record { go = w.goes p.go; few = few_then; same = same_then }
+      where
+        apart : (z : ℕ) → 0 < at_addr z (sections_in u) → at_addr z (rest y) ≡ 0
+        apart = meet_no (sections_in u) (rest y) r m e
 
-      module _ (p : Apart at) (r : Bool) (m : Meet r (sections_in u.chain) (left u.at)) where
-        pub apart_found : r ≡ true → true ≡ repeats all
-        apart_found e =
-            let q = meet_yes (sections_in u.chain) (left u.at) r m e in
-            let y : 0 < at_addr q.addr (left at) = omega (arith, parts q.addr, q.first) in
-            repeats_yes all q.addr (omega (arith, parts q.addr, q.first, q.second, p.same q.addr y))
+        few_then : (z : ℕ) → at_addr z all ≤ at_addr z (rest y) + 1
+        few_then z =
+            let parts-z = parts x u y w p.go z in
+            ⊎_elim
+            (λ (k : at_addr z (sections_in u) ≤ 0). omega (arith, parts-z, p.few z))
+            (λ (k : 0 < at_addr z (sections_in u)). let l : 0 < at_addr z (rest x) = omega (arith, parts-z) in omega (arith, parts-z, apart z k, p.same z l, once x.source.page u p.go.some w.pages z))
+            (le-or-lt (at_addr z (sections_in u)) 0)
 
-        pub apart_step : r ≡ false → Apart u.at
-        apart_step e = record { few = few_then; same = same_then }
-          where
-            apart : (x : ℕ) → 0 < at_addr x (sections_in u.chain) → at_addr x (left u.at) ≡ 0
-            apart = meet_no (sections_in u.chain) (left u.at) r m e
+        same_then : (z : ℕ) → 0 < at_addr z (rest y) → at_addr z all ≡ at_addr z (rest y)
+        same_then z l =
+            let parts-z = parts x u y w p.go z in
+            ⊎_elim
+            (λ (k : at_addr z (sections_in u) ≤ 0). let v : 0 < at_addr z (rest x) = omega (arith, parts-z) in omega (arith, parts-z, p.same z v))
+            (λ (k : 0 < at_addr z (sections_in u)). absurd (omega (arith, apart z k)))
+            (le-or-lt (at_addr z (sections_in u)) 0)
 
-            few_then : (x : ℕ) → at_addr x all ≤ at_addr x (left u.at) + 1
-            few_then x =
-                ⊎_elim
-                (λ (z : at_addr x (sections_in u.chain) ≤ 0). omega (arith, parts x, p.few x))
-                (λ (z : 0 < at_addr x (sections_in u.chain)). let y : 0 < at_addr x (left at) = omega (arith, parts x) in omega (arith, parts x, apart x z, p.same x y, once s.page u.chain g.some taking.pages x))
-                (le-or-lt (at_addr x (sections_in u.chain)) 0)
+  module _ (floor : ℕ) (p : Below all floor x) where
+    rise : (f : ℕ) → Raised floor u (Some f) → Below all f y
+    rise f q = record { go = w.goes p.go; few = few_then; same = same_then }
+      where
+        few_then : (z : ℕ) → at_addr z all ≤ at_addr z (rest y) + 1
+        few_then z =
+            let parts-z = parts x u y w p.go z in
+            ⊎_elim
+            (λ (k : at_addr z (sections_in u) ≤ 0). omega (arith, parts-z, p.few z))
+            (λ (k : 0 < at_addr z (sections_in u)). omega (arith, parts-z, p.same z (q.1 z k).0, once x.source.page u p.go.some w.pages z))
+            (le-or-lt (at_addr z (sections_in u)) 0)
 
-            same_then : (x : ℕ) → 0 < at_addr x (left u.at) → at_addr x all ≡ at_addr x (left u.at)
-            same_then x l =
-                ⊎_elim
-                (λ (z : at_addr x (sections_in u.chain) ≤ 0). let y : 0 < at_addr x (left at) = omega (arith, parts x) in omega (arith, parts x, p.same x y))
-                (λ (z : 0 < at_addr x (sections_in u.chain)). absurd (omega (arith, apart x z)))
-                (le-or-lt (at_addr x (sections_in u.chain)) 0)
+        same_then : (z : ℕ) → f ≤ z → at_addr z all ≡ at_addr z (rest y)
+        same_then z l =
+            let parts-z = parts x u y w p.go z in
+            ⊎_elim
+            (λ (k : at_addr z (sections_in u) ≤ 0). omega (arith, parts-z, p.same z (omega (arith, q.0))))
+            (λ (k : 0 < at_addr z (sections_in u)). absurd (omega (arith, (q.1 z k).1)))
+            (le-or-lt (at_addr z (sections_in u)) 0)
 
-      rise : (floor f : ℕ) → Below floor at → Raised floor u.chain (To f) → Below f u.at
-      rise floor f p q = record { few = few_then; same = same_then }
-        where
-          few_then : (x : ℕ) → at_addr x all ≤ at_addr x (left u.at) + 1
-          few_then x =
-              ⊎_elim
-              (λ (z : at_addr x (sections_in u.chain) ≤ 0). omega (arith, parts x, p.few x))
-              (λ (z : 0 < at_addr x (sections_in u.chain)). omega (arith, parts x, p.same x (q.1 x z).0, once s.page u.chain g.some taking.pages x))
-              (le-or-lt (at_addr x (sections_in u.chain)) 0)
-
-          same_then : (x : ℕ) → f ≤ x → at_addr x all ≡ at_addr x (left u.at)
-          same_then x l =
-              ⊎_elim
-              (λ (z : at_addr x (sections_in u.chain) ≤ 0). omega (arith, parts x, p.same x (omega (arith, q.0))))
-              (λ (z : 0 < at_addr x (sections_in u.chain)). absurd (omega (arith, (q.1 x z).1)))
-              (le-or-lt (at_addr x (sections_in u.chain)) 0)
-
-      pub below_step : (floor f : ℕ) → Below floor at → (r : Floor) → Raised floor u.chain r → r ≡ To f → Below f u.at
-      below_step floor f p r h e = rise floor f p (subst (λ (x : Floor). Raised floor u.chain x) e h)
+    pub below_step : (f : ℕ) → (r : (Option ℕ)) → Raised floor u r → r ≡ Some f → Below all f y
+    below_step f r h e = rise f (subst (λ (v : (Option ℕ)). Raised floor u v) e h)

@@ -23,11 +23,9 @@
 --   planned_blocks   `plan_blocks`: the limit is the undefined address of O bytes. A block that begins below it has an address that fits, and that no
 --                    reader skips (P2: "a plan that begins a block there is 12")
 --   Ready            what holds after run_tests and slots_measured: for contracts of private functions
---   measured_outcome, measures_outcome, blocks_outcome   the outcome that an answer of the code stands for ("Language forms": "for every case of the
---                    enum")
 use Rattle.std.specs.Prelude.{◌≡◌, ℕ, ◌+◌, ◌≤◌, Bool, false, cond, ◌&&◌, ◌||◌, not, List, [], ◌∷◌, ltb, leb, eqb, length}
 use Rattle.error.specs.declared.Refusal.TheVariants.{Width, Page, NotAList, Overflow, SharedAddress, WideAddress}
-use Rattle.error.specs.Outcome.{Outcome, answer, refused, Condition, when, first_of, and_then}
+use Rattle.error.specs.Outcome.{Outcome, answer, Condition, when, first_of, and_then}
 use Rattle.fields.specs.Ranges.{top, undefined_addr}
 use Rattle.fields.specs.Width.{valid_width}
 use Rattle.pairs.specs.Pairs.{is_run}
@@ -41,16 +39,10 @@ use Rattle.fsm_blocks.specs.Settings.{blocks_size}
 use Rattle.fsm_plan.specs.declared.Counts.{Counts}
 use Rattle.fsm_plan.specs.declared.chains.Paged.{Paged}
 use Rattle.fsm_plan.specs.declared.measure.Measure.{Measure}
-use Rattle.fsm_plan.specs.declared.measure.Measured.{Measured}
-use Rattle.fsm_plan.specs.declared.measure.Measured.TheVariants as code
 use Rattle.fsm_plan.specs.declared.blocks.Measures.{Measures}
-use Rattle.fsm_plan.specs.declared.blocks.SlotsMeasured.{SlotsMeasured}
-use Rattle.fsm_plan.specs.declared.blocks.SlotsMeasured.TheVariants as slots
 use Rattle.fsm_plan.specs.declared.blocks.PagedManagerBlock.{PagedManagerBlock}
 use Rattle.fsm_plan.specs.declared.blocks.PagedManagerPlan.{PagedManagerPlan}
 use Rattle.fsm_plan.specs.declared.blocks.BlocksPlan.{BlocksPlan}
-use Rattle.fsm_plan.specs.declared.blocks.BlocksPlanned.{BlocksPlanned}
-use Rattle.fsm_plan.specs.declared.blocks.BlocksPlanned.TheVariants as blocks
 use Rattle.fsm_plan.specs.Order.{repeats, source_of}
 
 -- ---- the sections of the slots
@@ -165,15 +157,3 @@ module _ (a b c : List ℕ) where
     pub fits_a : ends_above (decode s.na a) ≡ false
     pub fits_b : ends_above (decode s.nb b) ≡ false
     pub measures : m ≡ measures_of s a b c O
-
-abbrev pub measured_outcome : Measured → Outcome Measure
-measured_outcome (code.Is m) = answer m
-measured_outcome (code.Refused r) = refused r
-
-abbrev pub measures_outcome : SlotsMeasured → Outcome Measures
-measures_outcome (slots.Are m) = answer m
-measures_outcome (slots.Refused r) = refused r
-
-abbrev pub blocks_outcome : BlocksPlanned → Outcome BlocksPlan
-blocks_outcome (blocks.Plan p) = answer p
-blocks_outcome (blocks.Refused r) = refused r

@@ -5,10 +5,9 @@
 --   Counted           the counts of a plan are theirs: for contracts of private functions
 --   planned_into      refusal 14; the managers of a plan, and the sections in the lent run
 --   planned           `plan_paged_managers`: refusals 1, 2, 3 (also an odd output run), the others of `plan_blocks`, then planned_into
---   planned_outcome   the outcome that an answer of the code stands for ("Language forms": "for every case of the enum")
 use Rattle.std.specs.Prelude.{◌≡◌, ℕ, ◌+◌, ◌/◌, ◌≤◌, not, List, [], ◌∷◌, ◌++◌, ltb, eqb, length}
 use Rattle.error.specs.declared.Refusal.TheVariants.{Width, Page, NotAList, OverCapacity}
-use Rattle.error.specs.Outcome.{Outcome, answer, refused, when, first_of, and_then}
+use Rattle.error.specs.Outcome.{Outcome, answer, when, first_of, and_then}
 use Rattle.error.specs.Lent.{With, with, over}
 use Rattle.fields.specs.Ranges.{top}
 use Rattle.fields.specs.Width.{valid_width}
@@ -18,8 +17,6 @@ use Rattle.fsm_sections.specs.Sections.{flat}
 use Rattle.fsm_plan.specs.declared.Counts.{Counts}
 use Rattle.fsm_plan.specs.declared.chains.Paged.{Paged}
 use Rattle.fsm_plan.specs.declared.blocks.PagedManagerPlan.{PagedManagerPlan}
-use Rattle.fsm_plan.specs.declared.plan.Planned.{Planned}
-use Rattle.fsm_plan.specs.declared.plan.Planned.TheVariants as code
 use Rattle.fsm_plan.specs.Order.{by_addr}
 use Rattle.fsm_plan.specs.Blocks.{paged, in_slot0, in_slot2, in_large, planned_blocks}
 
@@ -49,7 +46,3 @@ planned a b c n page start O out =
     ∷ when (not (is_even out)) NotAList
     ∷ [])
     (and_then (planned_blocks a b c n page start O) (λ p. planned_into (paged n page) a b c p.managers out))
-
-abbrev pub planned_outcome : Planned → Outcome PagedManagerPlan
-planned_outcome (code.Plan p) = answer p
-planned_outcome (code.Refused r) = refused r

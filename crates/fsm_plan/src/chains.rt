@@ -2,10 +2,12 @@
 ghost use Rattle.std.specs.Prelude.{◌≡◌};
 ghost use Rattle.fsm_plan.specs.Order.{source_of};
 
-use fsm_sections::{Part, Source};
+use crate::Counts;
+use crate::measure::large_source;
+use fsm_sections::Source;
 
 // How many metadata, raw and unclassified regions there are, and the page size.
-#[derive(Clone, Copy)]
+#[derive(Clone, Copy, Debug, PartialEq, Eq)]
 pub struct Paged {
     pub na: usize,
     pub nb: usize,
@@ -17,13 +19,10 @@ pub struct Paged {
 pub(crate) fn source_of(s: Paged) -> Source
     ensures { result ≡ source_of s }
 {
-    Source {
-        na: s.na,
-        pa: Part::Pages,
-        nb: s.nb,
-        pb: Part::Pages,
-        nc: s.nc,
-        pc: Part::Whole,
-        page: s.page,
-    }
+    let n = Counts {
+        meta: s.na,
+        raw: s.nb,
+        unclassified: s.nc,
+    };
+    large_source(n, s.page)
 }

@@ -11,7 +11,7 @@ mod runs;
 mod sharing;
 
 // How many metadata, raw and unclassified regions there are.
-#[derive(Clone, Copy)]
+#[derive(Clone, Copy, Debug, PartialEq, Eq)]
 pub struct Counts {
     pub meta: usize,
     pub raw: usize,

@@ -8,7 +8,7 @@ ghost use Rattle.fsm_plan.specs.Order.{source_of};
 ghost use Rattle.fsm_plan.specs.Blocks.{wide_sections};
 
 use crate::chains::Paged;
-use fsm_sections::run::{RunCursor, next_in};
+use fsm_sections::run::Regions;
 use fsm_sections::wide::{any_wide, is_wide};
 use numbers::quotient;
 
@@ -21,10 +21,7 @@ fn wide_piece(page: u64, addr: u64, size: u64, o: usize) -> bool
         return false;
     }
     let last = quotient(addr + (size - 1), page) * page;
-    if last < addr {
-        return is_wide(addr, o);
-    }
-    is_wide(last, o)
+    is_wide(last.max(addr), o)
 }
 
 // Whether the address of a piece of one of the sections does not.
@@ -33,17 +30,12 @@ fn wide_pieces(sections: &[u64], count: usize, page: u64, o: usize) -> bool
     requires fits { ends_above (decode count sections.now) ≡ false }
     ensures { result ≡ any_wide o (split page (decode count sections.now)) }
 {
-    let mut at = RunCursor::start();
-    loop {
-        let t = next_in(sections, count, at);
-        if t.end {
-            return false;
-        }
-        if wide_piece(page, t.region.addr, t.region.size, o) {
+    for region in Regions::new(sections, count) {
+        if wide_piece(page, region.addr, region.size, o) {
             return true;
         }
-        at = t.at;
     }
+    false
 }
 
 // Whether the address of a section of a slot does not fit o bytes.
@@ -58,11 +50,7 @@ pub(crate) fn wide_slots(
     requires fits { (ends_above (decode s.na meta.now) ≡ false) × (ends_above (decode s.nb raw.now) ≡ false) }
     ensures { result ≡ wide_sections s meta.now raw.now unclassified.now o }
 {
-    if wide_pieces(meta, s.na, s.page, o) {
-        return true;
-    }
-    if wide_pieces(raw, s.nb, s.page, o) {
-        return true;
-    }
-    any_wide(unclassified, s.nc, o)
+    wide_pieces(meta, s.na, s.page, o)
+        || wide_pieces(raw, s.nb, s.page, o)
+        || any_wide(unclassified, s.nc, o)
 }

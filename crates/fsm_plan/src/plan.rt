@@ -1,25 +1,19 @@
 // The managers of a paged file: the plan of their blocks, and the sections of each slot in a lent run.
 ghost use Rattle.std.specs.Prelude.{◌≡◌, ◌*◌, ◌≤◌, false, length};
+ghost use Rattle.error.specs.Answers.{as_outcome};
 ghost use Rattle.error.specs.Lent.{left, leaving, over};
 ghost use Rattle.fsm_sections.specs.Sections.{decode, flat};
 ghost use Rattle.fsm_sections.specs.Sources.{Given};
 ghost use Rattle.fsm_sections.specs.Runs.{ends_above};
 ghost use Rattle.fsm_plan.specs.Order.{source_of};
-ghost use Rattle.fsm_plan.specs.Plan.{Counted, planned, plan_sections, plan_count, planned_into, planned_outcome};
+ghost use Rattle.fsm_plan.specs.Plan.{Counted, planned, plan_sections, plan_count, planned_into};
 
 use crate::Counts;
-use crate::blocks::{BlocksPlanned, PagedManagerPlan, plan_blocks};
+use crate::blocks::{PagedManagerPlan, plan_blocks};
 use crate::chains::{Paged, source_of};
 use crate::put::{put_large, put_small};
 use error::Refusal;
 use fields::width::is_width;
-
-// What the planning answers: the plan, or a refusal.
-#[derive(Clone, Copy)]
-pub enum Planned {
-    Plan(PagedManagerPlan),
-    Refused(Refusal),
-}
 
 // Puts the sections of slots 0, 2 and 6.
 fn put_slots(meta: &[u64], raw: &[u64], unclassified: &[u64], s: Paged, out: &mut [u64])
@@ -42,23 +36,23 @@ fn put_plan(
     s: Paged,
     p: PagedManagerPlan,
     out: &mut [u64],
-) -> Planned
+) -> Result<PagedManagerPlan, Refusal>
     requires given { Given (source_of s) meta.now raw.now unclassified.now }
     requires fits { (ends_above (decode s.na meta.now) ≡ false) × (ends_above (decode s.nb raw.now) ≡ false) }
     requires counted { Counted s meta.now raw.now unclassified.now p }
-    ensures { left (planned_outcome result) out.new
+    ensures { left (as_outcome result) out.new
         ≡ leaving out.old (planned_into s meta.now raw.now unclassified.now p out.old) }
 {
     let needed = (p.slot0.count + p.slot2.count + p.slot6.count) as u64;
     let capacity = (out.len() / 2) as u64;
     if capacity < needed {
-        return Planned::Refused(Refusal::OverCapacity {
-            needed: needed,
+        return Err(Refusal::OverCapacity {
+            needed,
             given: capacity,
         });
     }
     put_slots(meta, raw, unclassified, s, out);
-    Planned::Plan(p)
+    Ok(p)
 }
 
 // Classes metadata, raw and unclassified sections into slots 0, 2 and 6, puts them into the run `out` slot by slot, and places their
@@ -72,31 +66,26 @@ pub fn plan_paged_managers(
     start: u64,
     offset_size: u8,
     out: &mut [u64],
-) -> Planned
-    ensures { left (planned_outcome result) out.new
+) -> Result<PagedManagerPlan, Refusal>
+    ensures { left (as_outcome result) out.new
         ≡ leaving out.old (planned meta.now raw.now unclassified.now n page start offset_size
         out.old) }
 {
     if !is_width(offset_size) {
-        return Planned::Refused(Refusal::Width);
+        return Err(Refusal::Width);
     }
     if page == 0 {
-        return Planned::Refused(Refusal::Page);
+        return Err(Refusal::Page);
     }
     if out.len() % 2 != 0 {
-        return Planned::Refused(Refusal::NotAList);
+        return Err(Refusal::NotAList);
     }
-    let planned = plan_blocks(meta, raw, unclassified, n, page, start, offset_size);
-    match planned {
-        BlocksPlanned::Refused(r) => Planned::Refused(r),
-        BlocksPlanned::Plan(p) => {
-            let s = Paged {
-                na: n.meta,
-                nb: n.raw,
-                nc: n.unclassified,
-                page: page,
-            };
-            put_plan(meta, raw, unclassified, s, p.managers, out)
-        }
-    }
+    let p = plan_blocks(meta, raw, unclassified, n, page, start, offset_size)?;
+    let s = Paged {
+        na: n.meta,
+        nb: n.raw,
+        nc: n.unclassified,
+        page,
+    };
+    put_plan(meta, raw, unclassified, s, p.managers, out)
 }

@@ -16,22 +16,18 @@ use Rattle.fsm_sections.proofs.PassLaws.{by_order}
 
 module _ (test : FreeSection → Bool) (l : List FreeSection) (v : Bool) (p : any_of test l ≡ v) where
   pub any_none : l ≡ [] → false ≡ v
-  unfolding any_of
   any_none e = ap (any_of test) (sym e) ∙ p
 
   module _ (x : FreeSection) (m : List FreeSection) (e : l ≡ x ∷ m) (t : Bool) (f : t ≡ test x) where
     pub any_found : t ≡ true → true ≡ v
-    unfolding any_of
     any_found h = sym (ap (any_of test) e ∙ rw (← f, h)) ∙ p
 
     pub any_step : t ≡ false → any_of test m ≡ v
-    unfolding any_of
     any_step h = sym (ap (any_of test) e ∙ rw (← f, h)) ∙ p
 
 -- ---- a test of some section, in whatever order
 
 pub any_sorted : (test : FreeSection → Bool) (l : List FreeSection) → any_of test (by_size_then_addr l) ≡ any_of test l
-unfolding any_of
 any_sorted test = by_order (any_of test) (λ s l m e. ap (λ (t : Bool). test s || t) e) (λ s t l. swap (test s) (test t) (any_of test l))
   where
     swap : (x y z : Bool) → (x || (y || z)) ≡ (y || (x || z))
@@ -49,7 +45,6 @@ late_is a z h =
     (le-or-lt a (18446744073709551615 - z))
 
 pub ends_any : (rs : List FreeSection) → ends_above rs ≡ any_of (λ r. ltb top (end r)) rs
-unfolding any_of
 ends_any [] = refl
 ends_any (r ∷ rs) = ap (λ (t : Bool). ltb top (end r) || t) (ends_any rs)
 

@@ -1,13 +1,12 @@
 -- Steps of a pass over the regions of a run. Assumes nothing.
-use Rattle.std.proofs.Common.{◌≡◌, ℕ, zero, suc, ◌+◌, ◌*◌, ◌/◌, ◌<◌, ◌≤◌, min, true, false, List, [], ◌∷◌, length, drop, sym, refl, ap, ◌∙◌, subst, arith}
+use Rattle.std.proofs.Common.{◌≡◌, ℕ, zero, suc, ◌-◌, ◌*◌, ◌/◌, ◌<◌, ◌≤◌, min, List, [], ◌∷◌, length, take, drop, get_or, sym, refl, ap, ◌∙◌, arith}
+use Rattle.std.specs.Prelude.{Some, None}
+use Rattle.std.proofs.Math.Seq.{take-nil}
+use Rattle.std.proofs.lemmas.List.{take_rest}
 use native.Mathlib.Nat.{zero-min, min-zero}
-use Rattle.pairs.proofs.PairLaws.{decode-drop, decode-end}
 use Rattle.fsm_sections.specs.declared.FreeSection.{FreeSection}
-use Rattle.fsm_sections.specs.declared.run.RunCursor.{RunCursor}
-use Rattle.fsm_sections.specs.declared.run.RunStep.{RunStep}
-use Rattle.fsm_sections.specs.Sections.{section, decode, section_at, All}
-use Rattle.fsm_sections.proofs.AllLaws.{all_drop}
-use Rattle.fsm_sections.specs.RunSteps.{run_start, rest_in, taken_of}
+use Rattle.fsm_sections.specs.Sections.{section, decode}
+use Rattle.fsm_sections.specs.RunSteps.{regions_of, first_of}
 
 -- ---- no more pairs are read than there are
 
@@ -22,37 +21,45 @@ decode-least (suc n) (a ∷ s ∷ xs) =
 pub decode-present : (m n : ℕ) (xs : List ℕ) → m ≡ min n (length xs / 2) → decode m xs ≡ decode n xs
 decode-present m n xs e = ap (λ (k : ℕ). decode k xs) e ∙ sym (decode-least n xs)
 
--- ---- what is left at a cursor, where the run has m of n pairs
+-- ---- the regions of a run
 
-module _ (n : ℕ) (run : List ℕ) (m : ℕ) (e : m ≡ min n (length run / 2)) (at : RunCursor) where
-  room : 2 * m ≤ length run
-  room = omega arith
+regions-all : (xs : List ℕ) → regions_of xs ≡ decode (length xs / 2) xs
+unfolding regions_of
+regions-all [] = refl
+regions-all (a ∷ []) = refl
+regions-all (a ∷ s ∷ xs) = let e : suc (suc (length xs)) / 2 ≡ suc (length xs / 2) = omega arith in rw e (ap (λ (l : List FreeSection). section a s ∷ l) (regions-all xs))
 
-  pub rest_end : m ≤ at.i → rest_in n run at ≡ []
-  unfolding rest_in
-  rest_end h = ap (drop at.i) (sym (decode-present m n run e)) ∙ decode-end section m at.i run h room
+decode-take : (m : ℕ) (xs : List ℕ) → regions_of (take (2 * m) xs) ≡ decode m xs
+unfolding regions_of
+decode-take zero xs = refl
+decode-take (suc m) [] = ap regions_of (take-nil (2 * suc m))
+decode-take (suc m) (a ∷ []) = let e : 2 * suc m ≡ suc (suc (2 * m)) = omega arith in rw e (ap (λ (l : List ℕ). regions_of (a ∷ l)) (take-nil (suc (2 * m))))
+decode-take (suc m) (a ∷ s ∷ xs) = let e : 2 * suc m ≡ suc (suc (2 * m)) = omega arith in rw e (ap (λ (l : List FreeSection). section a s ∷ l) (decode-take m xs))
 
-  pub rest-next : at.i < m → rest_in n run at ≡ section_at run at.i ∷ rest_in n run (record { i = at.i + 1 })
-  unfolding rest_in
-  rest-next h = rw (← decode-present m n run e) (decode-drop section m at.i run h room)
+-- the first so many regions of a run, as many as it has
+pub regions-new : (n : ℕ) (xs : List ℕ) (m : ℕ) → m ≡ min n (length xs / 2) → regions_of (take (2 * m) xs) ≡ decode n xs
+regions-new n xs m e = decode-take m xs ∙ decode-present m n xs e
 
--- ---- a step
+pub regions-few : (xs : List ℕ) → length xs < 2 → None ≡ first_of (regions_of xs)
+unfolding regions_of
+regions-few [] h = refl
+regions-few (a ∷ []) h = refl
+regions-few (a ∷ s ∷ xs) h = absurd (omega arith)
 
-pub rest-start : (n : ℕ) (run : List ℕ) → rest_in n run run_start ≡ decode n run
-unfolding rest_in
-rest-start n run = refl
+pub regions-first : (xs : List ℕ) → 2 ≤ length xs → Some (section (get_or xs 0 0) (get_or xs 1 0)) ≡ first_of (regions_of xs)
+unfolding regions_of
+regions-first [] h = absurd (omega arith)
+regions-first (a ∷ []) h = absurd (omega arith)
+regions-first (a ∷ s ∷ xs) h = refl
 
-module _ (n : ℕ) (run : List ℕ) (at : RunCursor) (t : RunStep) (e : rest_in n run at ≡ taken_of n run t) where
-  pub ended : t.end ≡ true → rest_in n run at ≡ []
-  ended h = e ∙ rw h refl
+pub regions-some : (xs : List ℕ) (x : FreeSection) → Some x ≡ first_of (regions_of xs) → (2 ≤ length xs) × (regions_of xs ≡ x ∷ regions_of (take (length xs - 2) (drop 2 xs)))
+unfolding regions_of
+regions-some [] x e = let z : ◌≡◌ {A = ℕ} 0 1 = cc in absurd (omega arith)
+regions-some (a ∷ []) x e = let z : ◌≡◌ {A = ℕ} 0 1 = cc in absurd (omega arith)
+regions-some (a ∷ s ∷ xs) x e = let q : x ≡ section a s = cc in (omega arith, rw (take_rest (a ∷ s ∷ xs) 2) (ap (λ (y : FreeSection). y ∷ regions_of xs) (sym q)))
 
-  pub went : t.end ≡ false → rest_in n run at ≡ t.region ∷ rest_in n run t.at
-  went h = e ∙ rw h refl
-
-  pub fewer : t.end ≡ false → length (rest_in n run t.at) < length (rest_in n run at)
-  fewer h = omega (arith, ap length (went h))
-
--- what holds of all regions holds of the first that is left
-pub first-left : (P : FreeSection → Type 0) (n : ℕ) (run : List ℕ) (at : RunCursor) (x : FreeSection) (l : List FreeSection) → rest_in n run at ≡ x ∷ l → All P (decode n run) → P x
-unfolding rest_in
-first-left P n run at x l e h = (subst (All P) e (all_drop P at.i (decode n run) h)).0
+pub regions-length : (xs : List ℕ) → length (regions_of xs) ≡ length xs / 2
+unfolding regions_of
+regions-length [] = refl
+regions-length (a ∷ []) = refl
+regions-length (a ∷ s ∷ xs) = omega (arith, regions-length xs)

@@ -1,38 +1,27 @@
 -- A step of a pass: the chain of the region that comes next, and what it takes of the sections that are left. Assumes nothing.
-use Rattle.std.proofs.Common.{◌≡◌, ℕ, zero, suc, ◌+◌, ◌%◌, ◌<◌, Bool, true, false, cond, eqb, List, [], ◌∷◌, ◌++◌, length, sym, refl, ap, ◌∙◌, subst, ap₂, append_assoc, arith, length-append, ne_eqb}
+use Rattle.std.proofs.Common.{◌≡◌, ℕ, ◌+◌, ◌%◌, ◌<◌, Bool, true, false, cond, eqb, List, [], ◌∷◌, ◌++◌, length, sym, refl, ap, ◌∙◌, subst, ap₂, append_assoc, arith, length-append}
+use Rattle.std.specs.Prelude.{None, Some}
 use Rattle.fsm_sections.specs.declared.FreeSection.{FreeSection}
 use Rattle.fsm_sections.specs.declared.Chain.{Chain}
 use Rattle.fsm_sections.specs.declared.Part.{Part}
 use Rattle.fsm_sections.specs.declared.Part.TheVariants.{Head, Pages, Tail, Whole}
 use Rattle.fsm_sections.specs.declared.Source.{Source}
+use Rattle.fsm_sections.specs.declared.next.Run.{Run}
+use Rattle.fsm_sections.specs.declared.next.Run.TheVariants.{A, B, C}
 use Rattle.fsm_sections.specs.declared.next.Region.{Region}
-use Rattle.fsm_sections.specs.declared.next.Cursor.{Cursor}
-use Rattle.fsm_sections.specs.declared.next.Step.{Step}
-use Rattle.fsm_sections.specs.Sections.{by_size_then_addr, times, of_size}
+use Rattle.fsm_sections.specs.declared.next.Merged.{Merged}
+use Rattle.fsm_sections.specs.declared.next.Chains.{Chains}
+use Rattle.fsm_sections.specs.Sections.{by_size_then_addr, times, of_size, All}
 use Rattle.fsm_sections.specs.Chains.{sections_in, sections_of, ChainFits}
 use Rattle.fsm_sections.specs.Sources.{head_size, body_size, part_of, chains_in, chains_of, part_in, Given, PartFits, PartIs}
-use Rattle.fsm_sections.specs.RunSteps.{rest_in}
-use Rattle.fsm_sections.specs.Nexts.{start, is_first, Rests, rests, rests_at, NextIs}
-use Rattle.fsm_sections.specs.Steps.{rest, Taking}
-use Rattle.fsm_sections.proofs.RunStepLaws.{first-left}
+use Rattle.fsm_sections.specs.Nexts.{Rests, rests, rests_of, regions_count, NextIs}
+use Rattle.fsm_sections.specs.Steps.{sections, rest, CanGo, Began, Taking}
 use Rattle.fsm_sections.proofs.SectionsLaws.{length-sorted}
 use Rattle.fsm_sections.proofs.SortLaws.{times-sorted}
 use Rattle.fsm_sections.proofs.SizesLaws.{of_size-append, length-chain, of_size-chain, of_size-sorted}
 use Rattle.fsm_sections.proofs.SlotLaws.{times-append, sections-append}
 use Rattle.fsm_sections.proofs.SourceLaws.{part_fits, part_all, swap}
-use Rattle.fsm_sections.proofs.NextLaws.{choice_3, next_a, next_b, next_c, next-none}
-
--- ---- the part that is meant of a run's regions
-
-module _ (s : Source) (w : ℕ) where
-  pub part_0 : w ≡ 0 → s.pa ≡ part_in s w
-  part_0 e = rw e refl
-
-  pub part_1 : w ≡ 1 → s.pb ≡ part_in s w
-  part_1 e = rw e refl
-
-  pub part_2 : (w ≡ 0 → ⊥) → (w ≡ 1 → ⊥) → s.pc ≡ part_in s w
-  part_2 e f = rw (ne_eqb w 0 e, ne_eqb w 1 f) refl
+use Rattle.fsm_sections.proofs.NextLaws.{next_a, next_b, next_c, next-none}
 
 -- ---- a chain of more than one section
 
@@ -57,124 +46,132 @@ front : (r : Chain) (l m : List Chain) → by_size_then_addr (sections_of (l ++ 
 unfolding sections_of
 front r l m = rw (sections-append l (r ∷ m), sections-append l m) (swap (sections_of l) (sections_in r) (sections_of m))
 
--- the sections of what is left
-abbrev sections : Source → Rests → List FreeSection
-sections s l = sections_of (chains_in s.pa s.page l.of_a ++ (chains_in s.pb s.page l.of_b ++ chains_in s.pc s.page l.of_c))
+module _ (c : Chains) where
+  pub rest-is : rest c ≡ sections c.source (rests_of c.regions)
+  unfolding rest
+  rest-is = refl
 
-rest-is : (s : Source) (a b c : List ℕ) (at : Cursor) → rest s a b c at ≡ sections s (rests_at s a b c at)
-unfolding rest
-rest-is s a b c at = refl
-
-pub step_end : (s : Source) (a b c : List ℕ) (at : Cursor) (r : Region) → NextIs s a b c at r → r.run ≡ 3 → rest s a b c at ≡ []
+pub step_end : (c : Chains) (m : Merged) → NextIs c.regions None m → rest c ≡ []
 unfolding sections_of
-step_end s a b c at r h e = rest-is s a b c at ∙ ap (sections s) (next-none s a b c at r h (omega arith))
+step_end c m h = rest-is c ∙ ap (sections c.source) (next-none c.regions m h)
 
-module _ (s : Source) (a b c : List ℕ) (at : Cursor) (r : Region) (h : NextIs s a b c at r) (t : Step) (te : t.at ≡ r.at) where
+module _ (c : Chains) (r : Region) (m : Merged) (h : NextIs c.regions (Some r) m) (t : Chain) where
   abbrev X : Rests
-  X = rests_at s a b c at
+  X = rests_of c.regions
 
   abbrev Y : Rests
-  Y = rests_at s a b c t.at
+  Y = rests_of m
 
   abbrev x : FreeSection
   x = r.section
 
+  abbrev s : Source
+  s = c.source
+
+  abbrev d : Chains
+  d = record { regions = m; source = c.source }
+
   -- a chain is a part of the region
-  module _ (q : Part) (p : PartIs q s.page x t.chain) where
-    many : 1 < t.chain.count → t.chain.size ≡ s.page
+  module _ (q : Part) (p : PartIs q s.page x t) where
+    many : 1 < t.count → t.size ≡ s.page
     many l = p.part_size ∙ part_pages q s.page x (omega (arith, p.as_many))
 
-    whole : PartFits q x → t.chain ≡ part_of q s.page x
-    whole = part_all q s.page x t.chain p
+    whole : PartFits q x → t ≡ part_of q s.page x
+    whole = part_all q s.page x t p
 
-    ends : PartFits q x → by_size_then_addr (sections_in (part_of q s.page x) ++ sections s Y) ≡ by_size_then_addr (sections_in t.chain ++ rest s a b c t.at)
-    ends f = sym (ap₂ (λ (v : Chain) (l : List FreeSection). by_size_then_addr (sections_in v ++ l)) (whole f) (rest-is s a b c t.at))
+    ends : PartFits q x → by_size_then_addr (sections_in (part_of q s.page x) ++ sections s Y) ≡ by_size_then_addr (sections_in t ++ rest d)
+    ends f = sym (ap₂ (λ (v : Chain) (l : List FreeSection). by_size_then_addr (sections_in v ++ l)) (whole f) (rest-is d))
 
-    fit : PartFits q x → ChainFits t.chain
+    fit : PartFits q x → ChainFits t
     fit f = subst ChainFits (sym (whole f)) (part_fits q s.page x f)
 
-  begins : {l : Rests} → X ≡ l → by_size_then_addr (rest s a b c at) ≡ by_size_then_addr (sections s l)
-  begins e = ap by_size_then_addr (rest-is s a b c at ∙ ap (sections s) e)
+  begins : {l : Rests} → X ≡ l → by_size_then_addr (rest c) ≡ by_size_then_addr (sections s l)
+  begins e = ap by_size_then_addr (rest-is c ∙ ap (sections s) e)
 
-  before : (l : Rests) → X ≡ l → (length X.of_a + (length X.of_b + length X.of_c)) ≡ length l.of_a + (length l.of_b + length l.of_c)
-  before l e = ap (λ (y : Rests). length y.of_a + (length y.of_b + length y.of_c)) e
+  before : (l : Rests) → X ≡ l → regions_count X ≡ regions_count l
+  before l e = ap regions_count e
 
-  module _ (p : PartIs (part_in s r.run) s.page x t.chain) where
-    take_a : r.run ≡ 0 → Taking s a b c at t
-    unfolding sections_of
-    take_a e =
-        let X-is : X ≡ rests (x ∷ Y.of_a) Y.of_b Y.of_c = rw te (next_a s a b c at r h e) in
-        let m : PartIs s.pa s.page x t.chain = subst (λ (q : Part). PartIs q s.page x t.chain) (sym (part_0 s r.run e)) p in
-        let f : Given s a b c → PartFits s.pa x = λ g. first-left (PartFits s.pa) s.na a at.a x _ (ap (λ (l : Rests). l.of_a) X-is) g.fit_a in
-        record {
-          less = omega (arith, before _ X-is);
-          pages = many s.pa m;
-          fits = λ g. fit s.pa m (f g);
-          same = λ g. begins X-is ∙ ends s.pa m (f g);
-        }
+  fits-by : {l : Rests} → X ≡ l → CanGo c → All (PartFits s.pa) l.of_a × All (PartFits s.pb) l.of_b × All (PartFits s.pc) l.of_c
+  fits-by e g = subst (λ (l : Rests). All (PartFits s.pa) l.of_a × All (PartFits s.pb) l.of_b × All (PartFits s.pc) l.of_c) e (g.fit_a, g.fit_b, g.fit_c)
 
-    take_b : r.run ≡ 1 → Taking s a b c at t
-    take_b e =
-        let X-is : X ≡ rests Y.of_a (x ∷ Y.of_b) Y.of_c = rw te (next_b s a b c at r h e) in
-        let m : PartIs s.pb s.page x t.chain = subst (λ (q : Part). PartIs q s.page x t.chain) (sym (part_1 s r.run e)) p in
-        let f : Given s a b c → PartFits s.pb x = λ g. first-left (PartFits s.pb) s.nb b at.b x _ (ap (λ (l : Rests). l.of_b) X-is) g.fit_b in
-        record {
-          less = omega (arith, before _ X-is);
-          pages = many s.pb m;
-          fits = λ g. fit s.pb m (f g);
-          same = λ g. begins X-is ∙ front (part_of s.pb s.page x) (chains_in s.pa s.page Y.of_a) _ ∙ ends s.pb m (f g);
-        }
+  take_a : r.run ≡ A → PartIs s.pa s.page x t → Taking c t d
+  unfolding sections_of
+  take_a e p =
+      let X-is : X ≡ rests (x ∷ Y.of_a) Y.of_b Y.of_c = next_a c.regions r m h e in
+      record {
+        source = refl;
+        less = omega (arith, before _ X-is);
+        pages = many s.pa p;
+        fits = λ g. fit s.pa p (fits-by X-is g).0.0;
+        goes = λ g. let f = fits-by X-is g in record { some = g.some; fit_a = f.0.1; fit_b = f.1; fit_c = f.2 };
+        same = λ g. begins X-is ∙ ends s.pa p (fits-by X-is g).0.0;
+      }
 
-    take_c : (r.run ≡ 0 → ⊥) → (r.run ≡ 1 → ⊥) → r.run ≡ 2 → Taking s a b c at t
-    take_c n0 n1 e =
-        let X-is : X ≡ rests Y.of_a Y.of_b (x ∷ Y.of_c) = rw te (next_c s a b c at r h e) in
-        let m : PartIs s.pc s.page x t.chain = subst (λ (q : Part). PartIs q s.page x t.chain) (sym (part_2 s r.run n0 n1)) p in
-        let f : Given s a b c → PartFits s.pc x = λ g. first-left (PartFits s.pc) s.nc c at.c x _ (ap (λ (l : Rests). l.of_c) X-is) g.fit_c in
-        let A = chains_in s.pa s.page Y.of_a in
-        let B = chains_in s.pb s.page Y.of_b in
-        let C = chains_in s.pc s.page Y.of_c in
-        let v = part_of s.pc s.page x in
-        record {
-          less = omega (arith, before _ X-is);
-          pages = many s.pc m;
-          fits = λ g. fit s.pc m (f g);
-          same = λ g. begins X-is ∙ rw (← append_assoc A B (v ∷ C), ← append_assoc A B C) (front v (A ++ B) C) ∙ ends s.pc m (f g);
-        }
+  take_b : r.run ≡ B → PartIs s.pb s.page x t → Taking c t d
+  take_b e p =
+      let X-is : X ≡ rests Y.of_a (x ∷ Y.of_b) Y.of_c = next_b c.regions r m h e in
+      record {
+        source = refl;
+        less = omega (arith, before _ X-is);
+        pages = many s.pb p;
+        fits = λ g. fit s.pb p (fits-by X-is g).1.0;
+        goes = λ g. let f = fits-by X-is g in record { some = g.some; fit_a = f.0; fit_b = f.1.1; fit_c = f.2 };
+        same = λ g. begins X-is ∙ front (part_of s.pb s.page x) (chains_in s.pa s.page Y.of_a) _ ∙ ends s.pb p (fits-by X-is g).1.0;
+      }
 
-    pub step_taking : (r.run ≡ 3 → ⊥) → Taking s a b c at t
-    step_taking n = by r.run refl
-      where
-        by : (w : ℕ) → r.run ≡ w → Taking s a b c at t
-        by zero e = take_a e
-        by (suc zero) e = take_b e
-        by (suc (suc zero)) e = take_c (λ z. omega arith) (λ z. omega arith) e
-        by (suc (suc (suc w))) e = absurd (n (h.lowest ∙ (choice_3 (is_first X.of_a X.of_b X.of_c) (is_first X.of_b X.of_c []) (is_first X.of_c [] []) (omega (arith, h.lowest))).0))
+  take_c : r.run ≡ C → PartIs s.pc s.page x t → Taking c t d
+  take_c e p =
+      let X-is : X ≡ rests Y.of_a Y.of_b (x ∷ Y.of_c) = next_c c.regions r m h e in
+      let us = chains_in s.pa s.page Y.of_a in
+      let bs = chains_in s.pb s.page Y.of_b in
+      let cs = chains_in s.pc s.page Y.of_c in
+      let v = part_of s.pc s.page x in
+      record {
+        source = refl;
+        less = omega (arith, before _ X-is);
+        pages = many s.pc p;
+        fits = λ g. fit s.pc p (fits-by X-is g).2.0;
+        goes = λ g. let f = fits-by X-is g in record { some = g.some; fit_a = f.0; fit_b = f.1; fit_c = f.2.1 };
+        same = λ g. begins X-is ∙ rw (← append_assoc us bs (v ∷ cs), ← append_assoc us bs cs) (front v (us ++ bs) cs) ∙ ends s.pc p (fits-by X-is g).2.0;
+      }
+
+  pub step_taking : PartIs (part_in s r.run) s.page x t → Taking c t d
+  step_taking p = by r.run refl
+    where
+      by : (w : Run) → r.run ≡ w → Taking c t d
+      by A e = take_a e (subst (λ (w : Run). PartIs (part_in s w) s.page x t) e p)
+      by B e = take_b e (subst (λ (w : Run). PartIs (part_in s w) s.page x t) e p)
+      by C e = take_c e (subst (λ (w : Run). PartIs (part_in s w) s.page x t) e p)
+
+-- ---- before the first step
+
+module _ (s : Source) (a b c : List ℕ) (d : Chains) (h : Began s a b c d) where
+  pub rest_all : rest d ≡ sections_of (chains_of s a b c)
+  unfolding chains_of
+  rest_all = rest-is d ∙ ap₂ sections h.source h.all
+
+  pub can_go : Given s a b c → CanGo d
+  can_go g = record {
+    some = rw h.source g.some;
+    fit_a = rw (h.source, ap (λ (l : Rests). l.of_a) h.all) g.fit_a;
+    fit_b = rw (h.source, ap (λ (l : Rests). l.of_b) h.all) g.fit_b;
+    fit_c = rw (h.source, ap (λ (l : Rests). l.of_c) h.all) g.fit_c;
+  }
 
 -- ---- the iterations of a pass
 
-module _ (s : Source) (a b c : List ℕ) where
-  pub rest_all : rest s a b c start ≡ sections_of (chains_of s a b c)
-  unfolding rest rest_in chains_of
-  rest_all = refl
+module _ (c : Chains) (t : Chain) (d : Chains) (h : Taking c t d) (g : CanGo c) where
+  abbrev taken : List FreeSection
+  taken = sections_in t
 
-  module _ (g : Given s a b c) (at : Cursor) (t : Step) (h : Taking s a b c at t) where
-    abbrev now : List FreeSection
-    now = rest s a b c at
+  pub take_by : {X : Type 0} (F : List FreeSection → X) → ((l : List FreeSection) → F (by_size_then_addr l) ≡ F l) → F (rest c) ≡ F (taken ++ rest d)
+  take_by F e = sym (e (rest c)) ∙ ap F (h.same g) ∙ e (taken ++ rest d)
 
-    abbrev then : List FreeSection
-    then = rest s a b c t.at
+  pub take-length : length (rest c) ≡ t.count + length (rest d)
+  take-length = take_by length length-sorted ∙ length-append taken (rest d) ∙ rw (length-chain t.addr t.size t.count)
 
-    abbrev taken : List FreeSection
-    taken = sections_in t.chain
+  pub take-times : (x : FreeSection) → times x (rest c) ≡ times x taken + times x (rest d)
+  take-times x = take_by (times x) (times-sorted x) ∙ times-append x taken (rest d)
 
-    pub take_by : {A : Type 0} (F : List FreeSection → A) → ((l : List FreeSection) → F (by_size_then_addr l) ≡ F l) → F now ≡ F (taken ++ then)
-    take_by F e = sym (e now) ∙ ap F (h.same g) ∙ e (taken ++ then)
-
-    pub take-length : length now ≡ t.chain.count + length then
-    take-length = take_by length length-sorted ∙ length-append taken then ∙ rw (length-chain t.chain.addr t.chain.size t.chain.count)
-
-    pub take-times : (x : FreeSection) → times x now ≡ times x taken + times x then
-    take-times x = take_by (times x) (times-sorted x) ∙ times-append x taken then
-
-    pub take-size : (z : ℕ) → of_size z now ≡ cond (eqb z t.chain.size) t.chain.count 0 + of_size z then
-    take-size z = take_by (of_size z) (of_size-sorted z) ∙ of_size-append z taken then ∙ rw (of_size-chain z t.chain.addr t.chain.size t.chain.count)
+  pub take-size : (z : ℕ) → of_size z (rest c) ≡ cond (eqb z t.size) t.count 0 + of_size z (rest d)
+  take-size z = take_by (of_size z) (of_size-sorted z) ∙ of_size-append z taken (rest d) ∙ rw (of_size-chain z t.addr t.size t.count)

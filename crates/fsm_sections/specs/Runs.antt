@@ -4,6 +4,7 @@
 --   any_of       a test holds of some section
 --   any_wide     some section's address does not fit O bytes
 use Rattle.std.specs.Prelude.{ℕ, ◌^◌, Bool, false, ◌||◌, List, [], ◌∷◌, nat_le, nat_lt}
+use Rattle.std.specs.List.{list_any}
 use Rattle.fields.specs.Ranges.{top}
 use Rattle.fsm_sections.specs.declared.FreeSection.{FreeSection}
 use Rattle.fsm_sections.specs.Pages.{end}
@@ -15,9 +16,8 @@ ends_above (s ∷ l) = nat_lt top (end s) || ends_above l
 abbrev pub wide : ℕ → ℕ → Bool
 wide O a = nat_le (256 ^ O) a
 
-unfoldable pub any_of : (FreeSection → Bool) → List FreeSection → Bool
-any_of test [] = false
-any_of test (s ∷ l) = test s || any_of test l
+abbrev pub any_of : (FreeSection → Bool) → List FreeSection → Bool
+any_of test l = list_any test l
 
 abbrev pub any_wide : ℕ → List FreeSection → Bool
 any_wide O l = any_of (λ s. wide O s.addr) l

@@ -7,7 +7,7 @@
 --   chains_in      the chains of regions
 --   chains_of      the chains of a source, run by run
 --   sections_from  the sections of a source
---   part_in        the part that is meant of the regions of a run, 0, 1 or 2
+--   part_in        the part that is meant of the regions of a run
 --   PartFits       what is cut ends within 64 bits
 --   PartIs         `part_chain`: the size and the number of a part's sections, and where they begin if what is cut ends within 64 bits
 --   Given          a source that can be gone through, as refusals 2 and 4 leave it: the page is not 0, what is cut ends within 64 bits
@@ -20,6 +20,8 @@ use Rattle.fsm_sections.specs.declared.Chain.{Chain}
 use Rattle.fsm_sections.specs.declared.Part.{Part}
 use Rattle.fsm_sections.specs.declared.Part.TheVariants.{Head, Pages, Tail, Whole}
 use Rattle.fsm_sections.specs.declared.Source.{Source}
+use Rattle.fsm_sections.specs.declared.next.Run.{Run}
+use Rattle.fsm_sections.specs.declared.next.Run.TheVariants.{A, B, C}
 use Rattle.fsm_sections.specs.Sections.{decode, All}
 use Rattle.fsm_sections.specs.Chains.{link, sections_of}
 
@@ -69,8 +71,10 @@ pub record Given (s : Source) (a b c : List ℕ) : Type 0 where
   pub fit_b : All (PartFits s.pb) (decode s.nb b)
   pub fit_c : All (PartFits s.pc) (decode s.nc c)
 
-abbrev pub part_in : Source → ℕ → Part
-part_in s w = cond (w == 0) s.pa (cond (w == 1) s.pb s.pc)
+abbrev pub part_in : Source → Run → Part
+part_in s A = s.pa
+part_in s B = s.pb
+part_in s C = s.pc
 
 abbrev pub small_source : ℕ → ℕ → Source
 small_source page n = record { na = n; pa = Head; nb = n; pb = Tail; nc = 0; pc = Whole; page = page }

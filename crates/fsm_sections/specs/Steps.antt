@@ -1,34 +1,47 @@
 -- A pass over the sections of a source, chain by chain: what a step of it takes, and what is left then. Assumes nothing.
---   rest        the sections that are left at a cursor
---   left        how many regions are left: with each step fewer
---   Taking      a chain is taken of those that are left, and a cursor after it: of a source that can be gone through, the chain's sections and
---               those that are left then are those that were left; a chain of more than one section is whole pages
---   Stepped     what `next_chain` gives: a chain is taken; or, at the end, no section is left
-use Rattle.std.specs.Prelude.{◌≡◌, ℕ, ◌+◌, ◌<◌, true, false, List, [], ◌++◌, length}
+--   rest        the sections that are left
+--   CanGo       what is left can be gone through: the page is not 0, what is cut ends within 64 bits
+--   Began       what `Chains` is before its first step: all regions of the source are left
+--   Taking      a chain is taken of those that are left: of a source that can be gone through, the chain's sections and those that are left then are
+--               those that were left, and can be gone through; a chain of more than one section is whole pages
+--   Stepped     what a step of `Chains` gives: a chain is taken; or, at the end, no section is left
+use Rattle.std.specs.Prelude.{◌≡◌, ℕ, ◌<◌, List, [], ◌++◌, Option, None, Some}
 use Rattle.fsm_sections.specs.declared.FreeSection.{FreeSection}
+use Rattle.fsm_sections.specs.declared.Chain.{Chain}
 use Rattle.fsm_sections.specs.declared.Source.{Source}
-use Rattle.fsm_sections.specs.declared.next.Cursor.{Cursor}
-use Rattle.fsm_sections.specs.declared.next.Step.{Step}
-use Rattle.fsm_sections.specs.Sections.{by_size_then_addr}
+use Rattle.fsm_sections.specs.declared.next.Chains.{Chains}
+use Rattle.fsm_sections.specs.Sections.{decode, by_size_then_addr, All}
 use Rattle.fsm_sections.specs.Chains.{sections_in, sections_of, ChainFits}
-use Rattle.fsm_sections.specs.Sources.{chains_in, Given}
-use Rattle.fsm_sections.specs.RunSteps.{rest_in}
+use Rattle.fsm_sections.specs.Sources.{chains_in, PartFits}
+use Rattle.fsm_sections.specs.Nexts.{Rests, rests, rests_of, regions_count}
 
-unfoldable pub rest : Source → List ℕ → List ℕ → List ℕ → Cursor → List FreeSection
-rest s a b c at =
-    sections_of
-    (chains_in s.pa s.page (rest_in s.na a at.a)
-    ++ (chains_in s.pb s.page (rest_in s.nb b at.b) ++ chains_in s.pc s.page (rest_in s.nc c at.c)))
+abbrev pub sections : Source → Rests → List FreeSection
+sections s l = sections_of (chains_in s.pa s.page l.of_a ++ (chains_in s.pb s.page l.of_b ++ chains_in s.pc s.page l.of_c))
 
-abbrev pub left : Source → List ℕ → List ℕ → List ℕ → Cursor → ℕ
-left s a b c at = length (rest_in s.na a at.a) + (length (rest_in s.nb b at.b) + length (rest_in s.nc c at.c))
+unfoldable pub rest : Chains → List FreeSection
+rest c = sections c.source (rests_of c.regions)
 
-pub record Taking (s : Source) (a b c : List ℕ) (at : Cursor) (t : Step) : Type 0 where
-  pub less : left s a b c t.at < left s a b c at
-  pub pages : 1 < t.chain.count → t.chain.size ≡ s.page
-  pub fits : Given s a b c → ChainFits t.chain
-  pub same : Given s a b c → by_size_then_addr (rest s a b c at) ≡ by_size_then_addr (sections_in t.chain ++ rest s a b c t.at)
+abbrev pub left : Chains → ℕ
+left c = regions_count (rests_of c.regions)
 
-pub record Stepped (s : Source) (a b c : List ℕ) (at : Cursor) (t : Step) : Type 0 where
-  pub some : t.end ≡ false → Taking s a b c at t
-  pub none : t.end ≡ true → rest s a b c at ≡ []
+pub record CanGo (c : Chains) : Type 0 where
+  pub some : 0 < c.source.page
+  pub fit_a : All (PartFits c.source.pa) (rests_of c.regions).of_a
+  pub fit_b : All (PartFits c.source.pb) (rests_of c.regions).of_b
+  pub fit_c : All (PartFits c.source.pc) (rests_of c.regions).of_c
+
+pub record Began (s : Source) (a b c : List ℕ) (d : Chains) : Type 0 where
+  pub source : d.source ≡ s
+  pub all : rests_of d.regions ≡ rests (decode s.na a) (decode s.nb b) (decode s.nc c)
+
+pub record Taking (c : Chains) (t : Chain) (d : Chains) : Type 0 where
+  pub source : d.source ≡ c.source
+  pub less : left d < left c
+  pub pages : 1 < t.count → t.size ≡ c.source.page
+  pub fits : CanGo c → ChainFits t
+  pub goes : CanGo c → CanGo d
+  pub same : CanGo c → by_size_then_addr (rest c) ≡ by_size_then_addr (sections_in t ++ rest d)
+
+abbrev pub Stepped : Chains → Option Chain → Chains → Type 0
+Stepped c None d = rest c ≡ []
+Stepped c (Some t) d = Taking c t d

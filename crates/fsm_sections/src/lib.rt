@@ -2,12 +2,12 @@
 #![tactic(auto)]
 
 ghost use Rattle.std.specs.Prelude.{◌≡◌, ◌+◌, nat_le};
-ghost use Rattle.error.specs.Answers.{number_outcome};
+ghost use Rattle.error.specs.Answers.{as_outcome};
 ghost use Rattle.fields.specs.Ranges.{sum};
 ghost use Rattle.fsm_sections.specs.Sources.{head_size};
 
-use error::{Number, Refusal};
-use numbers::{MAX, min, remainder};
+use error::Refusal;
+use numbers::remainder;
 
 pub mod next;
 pub mod parts;
@@ -16,7 +16,7 @@ pub mod wide;
 
 // The address first, then the size: a host lends records of it.
 #[repr(C)]
-#[derive(Clone, Copy)]
+#[derive(Clone, Copy, Debug, PartialEq, Eq)]
 pub struct FreeSection {
     pub addr: u64,
     pub size: u64,
@@ -24,14 +24,11 @@ pub struct FreeSection {
 
 impl FreeSection {
     // One past the last byte.
-    pub fn end(self) -> Number
-        ensures { number_outcome result ≡ sum self.addr self.size }
+    #[tactic(auto, unfolding(fields::specs::Ranges::sum, error::specs::Outcome::first_of))]
+    pub fn end(self) -> Result<u64, Refusal>
+        ensures { as_outcome result ≡ sum self.addr self.size }
     {
-        let size = self.size;
-        if MAX - size < self.addr {
-            return Number::Refused(Refusal::Overflow);
-        }
-        Number::Is(self.addr + size)
+        self.addr.checked_add(self.size).ok_or(Refusal::Overflow)
     }
 
     // How many of its bytes stand before the first page multiple: none where there is no page.
@@ -45,12 +42,12 @@ impl FreeSection {
         if over == 0 {
             return 0;
         }
-        min(self.size, page - over)
+        self.size.min(page - over)
     }
 }
 
 // `count` sections of one size, each where the one before ends.
-#[derive(Clone, Copy)]
+#[derive(Clone, Copy, Debug, PartialEq, Eq)]
 pub struct Chain {
     pub addr: u64,
     pub size: u64,
@@ -59,7 +56,7 @@ pub struct Chain {
 
 // What of a region is meant: the piece before its first page multiple, its whole pages, the piece after its last page
 // multiple, or all of it uncut.
-#[derive(Clone, Copy)]
+#[derive(Clone, Copy, Debug, PartialEq, Eq)]
 pub enum Part {
     Head,
     Pages,
@@ -68,7 +65,8 @@ pub enum Part {
 }
 
 // How many regions of each of three lent runs are meant, and which part of each region.
-#[derive(Clone, Copy)]
+// Three counts and three parts by name: a public record, named in docs/STATEMENTS.md.
+#[derive(Clone, Copy, Debug, PartialEq, Eq)]
 pub struct Source {
     pub na: usize,
     pub pa: Part,
@@ -84,12 +82,6 @@ impl Source {
     pub fn has_at_most(self, most: usize) -> bool
         ensures { result ≡ nat_le (self.na + self.nb + self.nc) most }
     {
-        if most < self.na {
-            return false;
-        }
-        if most - self.na < self.nb {
-            return false;
-        }
-        self.nc <= most - self.na - self.nb
+        self.na <= most && self.nb <= most - self.na && self.nc <= most - self.na - self.nb
     }
 }

@@ -10,17 +10,10 @@ use numbers::{quotient, remainder};
 fn one_chain(addr: u64, size: u64) -> Chain
     ensures { result ≡ one addr size }
 {
-    if size == 0 {
-        return Chain {
-            addr: addr,
-            size: size,
-            count: 0,
-        };
-    }
     Chain {
-        addr: addr,
-        size: size,
-        count: 1,
+        addr,
+        size,
+        count: u64::from(size != 0),
     }
 }
 
@@ -28,27 +21,24 @@ fn one_chain(addr: u64, size: u64) -> Chain
 pub fn part_chain(part: Part, page: u64, addr: u64, size: u64) -> Chain
     ensures { PartIs part page (section addr size) result }
 {
-    let region = FreeSection {
-        addr: addr,
-        size: size,
-    };
+    let region = FreeSection { addr, size };
     match part {
         Part::Head => one_chain(addr, region.head_size(page)),
         Part::Pages => {
             let head = region.head_size(page);
             Chain {
-                addr: std::num::wrapping_add_u64(addr, head),
+                addr: addr.wrapping_add(head),
                 size: page,
                 count: quotient(size - head, page),
             }
         }
         Part::Tail => {
             let left = remainder(size - region.head_size(page), page);
-            one_chain(std::num::wrapping_add_u64(addr, size - left), left)
+            one_chain(addr.wrapping_add(size - left), left)
         }
         Part::Whole => Chain {
-            addr: addr,
-            size: size,
+            addr,
+            size,
             count: 1,
         },
     }

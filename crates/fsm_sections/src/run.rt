@@ -1,126 +1,138 @@
 // The regions of a lent run, one after the other: every pass over a run takes them from here.
 ghost use Rattle.std.specs.Prelude.{◌≡◌, ◌*◌, ◌≤◌, length};
-ghost use Rattle.fsm_sections.specs.RunSteps.{run_start, rest_in, taken_of, Alike, RowIs};
+ghost use Rattle.std.specs.Iterator.{YieldsFirst, item_count};
+ghost use Rattle.fsm_sections.specs.Sections.{decode};
+ghost use Rattle.fsm_sections.specs.Chains.{sections_of};
+ghost use Rattle.fsm_sections.specs.Sources.{chains_in};
+ghost use Rattle.fsm_sections.specs.RunSteps.{regions_left, first_of, rows_left, Alike, GivesRow};
 
 use crate::parts::part_chain;
 use crate::{FreeSection, Part};
-use numbers::index::min;
 
-// Where a pass over a run stands.
-#[derive(Clone, Copy)]
-pub struct RunCursor {
-    i: usize,
+// The regions of a lent run that are left, one after the other.
+#[derive(Clone, Copy, Debug)]
+pub struct Regions<'a> {
+    run: &'a [u64],
 }
 
-impl RunCursor {
-    // Before the first region.
-    pub fn start() -> RunCursor
-        ensures { result ≡ run_start }
+impl<'a> Regions<'a> {
+    // The first `count` regions of a run. Pairs that the run does not have are not there.
+    pub fn new(run: &'a [u64], count: usize) -> Regions<'a>
+        ensures { regions_left result ≡ decode count run.now }
     {
-        RunCursor { i: 0 }
+        Regions {
+            run: &run[..2 * count.min(run.len() / 2)],
+        }
+    }
+
+    // The region that comes next.
+    pub fn first(&self) -> Option<FreeSection>
+        ensures { result ≡ first_of (regions_left self.now) }
+    {
+        if self.run.len() < 2 {
+            return None;
+        }
+        Some(FreeSection {
+            addr: self.run[0],
+            size: self.run[1],
+        })
     }
 }
 
-// What a step of a pass over a run gives: that it is at its end; or a region, and where the pass stands then.
-#[derive(Clone, Copy)]
-pub struct RunStep {
-    pub end: bool,
-    pub region: FreeSection,
-    pub at: RunCursor,
-}
+impl<'a> Iterator for Regions<'a> {
+    type Item = FreeSection;
 
-// The next of the first `count` regions of a run. Pairs that the run does not have are not there.
-pub fn next_in(run: &[u64], count: usize, at: RunCursor) -> RunStep
-    ensures { rest_in count run.now at ≡ taken_of count run.now result }
-{
-    let i = at.i;
-    if min(count, run.len() / 2) <= i {
-        return RunStep {
-            end: true,
-            region: FreeSection { addr: 0, size: 0 },
-            at: at,
-        };
-    }
-    RunStep {
-        end: false,
-        region: FreeSection {
-            addr: run[2 * i],
-            size: run[2 * i + 1],
-        },
-        at: RunCursor { i: i + 1 },
+    ghost next_gives = { YieldsFirst regions_left };
+
+    ghost remaining = { item_count regions_left };
+
+    fn next(&mut self) -> Option<FreeSection> {
+        let region = self.first()?;
+        self.run = &self.run[2..];
+        Some(region)
     }
 }
 
-// What a step by rows gives: that the pass is at its end; or a number of sections of one size, and where the pass stands then.
-#[derive(Clone, Copy)]
+// A number of sections of one size.
+#[derive(Clone, Copy, Debug, PartialEq, Eq)]
 pub struct Row {
-    pub end: bool,
     pub size: u64,
     pub count: u64,
-    pub at: RunCursor,
 }
 
-// Where the regions of a run from the i-th on cease to have size z; four in an iteration, as long as there are four.
-fn end_within(run: &[u64], count: usize, i: usize, z: u64) -> usize
-    requires { (2 * count ≤ length run.now) × (i ≤ count) }
-    ensures { (i ≤ result) × (result ≤ count) × Alike z i result run.now }
+// How many of the regions at the front of a run have a size; four in an iteration, as long as there are four: with one, as an iterator
+// goes, a pass over 1,000 regions takes a quarter longer.
+fn alike(run: &[u64], size: u64) -> usize
+    ensures { (2 * result ≤ length run.now) × Alike size result run.now }
 {
-    let mut j = i;
-    while j + 4 <= count {
-        if run[2 * j + 1] != z {
-            return j;
+    let mut n = 0;
+    while 2 * n + 8 <= run.len() {
+        if run[2 * n + 1] != size {
+            return n;
         }
-        if run[2 * j + 3] != z {
-            return j + 1;
+        if run[2 * n + 3] != size {
+            return n + 1;
         }
-        if run[2 * j + 5] != z {
-            return j + 2;
+        if run[2 * n + 5] != size {
+            return n + 2;
         }
-        if run[2 * j + 7] != z {
-            return j + 3;
+        if run[2 * n + 7] != size {
+            return n + 3;
         }
-        j += 4;
+        n += 4;
     }
-    while j < count {
-        if run[2 * j + 1] != z {
-            return j;
+    while 2 * n + 2 <= run.len() {
+        if run[2 * n + 1] != size {
+            return n;
         }
-        j += 1;
+        n += 1;
     }
-    j
+    n
 }
 
-// The sections of the next region and, where regions are uncut, of those after it that have its size.
-pub fn next_row(run: &[u64], count: usize, at: RunCursor, part: Part, page: u64) -> Row
-    ensures { RowIs part page count run.now at result }
-{
-    let t = next_in(run, count, at);
-    if t.end {
-        return Row {
-            end: true,
-            size: 0,
-            count: 0,
-            at: at,
-        };
+// The sections that a part of a run's regions makes, in rows of one size.
+#[derive(Clone, Copy, Debug)]
+pub struct Rows<'a> {
+    regions: Regions<'a>,
+    part: Part,
+    page: u64,
+}
+
+impl<'a> Rows<'a> {
+    // Those of the first `count` regions of a run.
+    pub fn new(run: &'a [u64], count: usize, part: Part, page: u64) -> Rows<'a>
+        ensures { rows_left result ≡ sections_of (chains_in part page (decode count run.now)) }
+    {
+        Rows {
+            regions: Regions::new(run, count),
+            part,
+            page,
+        }
     }
-    if let Part::Whole = part {
-        let z = t.region.size;
-        let n = min(count, run.len() / 2);
-        let i = at.i;
-        let j = end_within(run, n, i + 1, z);
-        return Row {
-            end: false,
-            size: z,
-            count: (j - i) as u64,
-            at: RunCursor { i: j },
-        };
-    }
-    let r = part_chain(part, page, t.region.addr, t.region.size);
-    let next = t.at;
-    Row {
-        end: false,
-        size: r.size,
-        count: r.count,
-        at: next,
+}
+
+impl<'a> Iterator for Rows<'a> {
+    type Item = Row;
+
+    ghost next_gives = { GivesRow };
+
+    ghost remaining = { item_count (λ r. regions_left r.regions) };
+
+    // The sections of the next region and, where regions are uncut, of those after it that have its size.
+    fn next(&mut self) -> Option<Row> {
+        let region = self.regions.next()?;
+        if let Part::Whole = self.part {
+            let more = alike(self.regions.run, region.size);
+            self.regions.run = &self.regions.run[2 * more..];
+            return Some(Row {
+                size: region.size,
+                count: 1 + more as u64,
+            });
+        }
+        let chain = part_chain(self.part, self.page, region.addr, region.size);
+        Some(Row {
+            size: chain.size,
+            count: chain.count,
+        })
     }
 }

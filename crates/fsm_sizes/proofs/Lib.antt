@@ -1,4 +1,5 @@
 pub mod OccursLaws
+pub mod SortedLaws
 pub mod ChainLaws
 pub mod WindowLaws
 pub mod NoteLaws

@@ -1,8 +1,10 @@
 -- Numbers of sections and sums of sizes, run by run: what a region adds, and what the three runs come to. Assumes nothing.
 use Rattle.std.proofs.Common.{◌≡◌, ℕ, ◌+◌, ◌*◌, ◌<◌, ◌≤◌, Bool, true, false, ◌||◌, ltb, ◌⊎◌, List, [], ◌∷◌, ◌++◌, length, sym, ap, ◌∙◌, inl, inr, ⊎_elim, arith, length-append, ltb-false, le-ltb, lt-ltb}
+use Rattle.std.specs.Prelude.{Result, Ok, Err}
+use Rattle.error.specs.Answers.{as_outcome}
 use Rattle.error.specs.declared.Refusal.{Refusal}
 use Rattle.error.specs.declared.Refusal.TheVariants.{Overflow}
-use Rattle.error.specs.Outcome.{answer, refused, when, sat}
+use Rattle.error.specs.Outcome.{Outcome, answer, refused, when, sat}
 use Rattle.error.proofs.TestLaws.{le-or-lt, or_false}
 use Rattle.error.proofs.OutcomeLaws.{refuses, passes, first_answers, first_refuses}
 use Rattle.fields.specs.Ranges.{top}
@@ -17,9 +19,7 @@ use Rattle.fsm_sections.proofs.SizesLaws.{length-chain, distinct-few}
 use Rattle.fsm_sections.proofs.SpaceLaws.{space-append, space-chain}
 use Rattle.fsm_sections.proofs.SourceLaws.{part_within, three}
 use Rattle.fsm_sizes.specs.declared.totals.Sums.{Sums}
-use Rattle.fsm_sizes.specs.declared.totals.Summed.{Summed}
-use Rattle.fsm_sizes.specs.declared.totals.Summed.TheVariants as sums
-use Rattle.fsm_sizes.specs.Totals.{summed, summed_outcome, totals_of}
+use Rattle.fsm_sizes.specs.Totals.{summed, totals_of}
 
 -- ---- both up to 2^64 - 1, or one above
 
@@ -44,23 +44,27 @@ both_low n z m w e f h k =
     ap (λ (s : Sums). answer s) (λ i. record { count = e i; space = f i })
     ∙ passes _ _ _ (rw (le-ltb top w (omega arith), le-ltb top m (omega arith)))
 
-module _ (c : Summed) (n z : ℕ) (e : summed_outcome c ≡ summed n z) where
-  pub summed-is : (t : Sums) → c ≡ sums.Are t → (t.count ≡ n) × (t.space ≡ z) × (n ≤ top) × (z ≤ top)
+module _ (c : (Result Sums Refusal)) (n z : ℕ) (e : as_outcome c ≡ summed n z) where
+  pub summed-is : (t : Sums) → c ≡ Ok t → (t.count ≡ n) × (t.space ≡ z) × (n ≤ top) × (z ≤ top)
   unfolding summed
   summed-is t h =
-      let q = first_answers (when (ltb top z || ltb top n) Overflow ∷ []) (record { count = n; space = z }) t (sym e ∙ ap summed_outcome h) in
+      let q = first_answers (when (ltb top z || ltb top n) Overflow ∷ []) (record { count = n; space = z }) t (sym e ∙ ap as_outcome h) in
       let r = or_false (ltb top z) (ltb top n) q.0.0 in
       (sym (ap (λ (x : Sums). x.count) q.1), sym (ap (λ (x : Sums). x.space) q.1), ltb-false top n r.1, ltb-false top z r.0)
 
-  pub summed-not : (r : Refusal) → c ≡ sums.Refused r → (top < z) ⊎ (top < n)
+  pub summed-not : (r : Refusal) → c ≡ Err r → (top < z) ⊎ (top < n)
   summed-not r h = ⊎_elim (λ (p : z ≤ top). ⊎_elim (λ (q : n ≤ top). small p q) inr (le-or-lt n top)) inl (le-or-lt z top)
     where
       small : z ≤ top → n ≤ top → (top < z) ⊎ (top < n)
       small p q =
           let t : Sums = record { count = n; space = z } in
-          let w : refused r ≡ answer t = ap summed_outcome (sym h) ∙ e ∙ sym (both_low n z n z (λ i. n) (λ i. z) q p) in
+          let w : refused r ≡ answer t = ap as_outcome (sym h) ∙ e ∙ sym (both_low n z n z (λ i. n) (λ i. z) q p) in
           let y : ◌≡◌ {A = ℕ} 0 1 = cc in
           absurd (omega arith)
+
+  -- the refusal is that of a sum or a number above top
+  summed-err : (r : Refusal) → c ≡ Err r → ◌≡◌ {A = Outcome Sums} (refused r) (refused Overflow)
+  summed-err r h = ap as_outcome (sym h) ∙ e ∙ sym (either_over n z (summed-not r h))
 
 -- ---- a run's regions
 
@@ -116,23 +120,23 @@ module _ (s : Source) (a b c : List ℕ) where
   spaces : space all ≡ space A + (space B + space C)
   spaces = three space space-append s a b c
 
-  module _ (x : Summed) (xe : summed_outcome x ≡ summed (0 + length A) (0 + space A)) where
-    pub first-over : (r : Refusal) → x ≡ sums.Refused r → refused Overflow ≡ summed (length all) (space all)
+  module _ (x : (Result Sums Refusal)) (xe : as_outcome x ≡ summed (0 + length A) (0 + space A)) where
+    pub first-over : (r : Refusal) → x ≡ Err r → refused r ≡ summed (length all) (space all)
     first-over r h =
-        either_over (length all) (space all)
+        summed-err x _ _ xe r h ∙ either_over (length all) (space all)
         (⊎_elim (λ (p : top < 0 + space A). inl (omega (arith, spaces))) (λ (p : top < 0 + length A). inr (omega (arith, lengths))) (summed-not x _ _ xe r h))
 
-    module _ (t : Sums) (te : x ≡ sums.Are t) (y : Summed) (ye : summed_outcome y ≡ summed (t.count + length B) (t.space + space B)) where
+    module _ (t : Sums) (te : x ≡ Ok t) (y : (Result Sums Refusal)) (ye : as_outcome y ≡ summed (t.count + length B) (t.space + space B)) where
       first-is : (t.count ≡ 0 + length A) × (t.space ≡ 0 + space A)
       first-is = let q = summed-is x _ _ xe t te in (q.0, q.1)
 
-      pub second-over : (r : Refusal) → y ≡ sums.Refused r → refused Overflow ≡ summed (length all) (space all)
+      pub second-over : (r : Refusal) → y ≡ Err r → refused r ≡ summed (length all) (space all)
       second-over r h =
-          either_over (length all) (space all)
+          summed-err y _ _ ye r h ∙ either_over (length all) (space all)
           (⊎_elim (λ (p : top < t.space + space B). inl (omega (arith, spaces, first-is.1)))
           (λ (p : top < t.count + length B). inr (omega (arith, lengths, first-is.0))) (summed-not y _ _ ye r h))
 
-      pub all_runs : (u : Sums) → y ≡ sums.Are u → summed (u.count + length C) (u.space + space C) ≡ summed (length all) (space all)
+      pub all_runs : (u : Sums) → y ≡ Ok u → summed (u.count + length C) (u.space + space C) ≡ summed (length all) (space all)
       all_runs u h =
           let q = summed-is y _ _ ye u h in
           let n : u.count + length C ≡ length all = omega (arith, lengths, first-is.0, q.0) in
@@ -145,12 +149,12 @@ pub sizes-fit : (l : List FreeSection) → length l ≤ top → sat (distinct l)
 unfolding sat
 sizes-fit l h = omega (arith, distinct-few l)
 
-module _ (l : List FreeSection) (c : Summed) (e : summed_outcome c ≡ summed (length l) (space l)) where
-  pub totals_refused : (r : Refusal) → c ≡ sums.Refused r → refused r ≡ totals_of l
+module _ (l : List FreeSection) (c : (Result Sums Refusal)) (e : as_outcome c ≡ summed (length l) (space l)) where
+  pub totals_refused : (r : Refusal) → c ≡ Err r → refused r ≡ totals_of l
   unfolding summed totals_of
-  totals_refused r h = first_refuses _ (record { count = length l; space = space l }) r _ (ap summed_outcome (sym h) ∙ e)
+  totals_refused r h = first_refuses _ (record { count = length l; space = space l }) r _ (ap as_outcome (sym h) ∙ e)
 
-  pub totals_are : (t : Sums) → c ≡ sums.Are t → (d : ℕ) → d ≡ sat (distinct l) → answer (record { count = t.count; sizes = d; space = t.space }) ≡ totals_of l
+  pub totals_are : (t : Sums) → c ≡ Ok t → (d : ℕ) → d ≡ sat (distinct l) → answer (record { count = t.count; sizes = d; space = t.space }) ≡ totals_of l
   unfolding totals_of
   totals_are t h d f =
       let q = summed-is c (length l) (space l) e t h in

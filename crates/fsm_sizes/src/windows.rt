@@ -1,20 +1,17 @@
 // The number of sizes that the sections of a source have, window by window.
-ghost use Rattle.std.specs.Prelude.{◌≡◌, ◌≤◌, length, take};
+ghost use Rattle.std.specs.Prelude.{◌≡◌, ◌≤◌, ◌<◌, length, take};
 ghost use Rattle.error.specs.Outcome.{sat};
 ghost use Rattle.fsm_sections.specs.Sections.{decode, of_size, distinct};
 ghost use Rattle.fsm_sections.specs.Chains.{sections_of};
 ghost use Rattle.fsm_sections.specs.Sources.{chains_in, sections_from};
-ghost use Rattle.fsm_sizes.specs.Chained.{Cleared, Room, Stands};
+ghost use Rattle.fsm_sizes.specs.Chained.{Cleared, Room, Stands, StandsBy};
 ghost use Rattle.fsm_sizes.specs.Ordered.{Windowed};
 
-use crate::{FEW, MANY, Span, clear, nearer, note};
-use fsm_sections::run::{RunCursor, next_row};
+use crate::{FEW, MANY, Span, nearer, note};
+use fsm_sections::run::Rows;
 use fsm_sections::{Part, Source};
-use numbers::{MAX, saturating_add};
 
-const TOP: u64 = MAX;
-
-// The sizes of a run's sections that lie in a window, put to the sizes that it has.
+// The sizes of a run's sections that lie in a window, put to the sizes that it has, if there is room for them.
 fn gather_run(
     run: &[u64],
     count: usize,
@@ -24,28 +21,20 @@ fn gather_run(
     link: &mut [u16],
     slot: &mut [u16],
     w: Span,
-) -> usize
-    requires room { Room of.old link.old slot.old × (w.from ≤ w.reach) }
+) -> Option<usize>
+    requires room { Room of.old link.old slot.old × (w.from ≤ w.reach) × (w.found ≤ length of.old) }
     requires stands { Stands w.from w.reach (λ x. 0) (take w.found of.old) of.old link.old slot.old (length of.old) w.found }
-    ensures { Stands w.from w.reach (λ x. of_size x (sections_of (chains_in part page (decode count run.now)))) (take w.found
+    ensures { StandsBy w.from w.reach (λ x. of_size x (sections_of (chains_in part page (decode count run.now)))) (take w.found
         of.old) of.new link.new slot.new (length of.old) result }
 {
     let mut found = w.found;
-    let mut at = RunCursor::start();
-    loop {
-        if of.len() < found {
-            return found;
-        }
-        let r = next_row(run, count, at, part, page);
-        if r.end {
-            return found;
-        }
-        found = note(of, link, slot, found, w.from, w.reach, r.size, r.count);
-        at = r.at;
+    for r in Rows::new(run, count, part, page) {
+        found = note(of, link, slot, found, w.from, w.reach, r.size, r.count)?;
     }
+    Some(found)
 }
 
-// The sizes of a source's sections that lie in a window, put to the sizes that it has.
+// The sizes of a source's sections that lie in a window, put to the sizes that it has, if there is room for them.
 fn sweep(
     a: &[u64],
     b: &[u64],
@@ -55,35 +44,17 @@ fn sweep(
     link: &mut [u16],
     slot: &mut [u16],
     w: Span,
-) -> usize
-    requires room { Room of.old link.old slot.old × (w.from ≤ w.reach) }
+) -> Option<usize>
+    requires room { Room of.old link.old slot.old × (w.from ≤ w.reach) × (w.found ≤ length of.old) }
     requires stands { Stands w.from w.reach (λ x. 0) (take w.found of.old) of.old link.old slot.old (length of.old) w.found }
-    ensures { Stands w.from w.reach (λ x. of_size x (sections_from s a.now b.now c.now)) (take w.found
+    ensures { StandsBy w.from w.reach (λ x. of_size x (sections_from s a.now b.now c.now)) (take w.found
         of.old) of.new link.new slot.new (length of.old) result }
 {
-    let pa = s.pa;
-    let pb = s.pb;
-    let pc = s.pc;
-    let page = s.page;
-    let x = gather_run(a, s.na, pa, page, of, link, slot, w);
-    if of.len() < x {
-        return x;
-    }
-    let first = Span {
-        from: w.from,
-        reach: w.reach,
-        found: x,
-    };
-    let y = gather_run(b, s.nb, pb, page, of, link, slot, first);
-    if of.len() < y {
-        return y;
-    }
-    let second = Span {
-        from: w.from,
-        reach: w.reach,
-        found: y,
-    };
-    gather_run(c, s.nc, pc, page, of, link, slot, second)
+    let x = gather_run(a, s.na, s.pa, s.page, of, link, slot, w)?;
+    let first = Span { found: x, ..w };
+    let y = gather_run(b, s.nb, s.pb, s.page, of, link, slot, first)?;
+    let second = Span { found: y, ..w };
+    gather_run(c, s.nc, s.pc, s.page, of, link, slot, second)
 }
 
 // The sizes from `from` on up to as many as there is room for. No slot leads anywhere at first: arrays begin as zeros, and whoever goes on to
@@ -102,23 +73,19 @@ pub(crate) fn window_of(
     ensures { Windowed from (sections_from s a.now b.now c.now) of.new link.new
         slot.new (length of.old) result }
 {
-    let mut reach = TOP;
+    let mut reach = u64::MAX;
+    // No range counts the tries: each comes nearer until the window's sizes fit.
     loop {
         let none = Span {
-            from: from,
-            reach: reach,
+            from,
+            reach,
             found: 0,
         };
-        let found = sweep(a, b, c, s, of, link, slot, none);
-        if found <= of.len() {
-            return Span {
-                from: from,
-                reach: reach,
-                found: found,
-            };
+        if let Some(found) = sweep(a, b, c, s, of, link, slot, none) {
+            return Span { found, ..none };
         }
         reach = nearer(of, from, reach);
-        clear(slot);
+        slot.fill(0);
     }
 }
 
@@ -137,36 +104,26 @@ fn count_of(
 {
     let mut n: u64 = 0;
     let mut from: u64 = 0;
+    // No range counts the windows: each says where the next one begins.
     loop {
         let w = window_of(a, b, c, s, of, link, slot, from);
-        let found = w.found;
-        let reach = w.reach;
-        n = saturating_add(n, found as u64);
-        if reach == TOP {
+        n = n.saturating_add(w.found as u64);
+        if w.reach == u64::MAX {
             return n;
         }
-        from = reach + 1;
-        clear(slot);
+        from = w.reach + 1;
+        slot.fill(0);
     }
 }
 
-// The same by arrays for few sizes, which take less time to make.
-fn few_of(a: &[u64], b: &[u64], c: &[u64], s: Source) -> u64
+// The same by arrays for N sizes.
+fn count_by<const N: usize>(a: &[u64], b: &[u64], c: &[u64], s: Source) -> u64
+    requires { (0 < N) × (N < 65535) }
     ensures { result ≡ sat (distinct (sections_from s a.now b.now c.now)) }
 {
-    let mut of: [u64; FEW] = [0; FEW];
-    let mut link: [u16; FEW] = [0; FEW];
-    let mut slot: [u16; FEW] = [0; FEW];
-    count_of(a, b, c, s, &mut of, &mut link, &mut slot)
-}
-
-// The same by arrays for many.
-fn many_of(a: &[u64], b: &[u64], c: &[u64], s: Source) -> u64
-    ensures { result ≡ sat (distinct (sections_from s a.now b.now c.now)) }
-{
-    let mut of: [u64; MANY] = [0; MANY];
-    let mut link: [u16; MANY] = [0; MANY];
-    let mut slot: [u16; MANY] = [0; MANY];
+    let mut of = [0_u64; N];
+    let mut link = [0_u16; N];
+    let mut slot = [0_u16; N];
     count_of(a, b, c, s, &mut of, &mut link, &mut slot)
 }
 
@@ -174,8 +131,10 @@ fn many_of(a: &[u64], b: &[u64], c: &[u64], s: Source) -> u64
 pub fn distinct_sizes(a: &[u64], b: &[u64], c: &[u64], s: Source) -> u64
     ensures { result ≡ sat (distinct (sections_from s a.now b.now c.now)) }
 {
+    // Arrays for few sizes take less time to make.
     if s.has_at_most(FEW) {
-        return few_of(a, b, c, s);
+        count_by::<FEW>(a, b, c, s)
+    } else {
+        count_by::<MANY>(a, b, c, s)
     }
-    many_of(a, b, c, s)
 }

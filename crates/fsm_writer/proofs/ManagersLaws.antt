@@ -34,11 +34,9 @@ use Rattle.fsm_plan.specs.declared.Counts.{Counts}
 use Rattle.fsm_plan.specs.declared.chains.Paged.{Paged}
 use Rattle.fsm_plan.specs.declared.measure.Measure.{Measure}
 use Rattle.fsm_plan.specs.declared.blocks.BlocksPlan.{BlocksPlan}
-use Rattle.fsm_plan.specs.declared.blocks.BlocksPlanned.{BlocksPlanned}
-use Rattle.fsm_plan.specs.declared.blocks.BlocksPlanned.TheVariants as blocks
 use Rattle.fsm_plan.specs.Managers.{manager, managers_of, manager_bytes, size_of, blocks_from}
 use Rattle.fsm_plan.specs.Order.{source_of}
-use Rattle.fsm_plan.specs.Blocks.{paged, in_slot0, in_slot2, in_large, measure_of, planned_blocks, blocks_outcome}
+use Rattle.fsm_plan.specs.Blocks.{paged, in_slot0, in_slot2, in_large, measure_of, planned_blocks}
 use Rattle.fsm_plan.proofs.RunsLaws.{Tested, small_same, small_given, small_numbers, large_given, large_numbers}
 use Rattle.fsm_plan.proofs.BlocksLaws.{Accepted, accepted}
 use Rattle.fsm_plan.proofs.PlannedLaws.{bytes-long, plan_end, plan_bytes}
@@ -302,7 +300,7 @@ module _ (a b c : List ℕ) (n : Counts) (page start O : ℕ) (p : BlocksPlan) (
 
 -- ---- `serialize_paged_managers`, by its branches
 
-module _ (a b c : List ℕ) (n : Counts) (page start O : ℕ) (out : List ℕ) (x : BlocksPlanned) (xe : blocks_outcome x ≡ planned_blocks a b c n page start O) where
+module _ (a b c : List ℕ) (n : Counts) (page start O : ℕ) (out : List ℕ) where
   abbrev len : ℕ
   len = size_of O (starting_set O) (managers_in a b c n page)
 
@@ -311,25 +309,18 @@ module _ (a b c : List ℕ) (n : Counts) (page start O : ℕ) (out : List ℕ) (
       first_of (when (ltb (length out) len) (OverCapacity len (length out)) ∷ [])
       (answer (with p (over 0 (managers_bytes a b c n page start O) out)))
 
-  whole : and_then (blocks_outcome x) after ≡ written_managers a b c n page start O out
-  unfolding written_managers
-  whole = ap (λ (z : Outcome BlocksPlan). and_then z after) xe
+  pub written-refused : (r : Refusal) → refused r ≡ planned_blocks a b c n page start O → left (refused r) out ≡ leaving out (written_managers a b c n page start O out)
+  unfolding and_then written_managers
+  written-refused r h = ap (λ (z : Outcome BlocksPlan). leaving out (and_then z after)) h
 
-  pub written-refused : (r : Refusal) → x ≡ blocks.Refused r → left (refused r) out ≡ leaving out (written_managers a b c n page start O out)
-  unfolding and_then
-  written-refused r h = ap (leaving out) (ap (λ (z : BlocksPlanned). and_then (blocks_outcome z) after) (sym h) ∙ whole)
-
-  module _ (p : BlocksPlan) (h : x ≡ blocks.Plan p) where
-    pub plan_answered : planned_blocks a b c n page start O ≡ answer p
-    plan_answered = sym xe ∙ ap blocks_outcome h
-
+  module _ (p : BlocksPlan) (h : answer p ≡ planned_blocks a b c n page start O) where
     after_is : after p ≡ written_managers a b c n page start O out
-    unfolding and_then
-    after_is = ap (λ (z : BlocksPlanned). and_then (blocks_outcome z) after) (sym h) ∙ whole
+    unfolding and_then written_managers
+    after_is = ap (λ (z : Outcome BlocksPlan). and_then z after) h
 
     ends_at : p.managers.end_of_managers ≡ start + len
     ends_at =
-        ap (λ (q : BlocksPlan). q.managers.end_of_managers) (accepted a b c n page start O p plan_answered).plan
+        ap (λ (q : BlocksPlan). q.managers.end_of_managers) (accepted a b c n page start O p (sym h)).plan
         ∙ sym (plan_end O page (decode n.meta a) (decode n.raw b) (decode n.unclassified c) start)
 
     pub plan_start : start ≤ p.managers.end_of_managers

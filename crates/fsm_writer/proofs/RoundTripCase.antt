@@ -23,7 +23,6 @@ use Rattle.fsm_blocks.specs.Settings.{starting_set, header_for, fsse_for}
 use Rattle.fsm_blocks.specs.declared.checks.Reading.{Reading}
 use Rattle.fsm_blocks.specs.Reading.{read_manager}
 use Rattle.fsm_writer.specs.Serializing.{of_run, written_fshd, written_fsse}
-use Rattle.fsm_sections.specs.Runs.{any_of}
 use Rattle.fsm_writer.specs.RoundTrip.{Standing}
 use Rattle.fsm_writer.proofs.RoundTripLaws.{round_trip}
 
@@ -44,7 +43,7 @@ unfolding written_fshd of_run first_of and_then space fshd_bytes layout le_bytes
 header-written = refl
 
 list_written : written_fsse 2 run 3 10 1 (replicate 38 0) ≡ answer (with 38 list)
-unfolding written_fsse of_run first_of and_then any_of space fsse_bytes layout le_bytes least_from enc_size of_size distinct insert by_size_then_addr push groups_of entry_bytes group_bytes add32 sub32 xor32 rotl32 mixed finished block_added gained byte_added tail_added ending hash_from hash_of lookup3
+unfolding written_fsse of_run first_of and_then space fsse_bytes layout le_bytes least_from enc_size of_size distinct insert by_size_then_addr push groups_of entry_bytes group_bytes add32 sub32 xor32 rotl32 mixed finished block_added gained byte_added tail_added ending hash_from hash_of lookup3
 list_written = refl
 
 standing : Standing 2 (decode 3 run) 10 100 (take 76 header) (take 38 list) 5 bytes

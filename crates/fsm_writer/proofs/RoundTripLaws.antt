@@ -32,7 +32,7 @@ use Rattle.fsm_blocks.specs.Named.{manager_count}
 use Rattle.fsm_blocks.proofs.WrittenLaws.{length_fshd, length-fsse, fshd_read, fsse-read}
 use Rattle.fsm_blocks.proofs.ImageLaws.{held, manager_read, slots-none, slots-more}
 use Rattle.fsm_writer.specs.Serializing.{of_run, written_fshd, written_fsse}
-use Rattle.fsm_sections.specs.Runs.{wide, any_of, any_wide}
+use Rattle.fsm_sections.specs.Runs.{wide, any_wide}
 use Rattle.fsm_writer.specs.Writing.{written}
 use Rattle.fsm_writer.specs.RoundTrip.{fields_of, Standing, ReadBack, RoundTrip}
 use Rattle.fsm_blocks.proofs.LengthLaws.{widths_are}
@@ -121,7 +121,7 @@ module _ (O : ℕ) (run : List ℕ) (n : ℕ) where
 -- ---- so every number fits its field
 
 pub sections-fit : (c O : ℕ) (l : List FreeSection) → any_wide O l ≡ false → space l ≤ top → All (SectionFits (written c O)) l
-unfolding any_of space
+unfolding space
 sections-fit c O [] e h = tt
 sections-fit c O (s ∷ l) e h =
     let q = or_false (wide O s.addr) (any_wide O l) e in

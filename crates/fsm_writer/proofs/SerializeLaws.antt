@@ -9,12 +9,12 @@ use mathlib.Core.List.{List, [], ◌∷◌}
 use lib.Dec.{ltb, leb, eqb}
 use lib.ListN.{length, get_or}
 use borrow.Author.Tests.{ltb-false, leb-true, leb-false, lt-ltb, le-ltb, eq-eqb, ne_eqb}
-use Rattle.error.specs.declared.Number.{Number}
+use Rattle.std.specs.Prelude.{Result, Ok, Err}
+use Rattle.std.specs.Result.{result_unwrap_or}
+use Rattle.error.specs.Answers.{as_outcome}
 use Rattle.error.specs.declared.Refusal.{Refusal}
 use Rattle.error.specs.declared.Refusal.TheVariants.{Width, NotAList, Overflow, WideAddress, OverCapacity}
-use Rattle.error.specs.Refusals.{number_of, values_of}
 use Rattle.error.specs.Outcome.{Outcome, answer, nothing, refuse, refused, when, first_of, and_then, sat}
-use Rattle.error.specs.Answers.{number_outcome}
 use Rattle.error.specs.Lent.{With, with, left, leaving, over}
 use Rattle.error.proofs.TestLaws.{and_true, or_false, true_not_false}
 use Rattle.error.proofs.OutcomeLaws.{first_holds, first_passes, first-none, first_answers}
@@ -28,13 +28,11 @@ use Rattle.fsm_sections.specs.Sections.{section, decode, space, distinct, by_siz
 use Rattle.fsm_sections.specs.Chains.{sections_of}
 use Rattle.fsm_sections.specs.Sources.{chains_of, plain_source, Given}
 use Rattle.fsm_sections.specs.Passes.{storable, Numbers}
-use Rattle.fsm_sections.specs.Runs.{wide, any_of, any_wide}
+use Rattle.fsm_sections.specs.Runs.{wide, any_wide}
 use Rattle.fsm_sections.proofs.AnyLaws.{any_sorted}
-use Rattle.fsm_sections.proofs.StoredLaws.{too_great, great_enough, stored_is, stored-not}
+use Rattle.fsm_sections.proofs.StoredLaws.{refused_alike, too_great, great_enough, stored_is, stored-not}
 use Rattle.fsm_sizes.specs.declared.totals.Sums.{Sums}
-use Rattle.fsm_sizes.specs.declared.totals.Summed.{Summed}
-use Rattle.fsm_sizes.specs.declared.totals.Summed.TheVariants as sums
-use Rattle.fsm_sizes.specs.Totals.{summed, summed_outcome}
+use Rattle.fsm_sizes.specs.Totals.{summed}
 use Rattle.fsm_sizes.proofs.TotalLaws.{sum_over, summed-is, summed-not}
 use Rattle.fsm_sections.proofs.SlotLaws.{plain_runs}
 use Rattle.fsm_blocks.specs.Fshd.{Header, fshd_bytes, fshd_size}
@@ -44,7 +42,6 @@ use Rattle.fsm_writer.specs.Serializing.{of_run, blocks_len, written_fshd, writt
 use Rattle.fsm_sections.proofs.PassLaws.{run-numbers}
 use Rattle.fsm_sections.proofs.SizesLaws.{distinct-few}
 use Rattle.fsm_blocks.proofs.LengthLaws.{width_small, used_by_lem}
-use Rattle.error.specs.declared.Number.TheVariants as number
 
 -- ---- a run of sections as a source
 
@@ -65,31 +62,24 @@ module _ (n : ℕ) (run : List ℕ) where
   plain_all = sym (plain_runs n run run run)
 
   -- the sum of the sizes, where the number of the sections fits
-  module _ (room : 2 * n ≤ length run) (few : n ≤ top) (s : Source) (se : s ≡ plain_source n) (c : Summed)
-      (ce : summed_outcome c ≡ summed (length (sections_of (chains_of s run run run))) (space (sections_of (chains_of s run run run)))) where
+  module _ (room : 2 * n ≤ length run) (few : n ≤ top) (s : Source) (se : s ≡ plain_source n) where
     abbrev l : List FreeSection
     l = sections_of (chains_of (plain_source n) run run run)
 
-    by_plain : summed_outcome c ≡ summed (length l) (space l)
-    by_plain = ce ∙ ap (λ (x : Source). summed (length (sections_of (chains_of x run run run))) (space (sections_of (chains_of x run run run)))) se
+    abbrev sums : Source → Outcome Sums
+    sums x = summed (length (sections_of (chains_of x run run run))) (space (sections_of (chains_of x run run run)))
 
     long-is : length l ≤ top
     long-is = rw plain_all (omega (arith, length-decode section n run room))
 
-    pub space-refused : (r : Refusal) → c ≡ sums.Refused r → refused r ≡ storable (space l)
+    pub space-refused : (r : Refusal) → refused r ≡ sums s → refused r ≡ storable (space l)
     space-refused r h =
-        let z : top < space l = ⊎_elim (λ (p : top < space l). p) (λ (p : top < length l). absurd (omega (arith, long-is))) (summed-not c _ _ by_plain r h) in
-        refuse-alike (sym (sum_over (length l) (space l) z)) (ap summed_outcome (sym h) ∙ by_plain) ∙ too_great (space l) z
-      where
-        refuse-alike : {A B : Type 0} {x : Outcome A} → x ≡ refused Overflow → refused r ≡ x → refused {A = B} r ≡ refused Overflow
-        refuse-alike e f =
-            let q : refused r ≡ refused Overflow = f ∙ e in
-            let n : number_of r ≡ number_of Overflow = cc in
-            let v : values_of r ≡ values_of Overflow = cc in
-            ap₂ refuse n v
+        let by_plain : refused r ≡ summed (length l) (space l) = h ∙ ap sums se in
+        let z : top < space l = ⊎_elim (λ (p : top < space l). p) (λ (p : top < length l). absurd (omega (arith, long-is))) (summed-not (Err r) _ _ by_plain r refl) in
+        refused_alike r Overflow (by_plain ∙ sym (sum_over (length l) (space l) z)) ∙ too_great (space l) z
 
-    pub space-is : (t : Sums) → c ≡ sums.Are t → answer t.space ≡ storable (space l)
-    space-is t h = let q = summed-is c _ _ by_plain t h in great_enough t.space (space l) q.1 (omega (arith, q.1, q.3))
+    pub space-is : (t : Sums) → answer t ≡ sums s → answer t.space ≡ storable (space l)
+    space-is t h = let q = summed-is (Ok t) _ _ (h ∙ ap sums se) t refl in great_enough t.space (space l) q.1 (omega (arith, q.1, q.3))
 
 -- ---- what follows on a refusal and on an answer
 
@@ -98,11 +88,11 @@ unfolding and_then
 then_refused s r g e = rw e
 
 -- a refusal of what gives a number is a refusal of what gives anything
-refused-alike : {A B : Type 0} (s : Outcome A) (f : A → ℕ) (n : ℕ) (vs : List ℕ) (g : A → Outcome B) → refuse n vs ≡ and_then s (λ x. answer (f x)) → refuse n vs ≡ and_then s g
+refused-then : {A B : Type 0} (s : Outcome A) (f : A → ℕ) (n : ℕ) (vs : List ℕ) (g : A → Outcome B) → refuse n vs ≡ and_then s (λ x. answer (f x)) → refuse n vs ≡ and_then s g
 unfolding and_then
-refused-alike (answer a) f n vs g e = let z : ◌≡◌ {A = ℕ} 0 1 = cc in absurd (omega arith)
-refused-alike nothing f n vs g e = let z : ◌≡◌ {A = ℕ} 0 1 = cc in absurd (omega arith)
-refused-alike (refuse m ws) f n vs g e = cc
+refused-then (answer a) f n vs g e = let z : ◌≡◌ {A = ℕ} 0 1 = cc in absurd (omega arith)
+refused-then nothing f n vs g e = let z : ◌≡◌ {A = ℕ} 0 1 = cc in absurd (omega arith)
+refused-then (refuse m ws) f n vs g e = cc
 
 answered : {A : Type 0} {R : Type 0} (s : Outcome A) (f : A → ℕ) (n : ℕ) → answer n ≡ and_then s (λ x. answer (f x)) → ((x : A) → s ≡ answer x → n ≡ f x → R) → R
 unfolding and_then
@@ -135,13 +125,9 @@ module _ (O : ℕ) (run : List ℕ) (n : ℕ) where
     run_width h = then_refused _ Width g (first_holds _ Width _ _ h)
 
     module _ (v : not (valid_width O) ≡ false) where
-      pub run_odd : (length run % 2 ≡ 0 → ⊥) → refused NotAList ≡ and_then (of_run O run n) g
+      pub run_unlisted : (not (eqb (length run % 2) 0) || ltb (length run / 2) n) ≡ true → refused NotAList ≡ and_then (of_run O run n) g
       unfolding of_run
-      run_odd h = then_refused _ NotAList g (first_passes _ Width _ _ v ∙ first_holds _ NotAList _ _ (rw (ne_eqb (length run % 2) 0 h)))
-
-      pub run_long : length run % 2 ≡ 0 → length run / 2 < n → refused NotAList ≡ and_then (of_run O run n) g
-      unfolding of_run
-      run_long e h = then_refused _ NotAList g (first_passes _ Width _ _ v ∙ first_holds _ NotAList _ _ (rw (eq-eqb (length run % 2) 0 e, lt-ltb (length run / 2) n h)))
+      run_unlisted h = then_refused _ NotAList g (first_passes _ Width _ _ v ∙ first_holds _ NotAList _ _ h)
 
   pub run_space : not (valid_width O) ≡ false → length run % 2 ≡ 0 → n ≤ length run / 2 → (r : Outcome ℕ) → r ≡ storable (space (sections_of (chains_of (plain_source n) run run run)))
       → r ≡ and_then (of_run O run n) (λ l. answer (space l))
@@ -152,27 +138,26 @@ module _ (O : ℕ) (run : List ℕ) (n : ℕ) where
       (first_passes _ Width _ _ v ∙ first_passes _ NotAList _ _ (rw (eq-eqb (length run % 2) 0 e, le-ltb (length run / 2) n h)))
       ∙ one_then (ltb top (space (decode n run))) Overflow (decode n run) (λ l. answer (space l)))
 
-  module _ (c : Number) (e : number_outcome c ≡ and_then (of_run O run n) (λ l. answer (space l))) where
-    pub taken_refused : {B : Type 0} (g : List FreeSection → Outcome B) (r : Refusal) → c ≡ number.Refused r → refused r ≡ and_then (of_run O run n) g
-    taken_refused g r h = refused-alike (of_run O run n) space _ _ g (ap number_outcome (sym h) ∙ e)
+  pub taken_refused : {B : Type 0} (g : List FreeSection → Outcome B) (r : Refusal) → refused r ≡ and_then (of_run O run n) (λ l. answer (space l)) → refused r ≡ and_then (of_run O run n) g
+  taken_refused g r e = refused-then (of_run O run n) space _ _ g e
 
-    pub taken_is : (sum : ℕ) → c ≡ number.Is sum → Accepted sum
-    unfolding of_run
-    taken_is sum h = answered (of_run O run n) space sum (ap number_outcome (sym h) ∙ e) accept
-      where
-        accept : (l : List FreeSection) → of_run O run n ≡ answer l → sum ≡ space l → Accepted sum
-        accept l i s =
-            let q = first_answers _ (decode n run) l i in
-            let v = and_true (leb 1 O) (leb O 8) (not_false (valid_width O) q.0.0) in
-            let r = or_false (not (eqb (length run % 2) 0)) (ltb (length run / 2) n) q.0.1.0 in
-            let m : n ≤ length run / 2 = ltb-false (length run / 2) n r.1 in
-            record {
-              low = leb-true 1 O v.0;
-              high = leb-true O 8 v.1;
-              room = omega arith;
-              is_sum = s ∙ ap space (sym q.1);
-              is = i ∙ ap (λ (k : List FreeSection). answer k) (sym q.1);
-            }
+  pub taken_is : (sum : ℕ) → answer sum ≡ and_then (of_run O run n) (λ l. answer (space l)) → Accepted sum
+  unfolding of_run
+  taken_is sum e = answered (of_run O run n) space sum e accept
+    where
+      accept : (l : List FreeSection) → of_run O run n ≡ answer l → sum ≡ space l → Accepted sum
+      accept l i s =
+          let q = first_answers _ (decode n run) l i in
+          let v = and_true (leb 1 O) (leb O 8) (not_false (valid_width O) q.0.0) in
+          let r = or_false (not (eqb (length run % 2) 0)) (ltb (length run / 2) n) q.0.1.0 in
+          let m : n ≤ length run / 2 = ltb-false (length run / 2) n r.1 in
+          record {
+            low = leb-true 1 O v.0;
+            high = leb-true O 8 v.1;
+            room = omega arith;
+            is_sum = s ∙ ap space (sym q.1);
+            is = i ∙ ap (λ (k : List FreeSection). answer k) (sym q.1);
+          }
 
 pub accepted_then : {B : Type 0} (O : ℕ) (run : List ℕ) (n sum : ℕ) → Accepted O run n sum → (g : List FreeSection → Outcome B) → g (decode n run) ≡ and_then (of_run O run n) g
 unfolding and_then
@@ -202,12 +187,10 @@ module _ (o n : ℕ) (run : List ℕ) (room : 2 * n ≤ length run) (fits : n < 
         sym (rw (long, ← e))
 
     -- it is a number, and is not refused
-    module _ (high : o ≤ 8) (few : 17 + 25 * n ≤ top) (c : Number) (ce : number_outcome c ≡ storable (used_by o (starting_set o) n d)) where
-      pub used-is : (m : ℕ) → c ≡ number.Is m → m ≡ fsse_used o (starting_set o) (decode n run)
-      used-is m h = (stored_is c _ ce m h).0 ∙ used-run
-
-      pub used-not : (r : Refusal) → c ≡ number.Refused r → 0 ≡ fsse_used o (starting_set o) (decode n run)
-      used-not r h = absurd (omega (arith, stored-not c _ ce r h, used-run, used-few high))
+    module _ (high : o ≤ 8) (few : 17 + 25 * n ≤ top) where
+      pub used_either : (c : Result ℕ Refusal) → as_outcome c ≡ storable (used_by o (starting_set o) n d) → result_unwrap_or c 0 ≡ fsse_used o (starting_set o) (decode n run)
+      used_either (Ok m) e = (stored_is (Ok m) _ e m refl).0 ∙ used-run
+      used_either (Err r) e = absurd (omega (arith, stored-not (Err r) _ e r refl, used-run, used-few high))
 
 -- ---- the entries, by their branches
 
@@ -321,7 +304,6 @@ pub or_neither : (a b : Bool) → a ≡ false → b ≡ false → (a || b) ≡ f
 or_neither a b e f = rw (e, f)
 
 all-narrow : (O : ℕ) (l : List FreeSection) → any_wide O l ≡ false → Narrow O l
-unfolding any_of
 all-narrow O [] e = tt
 all-narrow O (s ∷ l) e = let q = or_false (wide O s.addr) (any_wide O l) e in (leb-false (256 ^ O) s.addr q.0, all-narrow O l q.1)
 

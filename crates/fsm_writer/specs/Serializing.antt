@@ -1,6 +1,5 @@
 -- The writer's public entries over a run of sections. Assumes nothing.
 -- In quotes: document 01's words, from "Blocks on file", from the refusal of that number or from the heading named.
---   written_outcome  the outcome that an answer of the code stands for ("Language forms": "for every case of the enum")
 --   of_run           a run of sections and its count: refusals 1, 3 ("Runs of sections are tested for odd length and count alone"), 4 ("a sum of
 --                    section sizes")
 --   blocks_len       "`file_fsm_blocks_len` is 0 without sections, else both lengths added"
@@ -8,7 +7,7 @@
 --   written_fsse     `serialize_fsse`: the section list at the front of the lent bytes ("Size 0 and duplicates are written"); the same refusals
 use Rattle.std.specs.Prelude.{ℕ, ◌/◌, ◌%◌, not, ◌||◌, List, [], ◌∷◌, ltb, eqb, length}
 use Rattle.error.specs.declared.Refusal.TheVariants.{Width, NotAList, Overflow, WideAddress, OverCapacity}
-use Rattle.error.specs.Outcome.{Outcome, answer, refused, when, first_of, and_then}
+use Rattle.error.specs.Outcome.{Outcome, answer, when, first_of, and_then}
 use Rattle.error.specs.Lent.{With, with, over}
 use Rattle.fields.specs.Ranges.{top}
 use Rattle.fields.specs.Width.{valid_width}
@@ -16,14 +15,8 @@ use Rattle.checksum.specs.Lookup3.{lookup3}
 use Rattle.fsm_sections.specs.declared.FreeSection.{FreeSection}
 use Rattle.fsm_sections.specs.Sections.{decode, space}
 use Rattle.fsm_sections.specs.Runs.{wide, any_wide}
-use Rattle.fsm_writer.specs.declared.writer.Written.{Written}
-use Rattle.fsm_writer.specs.declared.writer.Written.TheVariants as written
 use Rattle.fsm_blocks.specs.Fshd.{fshd_bytes, fshd_size}
 use Rattle.fsm_blocks.specs.Settings.{starting_set, header_for, fsse_for, fsse_used, blocks_size}
-
-abbrev pub written_outcome : Written → Outcome ℕ
-written_outcome (written.Bytes n) = answer n
-written_outcome (written.Refused r) = refused r
 
 unfoldable pub of_run : ℕ → List ℕ → ℕ → Outcome (List FreeSection)
 of_run O run n =

@@ -1,5 +1,6 @@
 // The blocks of a paged file's managers, planned and written straight from the lists' runs. The sections are not stored anywhere.
 ghost use Rattle.std.specs.Prelude.{◌≡◌, ◌+◌, ◌≤◌, length};
+ghost use Rattle.error.specs.Answers.{as_outcome};
 ghost use Rattle.error.specs.Outcome.{answer};
 ghost use Rattle.error.specs.Lent.{left, leaving, over};
 ghost use Rattle.fields.specs.Ranges.{top};
@@ -9,16 +10,14 @@ ghost use Rattle.fsm_sections.specs.Sources.{chains_of, Given};
 ghost use Rattle.fsm_sections.specs.Passes.{Numbers};
 ghost use Rattle.fsm_blocks.specs.Settings.{starting_set};
 ghost use Rattle.fsm_plan.specs.Managers.{manager, manager_bytes};
-ghost use Rattle.fsm_plan.specs.Blocks.{measure_of, planned_blocks, blocks_outcome};
+ghost use Rattle.fsm_plan.specs.Blocks.{measure_of, planned_blocks};
 ghost use Rattle.fsm_writer.specs.Writing.{Narrow};
 ghost use Rattle.fsm_writer.specs.Paged.{managers_bytes, written_managers};
 
 use crate::writer::{SectionList, write_fshd, write_fsse};
 use error::Refusal;
 use fsm_plan::Counts;
-use fsm_plan::blocks::{
-    BlocksPlan, BlocksPlanned, SECT_CLASS_LARGE, SECT_CLASS_SMALL, plan_blocks,
-};
+use fsm_plan::blocks::{BlocksPlan, SECT_CLASS_LARGE, SECT_CLASS_SMALL, plan_blocks};
 use fsm_plan::measure::{Measure, large_source, small_source};
 use fsm_sections::Source;
 
@@ -53,7 +52,7 @@ fn put_blocks(
     write_fshd(out, o, m.space, m.count, address + head, used);
     let list = SectionList {
         fshd: address,
-        class: class,
+        class,
         count: m.count as usize,
         len: used as usize,
     };
@@ -130,24 +129,19 @@ pub fn serialize_paged_managers(
     start: u64,
     offset_size: u8,
     out: &mut [u8],
-) -> BlocksPlanned
-    ensures { left (blocks_outcome result) out.new
+) -> Result<BlocksPlan, Refusal>
+    ensures { left (as_outcome result) out.new
         ≡ leaving out.old (written_managers meta.now raw.now unclassified.now n page start offset_size
         out.old) }
 {
-    let planned = plan_blocks(meta, raw, unclassified, n, page, start, offset_size);
-    match planned {
-        BlocksPlanned::Refused(r) => BlocksPlanned::Refused(r),
-        BlocksPlanned::Plan(p) => {
-            let len = p.managers.end_of_managers - start;
-            if (out.len() as u64) < len {
-                return BlocksPlanned::Refused(Refusal::OverCapacity {
-                    needed: len,
-                    given: out.len() as u64,
-                });
-            }
-            put_managers(meta, raw, unclassified, n, page, start, p, offset_size, out);
-            BlocksPlanned::Plan(p)
-        }
+    let p = plan_blocks(meta, raw, unclassified, n, page, start, offset_size)?;
+    let len = p.managers.end_of_managers - start;
+    if (out.len() as u64) < len {
+        return Err(Refusal::OverCapacity {
+            needed: len,
+            given: out.len() as u64,
+        });
     }
+    put_managers(meta, raw, unclassified, n, page, start, p, offset_size, out);
+    Ok(p)
 }

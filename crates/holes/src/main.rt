@@ -4,7 +4,7 @@
 ghost use Rattle.std.specs.Prelude.{◌≡◌, ◌+◌, ◌≤◌, length, take};
 ghost use Rattle.holes_text.specs.Holes.{image_limit, text_limit, holes_text};
 
-use holes_text::{IMAGE_LIMIT, TEXT_LIMIT, Written, holes_text};
+use holes_text::{IMAGE_LIMIT, TEXT_LIMIT, holes_text};
 use std::io;
 use streams::read_full;
 
@@ -27,10 +27,7 @@ fn write_text(image: &[u8], out: &mut [u8]) -> usize
     requires { text_limit ≤ length out.old }
     ensures { (result ≤ length out.new) × (take result out.new ≡ holes_text image.now) }
 {
-    match holes_text(image, out) {
-        Written::Bytes(n) => n,
-        Written::Refused(_) => 0,
-    }
+    holes_text(image, out).unwrap()
 }
 
 fn main(rt: HostRuntime) -> io::Result<()> {

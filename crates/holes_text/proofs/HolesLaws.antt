@@ -9,6 +9,7 @@ use borrow.Author.Tests.{ltb-false, lt-ltb, le-ltb}
 use lib.Dec.{ltb, eqb}
 use lib.ListN.{length, take}
 use lib.Seq.{take_all, length-take-le}
+use Rattle.std.specs.Prelude.{Result, Ok, Err}
 use Rattle.error.specs.declared.Refusal.{Refusal}
 use Rattle.error.specs.declared.Refusal.TheVariants.{NotAList, OverCapacity}
 use Rattle.error.specs.Refusals.{number_of}
@@ -20,8 +21,6 @@ use Rattle.fsm_sections.specs.declared.FreeSection.{FreeSection}
 use Rattle.fsm_sections.specs.Sections.{flat}
 use Rattle.fsm_blocks.specs.Reading.{joined}
 use Rattle.fsm_blocks.proofs.ThenLaws.{Holds}
-use Rattle.image.specs.declared.ImageAnswer.{ImageAnswer}
-use Rattle.image.specs.declared.ImageAnswer.TheVariants.{Read, Refused}
 use Rattle.image.specs.declared.ImageRead.{ImageRead}
 use Rattle.image.specs.Answers.{outcome_with, image_outcome}
 use Rattle.fsm_blocks.specs.declared.checks.Reading.TheVariants.{Loose}
@@ -113,16 +112,16 @@ module _ (run : List ℕ) (size : 2 * section_limit ≡ length run) where
     unfolding image_into
     read = e ∙ ap (leaving run) (into (read_image Loose 0 image))
 
-    answered : (a : ImageAnswer) → r.answer ≡ a → outcome_with r.counts a ≡ (leaving run (and_then listed filled)).outcome
+    answered : (a : (Result (Unit {0}) Refusal)) → r.answer ≡ a → outcome_with r.counts a ≡ (leaving run (and_then listed filled)).outcome
     answered a q = sym (ap (outcome_with r.counts) q) ∙ ap (λ (l : Left (List ℕ) (List ℕ)). l.outcome) read
 
     text_is : text_of listed ≡ holes_text image
     unfolding holes_read
     text_is = ap text_of (passes _ (OverCapacity (length image) image_limit) _ (le-ltb image_limit (length image) short))
 
-    pub text_refused : (x : Refusal) → r.answer ≡ Refused x → refused_text (number_of x) ≡ holes_text image
-    text_refused x q = text_of-refused listed x (answered (Refused x) q) ∙ text_is
+    pub text_refused : (x : Refusal) → r.answer ≡ Err x → refused_text (number_of x) ≡ holes_text image
+    text_refused x q = text_of-refused listed x (answered (Err x) q) ∙ text_is
 
-    pub text_listed : r.answer ≡ Read → listing_text (slots_of r.counts run') ≡ holes_text image
+    pub text_listed : r.answer ≡ (Ok tt) → listing_text (slots_of r.counts run') ≡ holes_text image
     text_listed q =
-        listed_text listed r.counts run' (few (read_image Loose 0 image)) (answered Read q) (ap (λ (l : Left (List ℕ) (List ℕ)). l.memory) read) ∙ text_is
+        listed_text listed r.counts run' (few (read_image Loose 0 image)) (answered (Ok tt) q) (ap (λ (l : Left (List ℕ) (List ℕ)). l.memory) read) ∙ text_is

@@ -1,5 +1,5 @@
 -- No text is longer than the limit, so that a buffer of that size holds any. Assumes nothing.
-use mathlib.Core.Path.{◌≡◌, sym, ap, ◌∙◌}
+use mathlib.Core.Path.{◌≡◌, refl, sym, ap, ◌∙◌}
 use mathlib.Core.Bool.{Bool, true, false}
 use mathlib.Core.List.{List, [], ◌∷◌}
 use Prim.Native.Nat.{ℕ, suc, ◌+◌, ◌*◌, ◌≤◌, ◌<◌, min}
@@ -8,6 +8,8 @@ use borrow.Author.Tests.{lt-ltb, le-ltb}
 use lib.Dec.{ltb}
 use lib.ListN.{length, take, drop, length-append}
 use lib.Seq.{take_at}
+use Rattle.std.specs.Prelude.{Result, Ok, Err, is_ok}
+use Rattle.error.specs.Answers.{as_outcome}
 use Rattle.error.specs.declared.Refusal.{Refusal}
 use Rattle.error.specs.declared.Refusal.TheVariants.{OverCapacity}
 use Rattle.error.specs.Outcome.{Outcome, answer, nothing, refuse, refused}
@@ -144,6 +146,10 @@ module _ (image out : List ℕ) (h : text_limit ≤ length out) where
       let q : refused x ≡ answer (length (holes_text image)) = ap (λ (l : Left ℕ (List ℕ)). l.outcome) (e ∙ fits) in
       let z : ◌≡◌ {A = ℕ} 0 1 = cc in
       absurd (omega arith)
+
+  pub always_ok : (o : Result ℕ Refusal) {p : List ℕ} → left (as_outcome o) p ≡ leaving out (holes_written image out) → is_ok o ≡ true
+  always_ok (Ok n) e = refl
+  always_ok (Err x) e = absurd (never-refused x e)
 
   pub always_written : {n : ℕ} {p : List ℕ} → left (answer n) p ≡ leaving out (holes_written image out) → (n ≤ length p) × (take n p ≡ holes_text image)
   always_written {n} {p} e =

@@ -2,14 +2,14 @@
 #![tactic(auto)]
 
 ghost use Rattle.std.specs.Prelude.{◌≡◌, ◌*◌, length};
+ghost use Rattle.error.specs.Answers.{as_outcome};
 ghost use Rattle.error.specs.Lent.{with, left, leaving};
 ghost use Rattle.text.specs.Text.{written};
 ghost use Rattle.holes_text.specs.Holes.{section_limit, text_limit, holes_text, holes_written};
-ghost use Rattle.holes_text.specs.Answers.{written_outcome};
 
 use crate::listing::{write_listing, write_refusal};
 use error::Refusal;
-use image::{ImageAnswer, read_image};
+use image::read_image;
 use text::words::write_bytes;
 
 mod listing;
@@ -22,13 +22,6 @@ pub const SECTION_LIMIT: usize = 2048;
 
 // The bytes of the longest text.
 pub const TEXT_LIMIT: usize = 92178;
-
-// How many bytes a text has that was written.
-#[derive(Clone, Copy)]
-pub enum Written {
-    Bytes(usize),
-    Refused(Refusal),
-}
 
 // A run for the sections.
 fn lent_run() -> [u64; 2 * SECTION_LIMIT]
@@ -58,28 +51,24 @@ fn print(image: &[u8], out: &mut [u8]) -> usize
     }
     let mut run = lent_run();
     let read = read_image(image, 0, &mut run);
-    let answer = read.answer;
-    match answer {
-        ImageAnswer::Refused(refusal) => write_refusal(refusal.number(), out),
-        ImageAnswer::Read => {
-            let counts = read.counts;
-            write_listing(&counts, &run, out)
-        }
+    match read.answer {
+        Ok(()) => write_listing(&read.counts, &run, out),
+        Err(refusal) => write_refusal(refusal.number(), out),
     }
 }
 
 // Writes the text of an image to the front of `out`: the listing, or the refusal of its reading. The text is made in memory
 // that holds any, so that its length is known before a byte is written.
-pub fn holes_text(image: &[u8], out: &mut [u8]) -> Written
-    ensures { left (written_outcome result) out.new ≡ leaving out.old (holes_written image.now out.old) }
+pub fn holes_text(image: &[u8], out: &mut [u8]) -> Result<usize, Refusal>
+    ensures { left (as_outcome result) out.new ≡ leaving out.old (holes_written image.now out.old) }
 {
     let mut text = text_memory();
     let n = print(image, &mut text);
     if out.len() < n {
-        return Written::Refused(Refusal::OverCapacity {
+        return Err(Refusal::OverCapacity {
             needed: n as u64,
             given: out.len() as u64,
         });
     }
-    Written::Bytes(write_bytes(out, 0, &text[..n]))
+    Ok(write_bytes(out, 0, &text[..n]))
 }

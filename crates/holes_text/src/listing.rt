@@ -5,7 +5,6 @@ ghost use Rattle.fsm_sections.specs.Sections.{section, decode};
 ghost use Rattle.text.specs.Text.{written};
 ghost use Rattle.holes_text.specs.Listing.{row_text, slot_text, slots_of, listing_text, refused_text};
 
-use numbers::min;
 use text::words::{write_bytes, write_word};
 
 // Writes a section's line.
@@ -22,13 +21,11 @@ fn write_slot(out: &mut [u8], at: usize, slot: u64, run: &[u64], count: u64) -> 
     requires { at ≤ length out.old }
     ensures { with result out.new ≡ written at (slot_text slot (decode count run.now)) out.old }
 {
-    let n = min(count, (run.len() / 2) as u64) as usize;
+    let n = count.min((run.len() / 2) as u64) as usize;
+    // By the pair's place, as the definition's lines go; with `chunks_exact(2)` the count would have to be cut as well.
     let mut to = at;
-    let mut i = 0;
-    while i < n {
-        let p = 2 * i;
-        to = write_row(out, to, slot, run[p], run[p + 1]);
-        i += 1;
+    for i in 0..n {
+        to = write_row(out, to, slot, run[2 * i], run[2 * i + 1]);
     }
     to
 }
@@ -38,11 +35,8 @@ fn after_pairs(from: usize, count: u64, len: usize) -> usize
     requires { from ≤ len }
     ensures { result ≡ min (from + 2 * count) len }
 {
-    let there = (len - from) / 2;
-    if (there as u64) < count {
-        return len;
-    }
-    from + 2 * count as usize
+    let end = (from as u64).saturating_add(count.saturating_mul(2));
+    end.min(len as u64) as usize
 }
 
 // Writes the line of names and a line for each section: slot i has the next `counts[i]` pairs of the run. Answers how many
@@ -52,12 +46,9 @@ pub(crate) fn write_listing(counts: &[u64], run: &[u64], out: &mut [u8]) -> usiz
 {
     let mut to = write_bytes(out, 0, b"slot address size\n");
     let mut from = 0;
-    let mut slot = 0;
-    while slot < counts.len() {
-        let count = counts[slot];
-        to = write_slot(out, to, slot as u64, &run[from..], count);
-        from = after_pairs(from, count, run.len());
-        slot += 1;
+    for (slot, count) in counts.iter().enumerate() {
+        to = write_slot(out, to, slot as u64, &run[from..], *count);
+        from = after_pairs(from, *count, run.len());
     }
     to
 }
@@ -67,5 +58,5 @@ pub(crate) fn write_refusal(number: u8, out: &mut [u8]) -> usize
     ensures { with result out.new ≡ written 0 (refused_text number) out.old }
 {
     let second = write_bytes(out, 0, b"refused\n");
-    write_word(out, second, number as u64, b'\n')
+    write_word(out, second, u64::from(number), b'\n')
 }

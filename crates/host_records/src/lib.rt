@@ -3,23 +3,22 @@
 #![tactic(auto)]
 
 ghost use Rattle.std.specs.Prelude.{◌≡◌};
+ghost use Rattle.error.specs.Answers.{as_outcome};
 ghost use Rattle.error.specs.Lent.{leaving, with};
-ghost use Rattle.fsm_pages.specs.Split.{split_outcome};
 ghost use Rattle.split_records.specs.Records.{split_records};
 ghost use Rattle.host_records.specs.Shown.{shown, left_shown};
 
-use fsm_pages::pages::Split;
+use error::Refusal;
 use fsm_sections::FreeSection;
-use numbers::MAX;
 use split_records::split_at_pages;
 
 // The number that C sees of an answer.
-fn shown_number(s: Split) -> usize
-    ensures { result ≡ shown (split_outcome s) }
+fn shown_number(s: Result<usize, Refusal>) -> usize
+    ensures { result ≡ shown (as_outcome s) }
 {
     match s {
-        Split::Pieces(n) => n,
-        Split::Refused(r) => MAX as usize - r.number() as usize,
+        Ok(n) => n,
+        Err(r) => usize::MAX - usize::from(r.number()),
     }
 }
 

@@ -6,10 +6,10 @@ use native.Mathlib.Nat.{le_of_suc-le-suc, not-suc-le-zero}
 use native.Mathlib.Omega.{arith}
 use lib.ListN.{length, take, get_or, set, replicate, length-map}
 use lib.Seq.{take_all}
+use Rattle.std.specs.Prelude.{Result, Ok, Err}
+use Rattle.std.specs.Result.{result_unwrap_or}
+use Rattle.error.specs.Answers.{as_outcome}
 use Rattle.error.specs.declared.Refusal.{Refusal}
-use Rattle.error.specs.declared.Number.{Number}
-use Rattle.error.specs.declared.Number.TheVariants as number
-use Rattle.error.specs.Answers.{number_outcome}
 use Rattle.error.specs.Outcome.{Outcome, answer, nothing, refuse, first_of, and_then}
 use Rattle.error.specs.Lent.{over}
 use Rattle.error.proofs.OverLaws.{over_zeros, front-next}
@@ -31,14 +31,10 @@ none-counted (answer l) n vs e = let z : ◌≡◌ {A = ℕ} 0 1 = cc in absurd 
 none-counted nothing n vs e = refl
 none-counted (refuse m ws) n vs e = refl
 
-module _ (image : List ℕ) (slot : ℕ) {r : Number} (e : number_outcome r ≡ manager_count Loose 8 0 slot image) where
-  pub counted_is : (n : ℕ) → r ≡ number.Is n → n ≡ sections_in image slot
-  unfolding manager_count first_of
-  counted_is n q = sym (sized_is (read_manager Loose 8 0 slot image) length n (sym e ∙ ap number_outcome q)).1
-
-  pub counted_none : (x : Refusal) → r ≡ number.Refused x → 0 ≡ sections_in image slot
-  unfolding manager_count first_of
-  counted_none x q = none-counted (read_manager Loose 8 0 slot image) _ _ (sym e ∙ ap number_outcome q)
+pub counted_or : (image : List ℕ) (slot : ℕ) (r : Result ℕ Refusal) → as_outcome r ≡ manager_count Loose 8 0 slot image → result_unwrap_or r 0 ≡ sections_in image slot
+unfolding manager_count first_of
+counted_or image slot (Ok n) e = sym (sized_is (read_manager Loose 8 0 slot image) length n (sym e)).1
+counted_or image slot (Err x) e = none-counted (read_manager Loose 8 0 slot image) _ _ (sym e)
 
 -- ---- the slots in order
 

@@ -7,6 +7,8 @@ use native.Mathlib.Omega.{arith}
 use borrow.Author.Tests.{eq-eqb, ne_eqb}
 use lib.Dec.{eqb}
 use lib.ListN.{length}
+use Rattle.std.specs.Prelude.{Result, Ok, Err}
+use Rattle.error.specs.Answers.{as_outcome}
 use Rattle.error.specs.declared.Refusal.{Refusal}
 use Rattle.error.specs.declared.Refusal.TheVariants.{NotAList}
 use Rattle.error.specs.Refusals.{number_of, values_of}
@@ -14,9 +16,6 @@ use Rattle.error.specs.Outcome.{Outcome, answer, nothing, refuse, refused, Condi
 use Rattle.error.specs.Lent.{With, with, Left, left, leaving}
 use Rattle.error.proofs.OutcomeLaws.{passes, refuses, first_passes, then_first}
 use Rattle.fsm_sections.specs.declared.FreeSection.{FreeSection}
-use Rattle.fsm_blocks.specs.declared.fsse.SectionsAnswer.{SectionsAnswer}
-use Rattle.fsm_blocks.specs.declared.fsse.SectionsAnswer.TheVariants as sections
-use Rattle.fsm_blocks.specs.Answers.{sections_outcome}
 use Rattle.fsm_blocks.specs.declared.checks.Reading.{Reading}
 use Rattle.fsm_blocks.specs.Reading.{read_slots, joined, into_run, persisted}
 use Rattle.fsm_blocks.specs.Parts.{got, Accepted}
@@ -74,26 +73,26 @@ module _ (out : List ℕ) where
   run_accepts nothing n e = let z : ◌≡◌ {A = ℕ} 0 1 = cc in absurd (omega arith)
   run_accepts (refuse k vs) n e = let z : ◌≡◌ {A = ℕ} 0 1 = cc in absurd (omega arith)
 
-  module _ (how : Reading) (slots image : List ℕ) (a : SectionsAnswer) (out' : List ℕ) (e : left (sections_outcome a) out' ≡ leaving out (persisted how slots 0 8 image out)) where
+  module _ (how : Reading) (slots image : List ℕ) (a : (Result ℕ Refusal)) (out' : List ℕ) (e : left (as_outcome a) out' ≡ leaving out (persisted how slots 0 8 image out)) where
     abbrev each : Outcome (List (List FreeSection))
     each = read_slots how 8 0 slots image
 
-    as_run : left (sections_outcome a) out' ≡ leaving out (run each)
+    as_run : left (as_outcome a) out' ≡ leaving out (run each)
     unfolding persisted
     as_run = e ∙ ap (leaving out) (first_passes _ _ _ _ refl)
 
-    outcome-is : sections_outcome a ≡ (leaving out (run each)).outcome
+    outcome-is : as_outcome a ≡ (leaving out (run each)).outcome
     outcome-is = ap (λ (x : Left ℕ (List ℕ)). x.outcome) as_run
 
     memory-is : out' ≡ (leaving out (run each)).memory
     memory-is = ap (λ (x : Left ℕ (List ℕ)). x.memory) as_run
 
-    pub slots-refused : (r : Refusal) → a ≡ sections.Refused r → left (refused r) out' ≡ leaving out (read_into out each)
-    slots-refused r q = leaves-refused out out' (run each) _ r (sym (ap sections_outcome q) ∙ outcome-is) memory-is ∙ sym (ap (leaving out) (counts_for_sum each))
+    pub slots-refused : (r : Refusal) → a ≡ Err r → left (refused r) out' ≡ leaving out (read_into out each)
+    slots-refused r q = leaves-refused out out' (run each) _ r (sym (ap as_outcome q) ∙ outcome-is) memory-is ∙ sym (ap (leaving out) (counts_for_sum each))
 
-    module _ (n : ℕ) (q : a ≡ sections.Read n) where
+    module _ (n : ℕ) (q : a ≡ Ok n) where
       answered : answer n ≡ (leaving out (run each)).outcome
-      answered = sym (ap sections_outcome q) ∙ outcome-is
+      answered = sym (ap as_outcome q) ∙ outcome-is
 
       pub slots-accepted : Accepted (read_slots how 8 0 slots image)
       slots-accepted = run_accepts each n (passed _ NotAList _ n answered)

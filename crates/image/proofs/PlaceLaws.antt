@@ -9,6 +9,9 @@ use native.Mathlib.Omega.{arith}
 use borrow.Author.Tests.{le-ltb}
 use lib.ListN.{length, take, drop, replicate, length-take, length-drop, drop_of_length-le}
 use lib.Seq.{take_all, take_at, length-take-le}
+use Rattle.std.specs.Prelude.{Result, Ok, Err}
+use Rattle.error.specs.Answers.{as_outcome}
+use Rattle.file_space_info.specs.declared.Parsed.{Parsed}
 use Rattle.error.specs.declared.Refusal.{Refusal}
 use Rattle.error.specs.Refusals.{number_of, values_of}
 use Rattle.error.specs.Outcome.{Outcome, answer, nothing, refuse, refused, first_of, and_then}
@@ -18,9 +21,7 @@ use Rattle.error.proofs.OverLaws.{length_over, over_zeros}
 use Rattle.error.proofs.OutcomeLaws.{first-append, passes, then_first}
 use Rattle.fields.specs.Layout.{window}
 use Rattle.file_space_info.specs.declared.FileSpaceInfo.{FileSpaceInfo}
-use Rattle.file_space_info.specs.declared.Parsed.{Parsed}
-use Rattle.file_space_info.specs.declared.Parsed.TheVariants.{Message, Refused}
-use Rattle.file_space_info.specs.Message.{fixed_len, info_of, fixed_tests, fixed_read, present, Read, parsed, parsed_outcome}
+use Rattle.file_space_info.specs.Message.{fixed_len, info_of, fixed_tests, fixed_read, present, parsed}
 use Rattle.file_space_info.proofs.ReadLaws.{length-numbers}
 use Rattle.image.specs.Reading.{message_at, addresses_in}
 
@@ -69,7 +70,7 @@ module _ (bs : List ℕ) where
   count m = present 8 8 (length bs) m.persist
 
   -- what is read where the fixed part is
-  abbrev whole : FileSpaceInfo → With Read (List ℕ)
+  abbrev whole : FileSpaceInfo → With Parsed (List ℕ)
   whole m = with (record { info = m; count = count m }) (over 0 (addresses_in bs m) zeros)
 
   refused_by : (o : Outcome FileSpaceInfo) (r : Refusal) → refused r ≡ (leaving zeros (and_then o (λ m. answer (whole m)))).outcome → refused r ≡ o
@@ -90,11 +91,11 @@ module _ (bs : List ℕ) where
       → ys ≡ (leaving zeros (and_then o (λ m. answer (whole m)))).memory → o ≡ fixed_read 8 8 bs → Whole m n ys
   unfolding and_then
   answer_by (answer k) m n ys e s f =
-      let r : ◌≡◌ {A = Read} (record { info = m; count = n }) (record { info = k; count = count k }) = cc in
-      let i : m ≡ k = ap (λ (x : Read). x.info) r in
+      let r : ◌≡◌ {A = Parsed} (record { info = m; count = n }) (record { info = k; count = count k }) = cc in
+      let i : m ≡ k = ap (λ (x : Parsed). x.info) r in
       record {
         accepted = ap answer i ∙ f;
-        counted = ap (λ (x : Read). x.count) r ∙ ap count (sym i);
+        counted = ap (λ (x : Parsed). x.count) r ∙ ap count (sym i);
         stored = s ∙ ap (λ (x : FileSpaceInfo). over 0 (addresses_in bs x) zeros) (sym i);
       }
   answer_by nothing m n ys e s f = let z : ◌≡◌ {A = ℕ} 0 1 = cc in absurd (omega arith)
@@ -118,19 +119,19 @@ module _ (bs : List ℕ) where
         ∙ ap (first_of (fixed_tests 8 8 bs)) (sym (passes _ _ _ (le-ltb 12 (count m) (count-few m))))
         ∙ sym (then_first (fixed_tests 8 8 bs) (answer m) (λ m. answer (whole m)))
 
-    module _ (p : Parsed) (ys : List ℕ) (e : left (parsed_outcome p) ys ≡ leaving zeros (parsed bs 8 8 zeros)) where
-      read : left (parsed_outcome p) ys ≡ leaving zeros (and_then (fixed_read 8 8 bs) (λ m. answer (whole m)))
+    module _ (p : (Result Parsed Refusal)) (ys : List ℕ) (e : left (as_outcome p) ys ≡ leaving zeros (parsed bs 8 8 zeros)) where
+      read : left (as_outcome p) ys ≡ leaving zeros (and_then (fixed_read 8 8 bs) (λ m. answer (whole m)))
       read = e ∙ ap (leaving zeros) parsed_then
 
-      outcome-is : parsed_outcome p ≡ (leaving zeros (and_then (fixed_read 8 8 bs) (λ m. answer (whole m)))).outcome
-      outcome-is = ap (λ (x : Left Read (List ℕ)). x.outcome) read
+      outcome-is : as_outcome p ≡ (leaving zeros (and_then (fixed_read 8 8 bs) (λ m. answer (whole m)))).outcome
+      outcome-is = ap (λ (x : Left Parsed (List ℕ)). x.outcome) read
 
-      pub message_refused : (r : Refusal) → p ≡ Refused r → refused r ≡ fixed_read 8 8 bs
-      message_refused r q = refused_by (fixed_read 8 8 bs) r (sym (ap parsed_outcome q) ∙ outcome-is)
+      pub message_refused : (r : Refusal) → p ≡ Err r → refused r ≡ fixed_read 8 8 bs
+      message_refused r q = refused_by (fixed_read 8 8 bs) r (sym (ap as_outcome q) ∙ outcome-is)
 
-      module _ (m : FileSpaceInfo) (n : ℕ) (q : p ≡ Message m n) where
+      module _ (m : FileSpaceInfo) (n : ℕ) (q : p ≡ Ok (record { info = m; count = n })) where
         told : Whole m n ys
-        told = answer_by (fixed_read 8 8 bs) m n ys (sym (ap parsed_outcome q) ∙ outcome-is) (ap (λ (x : Left Read (List ℕ)). x.memory) read) refl
+        told = answer_by (fixed_read 8 8 bs) m n ys (sym (ap as_outcome q) ∙ outcome-is) (ap (λ (x : Left Parsed (List ℕ)). x.memory) read) refl
 
         pub message_is : MessageIs bs m n ys
         message_is =

@@ -4,16 +4,14 @@
 --   counts_in       the counts that stand beside it: all 0 where it is a refusal ("Fourteen ways to say no": "Each promise covers answer and lent
 --                   memory, refusals too")
 --   refused_read    a refused reading with its counts
-use Rattle.std.specs.Prelude.{ℕ, List, replicate}
+use Rattle.std.specs.Prelude.{ℕ, List, replicate, Result, Ok, Err}
 use Rattle.error.specs.declared.Refusal.{Refusal}
 use Rattle.error.specs.Outcome.{Outcome, answer, nothing, refuse, refused}
-use Rattle.image.specs.declared.ImageAnswer.{ImageAnswer}
-use Rattle.image.specs.declared.ImageAnswer.TheVariants.{Read, Refused}
 use Rattle.image.specs.declared.ImageRead.{ImageRead}
 
-abbrev pub outcome_with : List ℕ → ImageAnswer → Outcome (List ℕ)
-outcome_with counts Read = answer counts
-outcome_with counts (Refused r) = refused r
+abbrev pub outcome_with : List ℕ → Result (Unit {0}) Refusal → Outcome (List ℕ)
+outcome_with counts (Ok u) = answer counts
+outcome_with counts (Err r) = refused r
 
 abbrev pub image_outcome : ImageRead → Outcome (List ℕ)
 image_outcome r = outcome_with r.counts r.answer
@@ -24,4 +22,4 @@ counts_in nothing = replicate 12 0
 counts_in (refuse n vs) = replicate 12 0
 
 abbrev pub refused_read : Refusal → ImageRead
-refused_read r = record { answer = Refused r; counts = replicate 12 0 }
+refused_read r = record { answer = Err r; counts = replicate 12 0 }

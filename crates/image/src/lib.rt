@@ -2,44 +2,37 @@
 #![tactic(auto)]
 
 ghost use Rattle.std.specs.Prelude.{◌≡◌, map, ◌≤◌, min, length, replicate};
+ghost use Rattle.error.specs.Answers.{as_outcome};
 ghost use Rattle.error.specs.Lent.{left, leaving, over};
 ghost use Rattle.fsm_blocks.specs.declared.checks.Reading.TheVariants.{Loose, Strict};
-ghost use Rattle.fsm_blocks.specs.Answers.{sections_outcome};
 ghost use Rattle.fsm_blocks.specs.Reading.{read_slots, persisted};
-ghost use Rattle.file_space_info.specs.Message.{parsed, parsed_outcome};
+ghost use Rattle.file_space_info.specs.Message.{parsed};
 ghost use Rattle.image.specs.Answers.{image_outcome, counts_in, refused_read};
 ghost use Rattle.image.specs.Reading.{message_at, sections_in, read_into, image_into};
 
-use error::{Number, Refusal};
+use error::Refusal;
 use fields::address::BaseAddress;
 use file_space_info::{FileSpaceInfo, MESSAGE_LEN, NUM_FILE_FSM_MANAGERS, Parsed};
 use fsm_blocks::checks::Reading;
-use fsm_blocks::fsse::SectionsAnswer;
 use fsm_blocks::manager::manager_count;
 use fsm_blocks::persisted::{read_persisted_sections, read_persisted_sections_strict};
-use numbers::min;
 
-#[derive(Clone, Copy)]
-pub enum ImageAnswer {
-    Read,
-    Refused(Refusal),
-}
-
-// What reading an image gives, with the number of sections in each slot: all 0 where it is refused.
-#[derive(Clone, Copy)]
+// What reading an image gives, with the number of sections in each slot. The counts stand beside the answer and not in it, because
+// it is promised that they are all 0 where it is refused.
+#[derive(Clone, Copy, Debug, PartialEq, Eq)]
 pub struct ImageRead {
-    pub answer: ImageAnswer,
+    pub answer: Result<(), Refusal>,
     pub counts: [u64; NUM_FILE_FSM_MANAGERS],
 }
 
 // Reads the at most 125 bytes of message at a place; there are none at or after the image's end.
-fn read_message(image: &[u8], place: u64, slots: &mut [u64]) -> Parsed
-    ensures { left (parsed_outcome result) slots.new
+fn read_message(image: &[u8], place: u64, slots: &mut [u64]) -> Result<Parsed, Refusal>
+    ensures { left (as_outcome result) slots.new
         ≡ leaving slots.old (parsed (message_at place image.now) 8 8 slots.old) }
 {
     let len = image.len() as u64;
-    let start = min(place, len);
-    let end = start + min(MESSAGE_LEN, len - start);
+    let start = place.min(len);
+    let end = start + MESSAGE_LEN.min(len - start);
     let first = start as usize;
     let last = end as usize;
     FileSpaceInfo::parse(&image[first..last], 8, 8, slots)
@@ -50,11 +43,7 @@ fn read_message(image: &[u8], place: u64, slots: &mut [u64]) -> Parsed
 fn sections_in(image: &[u8], slot: u64) -> u64
     ensures { result ≡ sections_in image.now slot }
 {
-    let sections = manager_count(image, slot, BaseAddress(0), 8, Reading::Loose);
-    match sections {
-        Number::Is(n) => n,
-        Number::Refused(_) => 0,
-    }
+    manager_count(image, slot, BaseAddress(0), 8, Reading::Loose).unwrap_or(0)
 }
 
 // How many sections each slot has.
@@ -63,10 +52,8 @@ fn slot_counts(image: &[u8], slots: &[u64]) -> [u64; NUM_FILE_FSM_MANAGERS]
     ensures { result ≡ over 0 (map (sections_in image.now) slots.now) (replicate 12 0) }
 {
     let mut counts = [0; NUM_FILE_FSM_MANAGERS];
-    let mut i = 0;
-    while i < slots.len() {
-        counts[i] = sections_in(image, slots[i]);
-        i += 1;
+    for (i, slot) in slots.iter().enumerate() {
+        counts[i] = sections_in(image, *slot);
     }
     counts
 }
@@ -75,14 +62,19 @@ fn refused(refusal: Refusal) -> ImageRead
     ensures { result ≡ refused_read refusal }
 {
     ImageRead {
-        answer: ImageAnswer::Refused(refusal),
+        answer: Err(refusal),
         counts: [0; NUM_FILE_FSM_MANAGERS],
     }
 }
 
-// The sections of the slots in the run `out`, by one of the two readings.
-fn sections_by(image: &[u8], slots: &[u64], reading: Reading, out: &mut [u64]) -> SectionsAnswer
-    ensures { left (sections_outcome result) out.new
+// The sections of the slots in the run `out`, by one of the two readings. A match and no closure: the proof is of both at once.
+fn sections_by(
+    image: &[u8],
+    slots: &[u64],
+    reading: Reading,
+    out: &mut [u64],
+) -> Result<u64, Refusal>
+    ensures { left (as_outcome result) out.new
         ≡ leaving out.old (persisted reading slots.now 0 8 image.now out.old) }
 {
     match reading {
@@ -98,16 +90,12 @@ fn read_slots(image: &[u8], slots: &[u64], reading: Reading, out: &mut [u64]) ->
         ≡ leaving out.old (read_into out.old (read_slots reading 8 0 slots.now image.now)) }
     ensures counted { result.counts ≡ counts_in (image_outcome result) }
 {
-    let answer = sections_by(image, slots, reading, out);
-    match answer {
-        SectionsAnswer::Refused(r) => refused(r),
-        SectionsAnswer::Read(_) => {
-            let counts = slot_counts(image, slots);
-            ImageRead {
-                answer: ImageAnswer::Read,
-                counts: counts,
-            }
-        }
+    match sections_by(image, slots, reading, out) {
+        Ok(_) => ImageRead {
+            answer: Ok(()),
+            counts: slot_counts(image, slots),
+        },
+        Err(r) => refused(r),
     }
 }
 
@@ -121,10 +109,9 @@ fn read_by(image: &[u8], place: u64, reading: Reading, out: &mut [u64]) -> Image
         return refused(Refusal::NotAList);
     }
     let mut slots = [0; NUM_FILE_FSM_MANAGERS];
-    let message = read_message(image, place, &mut slots);
-    match message {
-        Parsed::Refused(r) => refused(r),
-        Parsed::Message { info: _, count } => read_slots(image, &slots[..count], reading, out),
+    match read_message(image, place, &mut slots) {
+        Ok(Parsed { count, .. }) => read_slots(image, &slots[..count], reading, out),
+        Err(r) => refused(r),
     }
 }
 

@@ -15,7 +15,8 @@ use Rattle.fields.specs.Ranges.{top}
 use Rattle.fields.specs.Width.{enc_size, fshd_len}
 use Rattle.free_regions.specs.Regions.{region}
 use Rattle.free_space.specs.declared.list.FreeList.{FreeList}
-use Rattle.free_space.specs.Calls.{Gave, giving, allocated, allocated_units, range_taken}
+use Rattle.free_space.specs.declared.list.Given.{Given}
+use Rattle.free_space.specs.Calls.{giving, allocated, allocated_units, range_taken}
 use Rattle.free_lists.specs.declared.calls.Which.{Which}
 use Rattle.free_lists.specs.declared.calls.Which.TheVariants.{Metadata, Raw, Unclassified}
 use Rattle.free_lists.specs.declared.calls.ListCall.TheVariants.{Free}
@@ -34,7 +35,7 @@ use Rattle.save.specs.Saving.{small, small_raw, large, block_len, slot_addrs}
 abbrev pub of : ℕ → ℕ → FreeList
 of n t = record { count = n; total = t }
 
-abbrev pub gives : ℕ → FreeList → List ℕ → Outcome (With Gave (List ℕ))
+abbrev pub gives : ℕ → FreeList → List ℕ → Outcome (With Given (List ℕ))
 gives a l xs = answer (with (giving a l) xs)
 
 -- any lent runs do, with room for what is freed

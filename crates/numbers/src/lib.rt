@@ -1,80 +1,39 @@
-// Small arithmetic on 64-bit numbers: the lesser and the greater of two, sums and differences that stop at the ends, and division with a shift.
+// Division of 64-bit numbers, with a shift where the divisor is a power of two.
 #![tactic(auto)]
 
-ghost use Rattle.std.specs.Prelude.{◌≡◌, ◌+◌, ◌-◌, ◌/◌, ◌%◌, ◌^◌, ◌<◌, min, max};
-ghost use Rattle.error.specs.Outcome.{sat};
+ghost use Rattle.std.specs.Prelude.{◌≡◌, ◌/◌, ◌%◌, ◌^◌, ◌<◌, IfSome};
 
-pub mod index;
-
-// The greatest 64-bit number.
-pub const MAX: u64 = 18446744073709551615;
-
-pub fn min(a: u64, b: u64) -> u64
-    ensures { result ≡ min a b }
+// By how many bits a power of two shifts.
+// The test is what is promised, that `1 << bits` is `by`; is_power_of_two says it by a count of ones.
+fn shift_of(by: u64) -> Option<u32>
+    ensures { IfSome result (λ bits. (bits < 64) × (2 ^ bits ≡ by)) }
 {
-    if a <= b { a } else { b }
-}
-
-pub fn max(a: u64, b: u64) -> u64
-    ensures { result ≡ max a b }
-{
-    if a <= b { b } else { a }
-}
-
-// The sum of two numbers, at most 2^64 - 1.
-pub fn saturating_add(a: u64, b: u64) -> u64
-    ensures { result ≡ sat (a + b) }
-{
-    if MAX - a < b {
-        return MAX;
+    let bits = by.trailing_zeros();
+    if bits < 64 && by == 1u64 << bits {
+        Some(bits)
+    } else {
+        None
     }
-    a + b
-}
-
-// What is left of a number less another, 0 where that is more.
-pub fn saturating_sub(a: u64, b: u64) -> u64
-    ensures { result ≡ a - b }
-{
-    if a < b { 0 } else { a - b }
-}
-
-// By how many bits a power of two shifts; 64 for any other number.
-fn shift_of(by: u64) -> u32
-    ensures { result < 64 → 2 ^ result ≡ by }
-{
-    let bits = u64::trailing_zeros(by);
-    if bits < 64 {
-        if by == 1u64 << bits {
-            return bits;
-        }
-    }
-    64
 }
 
 // How often a number holds another. A power of two divides by a shift, which costs far less. Divided by 0 it is 0.
 pub fn quotient(n: u64, by: u64) -> u64
     ensures { result ≡ n / by }
 {
-    let bits = shift_of(by);
-    if bits < 64 {
-        return n >> bits;
+    match shift_of(by) {
+        Some(bits) => n >> bits,
+        None if by == 0 => 0,
+        None => n / by,
     }
-    if by == 0 {
-        return 0;
-    }
-    n / by
 }
 
 // What is left of a number that is divided. Divided by 0 it is the number.
 pub fn remainder(n: u64, by: u64) -> u64
     ensures { result ≡ n % by }
 {
-    let bits = shift_of(by);
-    if bits < 64 {
-        return n - ((n >> bits) << bits);
+    match shift_of(by) {
+        Some(bits) => n - ((n >> bits) << bits),
+        None if by == 0 => n,
+        None => n % by,
     }
-    if by == 0 {
-        return n;
-    }
-    n % by
 }

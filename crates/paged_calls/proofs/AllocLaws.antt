@@ -1,20 +1,21 @@
 -- A paged `alloc` at each of its ends, and what the tests of the code tell. Assumes nothing.
 --   body      what comes after the tests
 --   Decides   a decision on one of three lists that are given together
-use mathlib.Core.Path.{◌≡◌, refl, sym, ap, ◌∙◌, subst}
+use mathlib.Core.Path.{◌≡◌, sym, ap, ◌∙◌, subst}
 use mathlib.Core.Bool.{true, false, cond, not}
 use mathlib.Core.List.{[], ◌∷◌}
 use Prim.Native.Nat.{ℕ, ◌≤◌}
 use native.Mathlib.Omega.{arith}
-use borrow.Author.Tests.{eq-eqb, ne_eqb, not-false}
+use borrow.Author.Tests.{eq-eqb, ne_eqb}
 use lib.Dec.{eqb, ltb}
+use Rattle.std.specs.Prelude.{Ok, Err}
+use Rattle.free_space.specs.Splices.{Decision}
 use Rattle.error.specs.declared.Refusal.{Refusal}
-use Rattle.error.specs.declared.Refusal.TheVariants.{Page, NotAList, Overflow, SharedAddress}
+use Rattle.error.specs.declared.Refusal.TheVariants.{Overflow, SharedAddress}
 use Rattle.error.specs.Outcome.{Outcome, answer, nothing, refused, when, first_of}
 use Rattle.error.proofs.OutcomeLaws.{first_holds, first_passes, first_pass, first_answers, first-append, first_refuses}
 use Rattle.fields.specs.Ranges.{top, first_multiple, aligned_up}
 use Rattle.fields.proofs.RangeLaws.{first_ge}
-use Rattle.free_space.specs.declared.decide.Decision.{Decision}
 use Rattle.free_space.specs.Decisions.{Gives}
 use Rattle.free_lists.specs.declared.calls.Which.{Which}
 use Rattle.free_lists.specs.Lists.{Lists, regions_in, are_lists, shared_byte, apart}
@@ -23,22 +24,13 @@ use Rattle.paged_lists.specs.declared.PageType.{PageType}
 use Rattle.paged_lists.specs.declared.PageType.TheVariants.{Meta}
 use Rattle.paged_lists.specs.Kinds.{list_of}
 use Rattle.paged_lists.specs.PagedCalls.{PagedLists, Made, unsound, paged_alloc}
-use Rattle.paged_calls.specs.Decisions.{Tells, Serves, served, AllocPast}
+use Rattle.paged_calls.specs.Decisions.{SoundTested, Serves, served, AllocPast}
 use Rattle.paged_calls.proofs.NumberLaws.{each-list}
-use Rattle.paged_calls.proofs.SoundLaws.{are_marked, no_lists, not-marked, lists-marked}
 
 -- ---- the ends of the call
 
 module _ (page : ℕ) (k : PageType) (len : ℕ) (s : PagedLists) where
-  pub alloc-page : page ≡ 0 → paged_alloc page k len s ≡ refused Page
-  unfolding paged_alloc
-  alloc-page z = first_holds _ _ _ _ (eq-eqb page 0 z)
-
   module _ (n : page ≡ 0 → ⊥) where
-    pub alloc-unsound : unsound page s ≡ true → paged_alloc page k len s ≡ refused NotAList
-    unfolding paged_alloc
-    alloc-unsound u = first_passes _ _ _ _ (ne_eqb page 0 n) ∙ first_holds _ _ _ _ u
-
     module _ (sound : unsound page s ≡ false) where
       abbrev body : Outcome Made
       body = cond (eqb len 0) nothing (served page k len (first_multiple len page) s)
@@ -81,47 +73,29 @@ module _ (page : ℕ) (k : PageType) (len : ℕ) (s : PagedLists) where
           pub alloc-served : (len ≡ 0 → ⊥) → paged_alloc page k len s ≡ served page k len w s
           alloc-served z = tested ∙ rw (ne_eqb len 0 z) (ap (λ (x : ℕ). served page k len x s) width)
 
--- ---- what the tests of the code tell. n is the number of the refusal that the kind's list gives
+-- ---- what the tests of the code tell
 
 module _ (page len : ℕ) (s : PagedLists) where
-  pub test_page : page ≡ 0 → (k : PageType) → paged_alloc page k len s ≡ refused Page
-  test_page z k = alloc-page page k len s z
+  pub test_unsound : (r : Refusal) → SoundTested page s (Err r) → (k : PageType) → paged_alloc page k len s ≡ refused r
+  unfolding paged_alloc
+  test_unsound r t k = t _ _
 
-  module _ (pos : page ≡ 0 → ⊥) (n : ℕ) (tells : Tells n (not (are_lists s.lists)) false (shared_byte (regions_in s.lists))) where
-    pub test_no_list : n ≡ 3 → (k : PageType) → paged_alloc page k len s ≡ refused NotAList
-    test_no_list e k = alloc-unsound page k len s pos (no_lists page s (tells.is_three e))
+  module _ (sound : SoundTested page s (Ok tt)) where
+    pub test_over : (r : Refusal) → refused r ≡ aligned_up len page → (k : PageType) → paged_alloc page k len s ≡ refused r
+    test_over r e k = alloc-over page k len s sound.0 sound.2 r e
 
-    module _ (three : n ≡ 3 → ⊥) where
-      lists : not (are_lists s.lists) ≡ false
-      lists = tells.not_three three
+    module _ (w : ℕ) (e : answer w ≡ aligned_up len page) where
+      pub test_shared : shared_byte (regions_in s.lists) ≡ true → (k : PageType) → paged_alloc page k len s ≡ refused SharedAddress
+      test_shared h k = alloc-shared page k len s sound.0 sound.2 w e h
 
-      pub test_lists : are_lists s.lists ≡ true
-      test_lists = not-false (are_lists s.lists) lists
-
-      pub test_no_mark : are_marked page s ≡ false → (k : PageType) → paged_alloc page k len s ≡ refused NotAList
-      test_no_mark m k = alloc-unsound page k len s pos (not-marked page s test_lists m)
-
-      module _ (marks : are_marked page s ≡ true) where
-        sound : unsound page s ≡ false
-        sound = lists-marked page s test_lists marks
-
-        pub test_over : (r : Refusal) → refused r ≡ aligned_up len page → (k : PageType) → paged_alloc page k len s ≡ refused r
-        test_over r e k = alloc-over page k len s pos sound r e
-
-        module _ (w : ℕ) (e : answer w ≡ aligned_up len page) where
-          pub test_shared : n ≡ 5 → (k : PageType) → paged_alloc page k len s ≡ refused SharedAddress
-          test_shared five k = alloc-shared page k len s pos sound w e (tells.is_five lists refl five)
-
-          pub test_past : (n ≡ 5 → ⊥) → AllocPast page len s w
-          test_past five =
-              let fresh = tells.not_five lists refl five in
-              record {
-                wide = alloc-wide page Meta len s pos sound w e;
-                are_lists = test_lists;
-                apart = fresh;
-                none = λ k. alloc-none page k len s pos sound w e fresh;
-                some = λ k. alloc-served page k len s pos sound w e fresh;
-              }
+      pub test_past : shared_byte (regions_in s.lists) ≡ false → AllocPast page len s w
+      test_past fresh = record {
+        wide = alloc-wide page Meta len s sound.0 sound.2 w e;
+        are_lists = sound.1;
+        apart = fresh;
+        none = λ k. alloc-none page k len s sound.0 sound.2 w e fresh;
+        some = λ k. alloc-served page k len s sound.0 sound.2 w e fresh;
+      }
 
 -- ---- past refusals 3 and 5 a decision on one of the lists is that of its list alone
 

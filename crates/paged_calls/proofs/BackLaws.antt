@@ -10,6 +10,8 @@ use borrow.Author.Tests.{le-leb, lt-leb, leb-true, lt-ltb, ltb-true, eq-eqb, eqb
 use lib.Dec.{leb, ltb, eqb}
 use lib.ListN.{length, take, drop, get_or}
 use lib.Seq.{length-take-le, get_or-append_seam}
+use Rattle.std.specs.Prelude.{Some, Ok, Err}
+use Rattle.free_space.specs.Splices.{Decision, change}
 use Rattle.error.specs.declared.Refusal.{Refusal}
 use Rattle.error.specs.declared.Refusal.TheVariants.{OverCapacity}
 use Rattle.error.specs.Outcome.{Outcome, answer, refused, and_then}
@@ -23,10 +25,9 @@ use Rattle.free_regions.proofs.SetLaws.{at-within}
 use Rattle.pairs.specs.Pairs.{capacity}
 use Rattle.pairs.proofs.PairLaws.{length-decode, length-spliced}
 use Rattle.free_space.specs.declared.list.FreeList.{FreeList}
+use Rattle.free_space.specs.declared.decide.Replacement.{Replacement}
 use Rattle.free_space.specs.declared.run.Patch.{Patch}
 use Rattle.free_space.specs.declared.run.Patch.TheVariants.{Empty, One, Two}
-use Rattle.free_space.specs.declared.decide.Decision.{Decision}
-use Rattle.free_space.specs.declared.decide.Decision.TheVariants as list
 use Rattle.free_space.specs.Runs.{is_list, record_of, stored}
 use Rattle.free_space.specs.Calls.{freed}
 use Rattle.free_space.specs.Decisions.{kept_by, Keeps, Folds}
@@ -46,7 +47,7 @@ use Rattle.paged_lists.specs.Pages.{last_page, whole_page, whole_from, whole_up_
 use Rattle.paged_lists.specs.PagedCalls.{PagedLists, Made, outcome_of, left_by, joined, returned}
 use Rattle.paged_lists.proofs.PageLaws.{page-le, page-lt}
 use Rattle.paged_calls.specs.declared.free_pages.Freed.{Freed}
-use Rattle.paged_calls.specs.Decisions.{PagedDecision, Refused, Own, Returned, carried_in, folded_in, returned_with, Ranged, GivesBack}
+use Rattle.paged_calls.specs.Decisions.{Refused, Own, Returned, carried_in, folded_in, returned_with, Ranged, Joins, GivesBack}
 use Rattle.paged_calls.proofs.LeftLaws.{stands-refused, stands-made, own_call, own_twice_then_shared}
 use Rattle.paged_calls.proofs.ListDecisionLaws.{kept_as, free_comes_to, free-leaves}
 use Rattle.paged_calls.proofs.RegionLaws.{whole-at, take-full, take-room}
@@ -63,20 +64,20 @@ pub record Folded (l : LentList) (f : Freed) (r : FreeRegion) : Type 0 where
   pub upto : f.addr + f.len ≤ end r
 
 module _ (f : Freed) (own : LentList) (b lo hi total : ℕ) (r : FreeRegion)
-    (keeps : Keeps own.run own.list (freed own.run own.list f.addr f.len) (list.Change b lo hi total (One r)))
-    (folds : Folds f.addr f.len (list.Change b lo hi total (One r))) where
+    (keeps : Keeps own.run own.list (freed own.run own.list f.addr f.len) (change b lo hi total (One r)))
+    (folds : Folds f.addr f.len (change b lo hi total (One r))) where
   abbrev rs : List FreeRegion
   rs = spliced (regions_of own) lo hi (r ∷ [])
 
   abbrev pub freed_list : LentList
   freed_list = list_in (stored own.run own.list.count rs) (record_of rs)
 
-  says : FreeSays own.run own.list f.addr f.len (kept_by own.run own.list (list.Change b lo hi total (One r)))
+  says : FreeSays own.run own.list f.addr f.len (kept_by own.run own.list (change b lo hi total (One r)))
   says = subst⁻¹ (FreeSays own.run own.list f.addr f.len) keeps.0 (free_law own.run own.list f.addr f.len)
 
   left_is : left_by (Free f.addr f.len) own ≡ freed_list
   left_is =
-      sym (free-leaves own (list.Change b lo hi total (One r)) f.addr f.len keeps)
+      sym (free-leaves own (change b lo hi total (One r)) f.addr f.len keeps)
       ∙ ap (λ (w : With FreeList (List ℕ)). list_in w.memory w.value) (carried own.run own.list b lo hi total (One r) keeps.1)
 
   long : length rs ≡ lo + 1 + (own.list.count - hi)
@@ -195,11 +196,10 @@ module _ (page : ℕ) (f : Freed) (ranged : Ranged page f) (l : LentList) (r : F
 
 module _ (page : ℕ) (f : Freed) (own shared : LentList) where
   -- the kind's list refuses, which is 14
-  pub back-refused : (d : Decision) (r : Refusal) → Keeps own.run own.list (freed own.run own.list f.addr f.len) d → d ≡ list.Refused r
-      → GivesBack page f own shared (Refused r)
+  pub back-refused : {d : Decision} {r : Refusal} → Joins page f own d → d ≡ Err r → GivesBack page f own shared (Refused r)
   unfolding and_then
-  back-refused d r keeps e k s i j =
-      let o : outcome_of (Free f.addr f.len) own ≡ refused r = free_comes_to own d f.addr f.len keeps.0 ∙ ap (kept_as (bytes f.addr (f.addr + f.len))) e in
+  back-refused {d} {r} joins e k s i j =
+      let o : outcome_of (Free f.addr f.len) own ≡ refused r = free_comes_to own d f.addr f.len joins.keeps.0 ∙ ap (kept_as (bytes f.addr (f.addr + f.len))) e in
       stands-refused (call.Free k f.addr f.len) s r
       (ap (λ (x : Outcome Range). and_then x (λ freed. returned page k f.addr f.len (whole_from page (regions_of (left_by (Free f.addr f.len) own)) f.addr)
       (whole_up_to page (regions_of (left_by (Free f.addr f.len) own)) f.addr f.len) s)) o)
@@ -255,36 +255,48 @@ module _ (page : ℕ) (f : Freed) (own shared : LentList) where
         back-made : (pages : Decision) → Keeps shared.run shared.list (freed shared.run shared.list (p * page) ((e - p) * page)) pages
             → GivesBack page f own shared (returned_with d (p * page) ((e - p) * page) p (e - p) pages)
         unfolding and_then returned
-        back-made (list.Refused r) h = λ k s i j.
-            let u : outcome_of (Free (p * page) ((e - p) * page)) shared ≡ refused r = free_comes_to shared (list.Refused r) (p * page) ((e - p) * page) h.0 in
+        back-made (Err r) h = λ k s i j.
+            let u : outcome_of (Free (p * page) ((e - p) * page)) shared ≡ refused r = free_comes_to shared (Err r) (p * page) ((e - p) * page) h.0 in
             let n : outcome k s ≡ refused r = rw (o, from, upto, lt-leb e p some, i, t, j, u) refl in
             stands-refused (call.Free k f.addr f.len) s r n
-        back-made list.Nothing h = by_pages list.Nothing h (free_comes_to shared list.Nothing (p * page) ((e - p) * page) h.0)
-        back-made (list.Change b lo hi total q) h =
-            by_pages (list.Change b lo hi total q) h (free_comes_to shared (list.Change b lo hi total q) (p * page) ((e - p) * page) h.0)
+        back-made (Ok c) h = by_pages (Ok c) h (free_comes_to shared (Ok c) (p * page) ((e - p) * page) h.0)
 
 -- ---- by the decision of the code, and by the pages that it found
 
-one-region : (a len b lo hi total : ℕ) (q : Patch) → Folds a len (list.Change b lo hi total q) → q ≡ One (folded_in q)
+one-region : (a len b lo hi total : ℕ) (q : Patch) → Folds a len (change b lo hi total q) → q ≡ One (folded_in q)
 one-region a len b lo hi total Empty f = absurd f
 one-region a len b lo hi total (One r) f = refl
 one-region a len b lo hi total (Two r s) f = absurd f
 
-module _ (page : ℕ) (f : Freed) (own shared : LentList) (ranged : Ranged page f) (d : Decision)
-    (keeps : Keeps own.run own.list (freed own.run own.list f.addr f.len) d) (folds : Folds f.addr f.len d)
-    (b lo hi total : ℕ) (q : Patch) (is : d ≡ list.Change b lo hi total q) (r : FreeRegion) (found : r ≡ folded_in q) where
-  change : list.Change b lo hi total q ≡ list.Change b lo hi total (One r)
-  change =
-      ap (list.Change b lo hi total) (one-region f.addr f.len b lo hi total q (subst (Folds f.addr f.len) is folds) ∙ ap One (sym found))
+module _ {page : ℕ} {f : Freed} {own : LentList} {d : Decision} (joins : Joins page f own d) {c : Replacement} (is : d ≡ Ok (Some c))
+    {r : FreeRegion} (found : r ≡ folded_in c.patch) where
+  abbrev b : ℕ
+  b = c.addr
 
-  keeps_as : Keeps own.run own.list (freed own.run own.list f.addr f.len) (list.Change b lo hi total q)
-  keeps_as = subst (Keeps own.run own.list (freed own.run own.list f.addr f.len)) is keeps
+  abbrev lo : ℕ
+  lo = c.lo
 
-  keeps_one : Keeps own.run own.list (freed own.run own.list f.addr f.len) (list.Change b lo hi total (One r))
-  keeps_one = subst (Keeps own.run own.list (freed own.run own.list f.addr f.len)) change keeps_as
+  abbrev hi : ℕ
+  hi = c.hi
 
-  folds_one : Folds f.addr f.len (list.Change b lo hi total (One r))
-  folds_one = subst (Folds f.addr f.len) (is ∙ change) folds
+  abbrev total : ℕ
+  total = c.total
+
+  abbrev q : Patch
+  q = c.patch
+
+  in_one : change b lo hi total q ≡ change b lo hi total (One r)
+  in_one =
+      ap (change b lo hi total) (one-region f.addr f.len b lo hi total q (subst (Folds f.addr f.len) is joins.folds) ∙ ap One (sym found))
+
+  keeps_as : Keeps own.run own.list (freed own.run own.list f.addr f.len) (change b lo hi total q)
+  keeps_as = subst (Keeps own.run own.list (freed own.run own.list f.addr f.len)) is joins.keeps
+
+  keeps_one : Keeps own.run own.list (freed own.run own.list f.addr f.len) (change b lo hi total (One r))
+  keeps_one = subst (Keeps own.run own.list (freed own.run own.list f.addr f.len)) in_one keeps_as
+
+  folds_one : Folds f.addr f.len (change b lo hi total (One r))
+  folds_one = subst (Folds f.addr f.len) (is ∙ in_one) joins.folds
 
   l : LentList
   l = freed_list f own b lo hi total r keeps_one folds_one
@@ -297,54 +309,52 @@ module _ (page : ℕ) (f : Freed) (own shared : LentList) (ranged : Ranged page 
   unfolding l
   is-left = left_is f own b lo hi total r keeps_one folds_one
 
-  -- what the arithmetic of the code needs
-  pub can : (lo ≤ hi) × (hi ≤ own.list.count) × (2 * own.list.count ≤ length own.run) × (2 * (lo + 1 + (own.list.count - hi)) ≤ length own.run)
-  can = let k = keeps_one.1 in (k.0, k.1, k.2, k.3)
-
   pub ends : end r ≤ top
-  ends = region-ends page f ranged l r in_l
+  ends = region-ends page f joins.ranged l r in_l
 
   pub first-low : (f.first * page ≤ end r) × (f.first < top)
   first-low =
-      let h = page-le page ranged.page_some f.addr in
-      let g : f.first * page ≡ f.addr / page * page = ap (λ (n : ℕ). n * page) ranged.first-is in
-      (omega (arith, in_l.upto), omega (arith, ranged.first-is, div-le_self f.addr page, ranged.within, ranged.some))
+      let h = page-le page joins.ranged.page_some f.addr in
+      let g : f.first * page ≡ f.addr / page * page = ap (λ (n : ℕ). n * page) joins.ranged.first-is in
+      (omega (arith, in_l.upto), omega (arith, joins.ranged.first-is, div-le_self f.addr page, joins.ranged.within, joins.ranged.some))
 
   pub last-low : (f.last * page ≤ end r) × (f.last < top)
   last-low =
-      let h = page-le page ranged.page_some (f.addr + f.len - 1) in
-      let g : f.last * page ≡ last_page page f.addr f.len * page = ap (λ (n : ℕ). n * page) ranged.last-is in
-      (omega (arith, in_l.upto, ranged.some), omega (arith, ranged.last-is, div-le_self (f.addr + f.len - 1) page, ranged.within, ranged.some))
+      let h = page-le page joins.ranged.page_some (f.addr + f.len - 1) in
+      let g : f.last * page ≡ last_page page f.addr f.len * page = ap (λ (n : ℕ). n * page) joins.ranged.last-is in
+      (omega (arith, in_l.upto, joins.ranged.some), omega (arith, joins.ranged.last-is, div-le_self (f.addr + f.len - 1) page, joins.ranged.within, joins.ranged.some))
 
-  module _ (p e : ℕ) (from : p ≡ cond (leb r.addr (f.first * page) && leb (f.first * page + page) (end r)) f.first (suc f.first))
+  module _ {p e : ℕ} (from : p ≡ cond (leb r.addr (f.first * page) && leb (f.first * page + page) (end r)) f.first (suc f.first))
       (upto : e ≡ cond (leb r.addr (f.last * page) && leb (f.last * page + page) (end r)) (suc f.last) f.last) where
     low : r.addr ≤ p * page
-    low = from_in page f ranged l r in_l from
+    low = from_in page f joins.ranged l r in_l from
 
     high : e * page ≤ end r
-    high = up_to_in page f ranged l r in_l upto
+    high = up_to_in page f joins.ranged l r in_l upto
 
     accepted : outcome_of (Free f.addr f.len) own ≡ answer (bytes f.addr (f.addr + f.len))
-    accepted = free_comes_to own (list.Change b lo hi total q) f.addr f.len keeps_as.0
+    accepted = free_comes_to own (change b lo hi total q) f.addr f.len keeps_as.0
 
     from_l : whole_from page (regions_of (left_by (Free f.addr f.len) own)) f.addr ≡ p
-    from_l = ap (λ (x : LentList). whole_from page (regions_of x) f.addr) is-left ∙ from_is page f ranged l r in_l from
+    from_l = ap (λ (x : LentList). whole_from page (regions_of x) f.addr) is-left ∙ from_is page f joins.ranged l r in_l from
 
     upto_l : whole_up_to page (regions_of (left_by (Free f.addr f.len) own)) f.addr f.len ≡ e
-    upto_l = ap (λ (x : LentList). whole_up_to page (regions_of x) f.addr f.len) is-left ∙ up_to-is page f ranged l r in_l upto
+    upto_l = ap (λ (x : LentList). whole_up_to page (regions_of x) f.addr f.len) is-left ∙ up_to-is page f joins.ranged l r in_l upto
 
-    pub gives-own : e ≤ p → GivesBack page f own shared (Own f.addr (list.Change b lo hi total q))
-    gives-own h = back-joined page f own shared (list.Change b lo hi total q) keeps_as accepted p e from_l upto_l h
+    pub gives-own : (shared : LentList) → e ≤ p → GivesBack page f own shared (Own f.addr d)
+    gives-own shared h =
+        subst⁻¹ (λ (x : Decision). GivesBack page f own shared (Own f.addr x)) is
+        (back-joined page f own shared (change b lo hi total q) keeps_as accepted p e from_l upto_l h)
 
     module _ (some : p < e) where
       pages-span : p * page + (e - p) * page ≡ e * page
-      pages-span = span page f ranged l r in_l p e some low high
+      pages-span = span page f joins.ranged l r in_l p e some low high
 
       pub pages_lie : (p * page ≤ top) × ((e - p) * page ≤ top) × (e * page ≤ top)
       pages_lie = (omega (arith, pages-span, high, ends), omega (arith, pages-span, high, ends), omega (arith, high, ends))
 
       -- whether the code found the run full
-      module _ (t : Bool) (tested : t ≡ (eqb (lo + 1 + (own.list.count - hi)) (capacity own.run) && (ltb r.addr (p * page) && ltb (e * page) (end r)))) where
+      module _ (shared : LentList) {t : Bool} (tested : t ≡ (eqb (lo + 1 + (own.list.count - hi)) (capacity own.run) && (ltb r.addr (p * page) && ltb (e * page) (end r)))) where
         at_l : t ≡ (eqb l.list.count (capacity l.run) && (ltb r.addr (p * page) && ltb (e * page) (end r)))
         unfolding l
         at_l = tested ∙ ap₂ (λ (n m : ℕ). eqb n m && (ltb r.addr (p * page) && ltb (e * page) (end r)))
@@ -353,15 +363,15 @@ module _ (page : ℕ) (f : Freed) (own shared : LentList) (ranged : Ranged page 
         pub gives-full : t ≡ true → GivesBack page f own shared (Refused (OverCapacity (lo + 1 + (own.list.count - hi) + 1) (capacity own.run)))
         unfolding l
         gives-full h =
-            back-over page f own shared (list.Change b lo hi total q) keeps_as accepted p e from_l upto_l some (OverCapacity (lo + 1 + (own.list.count - hi) + 1) (capacity own.run))
-            (ap (outcome_of (TakeRange (p * page) ((e - p) * page))) is-left ∙ taken-over page f ranged l r in_l p e some low high (sym at_l ∙ h)
+            back-over page f own shared (change b lo hi total q) keeps_as accepted p e from_l upto_l some (OverCapacity (lo + 1 + (own.list.count - hi) + 1) (capacity own.run))
+            (ap (outcome_of (TakeRange (p * page) ((e - p) * page))) is-left ∙ taken-over page f joins.ranged l r in_l p e some low high (sym at_l ∙ h)
             ∙ ap₂ (λ (n m : ℕ). refused (OverCapacity n m))
             (ap suc (sym (count-is f own b lo hi total r keeps_one folds_one)) ∙ sym (add-one (lo + 1 + (own.list.count - hi))))
             (sym (room-is f own b lo hi total r keeps_one folds_one)))
 
         pub gives-pages : t ≡ false → (pages : Decision) → Keeps shared.run shared.list (freed shared.run shared.list (p * page) ((e - p) * page)) pages
-            → (x : PagedDecision) → x ≡ returned_with (list.Change b lo hi total q) (p * page) ((e - p) * page) p (e - p) pages → GivesBack page f own shared x
-        gives-pages h pages k x eq =
-            subst⁻¹ (GivesBack page f own shared) eq
-            (back-made page f own shared (list.Change b lo hi total q) keeps_as accepted p e from_l upto_l some
-            (ap (outcome_of (TakeRange (p * page) ((e - p) * page))) is-left ∙ taken-fits page f ranged l r in_l p e some low high (sym at_l ∙ h)) pages k)
+            → GivesBack page f own shared (returned_with d (p * page) ((e - p) * page) p (e - p) pages)
+        gives-pages h pages k =
+            subst⁻¹ (λ (x : Decision). GivesBack page f own shared (returned_with x (p * page) ((e - p) * page) p (e - p) pages)) is
+            (back-made page f own shared (change b lo hi total q) keeps_as accepted p e from_l upto_l some
+            (ap (outcome_of (TakeRange (p * page) ((e - p) * page))) is-left ∙ taken-fits page f joins.ranged l r in_l p e some low high (sym at_l ∙ h)) pages k)

@@ -1,105 +1,97 @@
 -- A decision that is carried out, on the kind's list, the shared one and the marks, and put back into the three lists. Assumes nothing.
---   Puts   an answer with these three records
-use mathlib.Core.Path.{◌≡◌, refl, sym, ap, ap₂, ◌∙◌, subst}
+--   in-metadata, in-raw   the records of a kind's list and of the shared one
+--   called-metadata, called-raw   what a call comes to, by a step on these two
+use mathlib.Core.Path.{◌≡◌, refl, ap, ap₂}
 use mathlib.Core.List.{List}
 use Prim.Native.Nat.{ℕ}
-use Rattle.error.specs.Lent.{With, with, Left, left}
+use Rattle.std.specs.Prelude.{Result, Ok, Err}
+use Rattle.error.specs.declared.Refusal.{Refusal}
+use Rattle.free_space.specs.Splices.{Decision}
+use Rattle.error.specs.Lent.{With, with, left}
 use Rattle.free_space.specs.declared.list.FreeList.{FreeList}
-use Rattle.free_space.specs.declared.decide.Decision.{Decision}
 use Rattle.free_space.specs.Decisions.{carried_out}
 use Rattle.free_lists.specs.declared.FileLists.{FileLists}
-use Rattle.free_lists.specs.declared.calls.Answered.{Answered}
-use Rattle.free_lists.specs.declared.calls.Applied.{Applied}
 use Rattle.free_lists.specs.declared.calls.Which.{Which}
 use Rattle.free_lists.specs.declared.calls.Which.TheVariants as which
 use Rattle.free_lists.specs.Lists.{LentList, list_in, Lists, lists_of, lists_in}
-use Rattle.free_lists.specs.History.{answered_outcome}
 use Rattle.paged_lists.specs.declared.PageType.{PageType}
 use Rattle.paged_lists.specs.declared.PageType.TheVariants.{Meta, Raw}
 use Rattle.paged_lists.specs.declared.PagedCall.{PagedCall}
 use Rattle.paged_lists.specs.Kinds.{list_of}
 use Rattle.paged_lists.specs.PagedCalls.{PagedLists, paged_in}
 use Rattle.paged_calls.specs.declared.records.Records.{Records}
-use Rattle.paged_calls.specs.Decisions.{CarriedTo, PagedDecision, carried_in, own_after, shared_after, marks_after, kind_of, answer_of, replaced, left_in, stands_for}
+use Rattle.paged_calls.specs.declared.records.Step.{Step}
+use Rattle.paged_calls.specs.declared.records.Called.{Called}
+use Rattle.paged_calls.specs.Decisions.{leaves, left_of, step_outcome, CarriedTo, PagedDecision, carried_in, own_after, shared_after, marks_after, kind_of, answer_of, replaced, left_in, stands_for}
 
 pub in_list_lem : (xs ys : List ℕ) (l r : FreeList) (d : Decision) → with r ys ≡ carried_out xs l d → list_in ys r ≡ carried_in (list_in xs l) d
 in_list_lem xs ys l r d e = ap (λ (w : With FreeList (List ℕ)). list_in w.memory w.value) e
 
 -- ---- of three lists
 
-module _ (xs ys zs ms : List ℕ) (f : FileLists) (d : PagedDecision) (o s : LentList) (m : List ℕ) where
+abbrev pub in-metadata : FileLists → Records
+in-metadata f = record { own = f.metadata; shared = f.unclassified }
+
+abbrev pub in-raw : FileLists → Records
+in-raw f = record { own = f.raw; shared = f.unclassified }
+
+abbrev pub called-metadata : FileLists → Result Step Refusal → Result Called Refusal
+called-metadata f (Ok s) = Ok (record { answer = s.answer; lists = record { metadata = s.lists.own; raw = f.raw; unclassified = s.lists.shared } })
+called-metadata f (Err r) = Err r
+
+abbrev pub called-raw : FileLists → Result Step Refusal → Result Called Refusal
+called-raw f (Ok s) = Ok (record { answer = s.answer; lists = record { metadata = f.metadata; raw = s.lists.own; unclassified = s.lists.shared } })
+called-raw f (Err r) = Err r
+
+module _ (xs ys zs ms : List ℕ) (f : FileLists) where
   abbrev ls : Lists
   ls = lists_in xs ys zs f
 
-  pub in_metadata : (k : PageType) → k ≡ Meta → (b : Records) → b ≡ record { own = f.metadata; shared = f.unclassified }
-      → CarriedTo k (list_in xs b.own) (list_in zs b.shared) ms d o s m → record { lists = lists_of o (ls which.Raw) s; marks = m } ≡ left_in k d (paged_in xs ys zs ms f)
-  in_metadata k is b e u = rw is (λ j. record { lists = λ i. all i j; marks = marks_are j })
-    where
-      t : CarriedTo k (ls which.Metadata) (ls which.Unclassified) ms d o s m
-      t = subst (λ (x : Records). CarriedTo k (list_in xs x.own) (list_in zs x.shared) ms d o s m) e u
-
-      marks_are : m ≡ marks_after Meta d ms
-      marks_are = (rw is at t).1.1
-
-      all : (i : Which) → lists_of o (ls which.Raw) s i ≡ replaced which.Metadata (own_after d (ls which.Metadata)) (replaced which.Unclassified (shared_after d (ls which.Unclassified)) ls) i
-      all which.Metadata = t.0
-      all which.Raw = refl
-      all which.Unclassified = t.1.0
-
-  pub in_raw : (k : PageType) → k ≡ Raw → (b : Records) → b ≡ record { own = f.raw; shared = f.unclassified }
-      → CarriedTo k (list_in ys b.own) (list_in zs b.shared) ms d o s m → record { lists = lists_of (ls which.Metadata) o s; marks = m } ≡ left_in k d (paged_in xs ys zs ms f)
-  in_raw k is b e u = rw is (λ j. record { lists = λ i. all i j; marks = marks_are j })
-    where
-      t : CarriedTo k (ls which.Raw) (ls which.Unclassified) ms d o s m
-      t = subst (λ (x : Records). CarriedTo k (list_in ys x.own) (list_in zs x.shared) ms d o s m) e u
-
-      marks_are : m ≡ marks_after Raw d ms
-      marks_are = (rw is at t).1.1
-
-      all : (i : Which) → lists_of (ls which.Metadata) o s i ≡ replaced which.Raw (own_after d (ls which.Raw)) (replaced which.Unclassified (shared_after d (ls which.Unclassified)) ls) i
-      all which.Metadata = refl
-      all which.Raw = t.0
-      all which.Unclassified = t.1.0
-
--- ---- what the code answers and leaves. b has the records of the kind's list and the shared one before it, o and u those after it, ps and rs
--- their runs, ns the marks
-
-abbrev pub Puts : Answered → FreeList → FreeList → FreeList → Applied → Type 0
-Puts ans m r u x = x ≡ record { answer = ans; lists = record { metadata = m; raw = r; unclassified = u } }
-
--- where nothing changes
-pub put_back : (xs ys zs ms : List ℕ) (f : FileLists) (ans : Answered) (x : Applied) → x ≡ record { answer = ans; lists = f } → {y : Left (List ℕ) PagedLists}
-    → left (answered_outcome ans) (paged_in xs ys zs ms f) ≡ y → left (answered_outcome x.answer) (paged_in xs ys zs ms x.lists) ≡ y
-put_back xs ys zs ms f ans x e h = ap (λ (x : Applied). left (answered_outcome x.answer) (paged_in xs ys zs ms x.lists)) e ∙ h
-
-module _ (xs ys zs ms : List ℕ) (f : FileLists) (b : Records) where
   abbrev before : PagedLists
   before = paged_in xs ys zs ms f
 
-  module _ (both : b ≡ record { own = f.metadata; shared = f.unclassified }) where
-    pub own-metadata : (k : PageType) → k ≡ Meta → before.lists (list_of k) ≡ list_in xs b.own
-    own-metadata k is = ap (λ (i : PageType). before.lists (list_of i)) is ∙ sym (ap (λ (r : Records). list_in xs r.own) both)
+  module _ (d : PagedDecision) (o s : LentList) (m : List ℕ) where
+    in_metadata : (k : PageType) → k ≡ Meta → CarriedTo k (ls which.Metadata) (ls which.Unclassified) ms d o s m
+        → record { lists = lists_of o (ls which.Raw) s; marks = m } ≡ left_in k d before
+    in_metadata k is t = rw is (λ j. record { lists = λ i. all i j; marks = marks_are j })
+      where
+        marks_are : m ≡ marks_after Meta d ms
+        marks_are = (rw is at t).1.1
 
-    pub beside_metadata : before.lists which.Unclassified ≡ list_in zs b.shared
-    beside_metadata = sym (ap (λ (r : Records). list_in zs r.shared) both)
+        all : (i : Which) → lists_of o (ls which.Raw) s i ≡ replaced which.Metadata (own_after d (ls which.Metadata)) (replaced which.Unclassified (shared_after d (ls which.Unclassified)) ls) i
+        all which.Metadata = t.0
+        all which.Raw = refl
+        all which.Unclassified = t.1.0
 
-    pub put-metadata : (c : PagedCall) → kind_of c ≡ Meta → (d : PagedDecision) (ans : Answered) (o u : FreeList) (ps rs ns : List ℕ)
-        → answered_outcome ans ≡ answer_of c d → CarriedTo (kind_of c) (list_in xs b.own) (list_in zs b.shared) ms d (list_in ps o) (list_in rs u) ns
-        → (x : Applied) → Puts ans o f.raw u x → left (answered_outcome x.answer) (paged_in ps ys rs ns x.lists) ≡ stands_for c d before
-    put-metadata c is d ans o u ps rs ns e carried x t =
-        ap (λ (y : Applied). left (answered_outcome y.answer) (paged_in ps ys rs ns y.lists)) t
-        ∙ ap₂ left e (in_metadata xs ys zs ms f d _ _ _ (kind_of c) is b both carried)
+    in_raw : (k : PageType) → k ≡ Raw → CarriedTo k (ls which.Raw) (ls which.Unclassified) ms d o s m
+        → record { lists = lists_of (ls which.Metadata) o s; marks = m } ≡ left_in k d before
+    in_raw k is t = rw is (λ j. record { lists = λ i. all i j; marks = marks_are j })
+      where
+        marks_are : m ≡ marks_after Raw d ms
+        marks_are = (rw is at t).1.1
 
-  module _ (both : b ≡ record { own = f.raw; shared = f.unclassified }) where
-    pub own-raw : (k : PageType) → k ≡ Raw → before.lists (list_of k) ≡ list_in ys b.own
-    own-raw k is = ap (λ (i : PageType). before.lists (list_of i)) is ∙ sym (ap (λ (r : Records). list_in ys r.own) both)
+        all : (i : Which) → lists_of (ls which.Metadata) o s i ≡ replaced which.Raw (own_after d (ls which.Raw)) (replaced which.Unclassified (shared_after d (ls which.Unclassified)) ls) i
+        all which.Metadata = refl
+        all which.Raw = t.0
+        all which.Unclassified = t.1.0
 
-    pub beside_raw : before.lists which.Unclassified ≡ list_in zs b.shared
-    beside_raw = sym (ap (λ (r : Records). list_in zs r.shared) both)
+  -- ---- what a step on the kind's list and the shared one answers and leaves. ps and rs are their runs after it, ns the marks
 
-    pub put-raw : (c : PagedCall) → kind_of c ≡ Raw → (d : PagedDecision) (ans : Answered) (o u : FreeList) (ps rs ns : List ℕ)
-        → answered_outcome ans ≡ answer_of c d → CarriedTo (kind_of c) (list_in ys b.own) (list_in zs b.shared) ms d (list_in ps o) (list_in rs u) ns
-        → (x : Applied) → Puts ans f.metadata o u x → left (answered_outcome x.answer) (paged_in xs ps rs ns x.lists) ≡ stands_for c d before
-    put-raw c is d ans o u ps rs ns e carried x t =
-        ap (λ (y : Applied). left (answered_outcome y.answer) (paged_in xs ps rs ns y.lists)) t
-        ∙ ap₂ left e (in_raw xs ys zs ms f d _ _ _ (kind_of c) is b both carried)
+  pub own-metadata : (k : PageType) → k ≡ Meta → before.lists (list_of k) ≡ list_in xs f.metadata
+  own-metadata k is = ap (λ (i : PageType). before.lists (list_of i)) is
+
+  pub own-raw : (k : PageType) → k ≡ Raw → before.lists (list_of k) ≡ list_in ys f.raw
+  own-raw k is = ap (λ (i : PageType). before.lists (list_of i)) is
+
+  module _ (c : PagedCall) (d : PagedDecision) (ps rs ns : List ℕ) where
+    pub put-metadata : kind_of c ≡ Meta → (t : Result Step Refusal) → step_outcome t ≡ answer_of c d
+        → CarriedTo (kind_of c) (list_in xs f.metadata) (list_in zs f.unclassified) ms d (list_in ps (left_of (in-metadata f) t).own) (list_in rs (left_of (in-metadata f) t).shared) ns
+        → leaves (paged_in ps ys rs ns) f (called-metadata f t) ≡ stands_for c d before
+    put-metadata is (Ok s) e carried = ap₂ left e (in_metadata d _ _ _ (kind_of c) is carried)
+    put-metadata is (Err r) e carried = ap₂ left e (in_metadata d _ _ _ (kind_of c) is carried)
+
+    pub put-raw : kind_of c ≡ Raw → (t : Result Step Refusal) → step_outcome t ≡ answer_of c d
+        → CarriedTo (kind_of c) (list_in ys f.raw) (list_in zs f.unclassified) ms d (list_in ps (left_of (in-raw f) t).own) (list_in rs (left_of (in-raw f) t).shared) ns
+        → leaves (paged_in xs ps rs ns) f (called-raw f t) ≡ stands_for c d before
+    put-raw is (Ok s) e carried = ap₂ left e (in_raw d _ _ _ (kind_of c) is carried)
+    put-raw is (Err r) e carried = ap₂ left e (in_raw d _ _ _ (kind_of c) is carried)

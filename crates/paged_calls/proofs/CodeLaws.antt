@@ -4,10 +4,10 @@ use mathlib.Core.Bool as bool
 use mathlib.Core.Bool.{Bool, true, false, ◌&&◌}
 use mathlib.Core.List.{List, [], ◌∷◌}
 use mathlib.Core.Logic.{⊎_elim}
-use Prim.Native.Nat.{ℕ, zero, suc, ◌+◌, ◌-◌, ◌/◌, ◌≤◌, ◌<◌, max}
+use Prim.Native.Nat.{ℕ, zero, suc, ◌-◌, ◌/◌, ◌≤◌, ◌<◌, max}
 use native.Mathlib.Omega.{arith}
-use borrow.Author.Tests.{le-leb, lt-leb, lt-ltb, leb-true, leb-false, ltb-true, eq-eqb, ne_eqb}
-use lib.Dec.{leb, ltb}
+use borrow.Author.Tests.{lt-ltb, ltb-true, eq-eqb, ne_eqb}
+use lib.Dec.{ltb}
 use lib.ListN.{length, get_or}
 use Rattle.error.proofs.TestLaws.{and_true, le-or-lt}
 use Rattle.fields.specs.Ranges.{top}
@@ -23,14 +23,6 @@ use Rattle.free_lists.specs.Lists.{regions_of, Lists}
 use Rattle.paged_lists.specs.Pages.{pages_fit}
 use Rattle.paged_lists.proofs.PageLaws.{page_mono}
 use Rattle.paged_calls.specs.Decisions.{end_fits, Reaches, ReachesAll}
-
--- n bytes from a on end by e where as many are left there
-pub leb_moved : (n a e : ℕ) → a ≤ e → leb n (e - a) ≡ leb (a + n) e
-leb_moved n a e h = go (leb n (e - a)) refl
-  where
-    go : (t : Bool) → leb n (e - a) ≡ t → t ≡ leb (a + n) e
-    go true u = let k = leb-true n (e - a) u in rw (le-leb (a + n) e (omega arith))
-    go false u = let k = leb-false n (e - a) u in rw (lt-leb (a + n) e (omega arith))
 
 -- ---- of regions in order the last one reaches highest
 
@@ -91,9 +83,6 @@ module _ (page n : ℕ) (pos : 0 < page) where
       left : (x y : Bool) → (x ≡ true → y ≡ true) → x ≡ (x && y)
       left true y f = sym (f refl)
       left false y f = refl
-
-pub none_reached : (xs : List ℕ) (l : FreeList) → l.count ≡ 0 → Reaches 0 (regions xs l)
-none_reached xs l e page n pos = rw e
 
 pub last_reached : (xs : List ℕ) (l : FreeList) (r : FreeRegion) → is_list xs l ≡ true → 0 < l.count → r ≡ region_at xs (l.count - 1) → Reaches (end r) (regions xs l)
 last_reached xs l r ok h e page n pos =

@@ -3,13 +3,14 @@
 use mathlib.Core.Path.{◌≡◌, refl, sym, ap, ◌∙◌}
 use mathlib.Core.List.{List}
 use Prim.Native.Nat.{ℕ, ◌+◌}
+use Rattle.std.specs.Prelude.{Some, None, Ok, Err}
+use Rattle.free_space.specs.Splices.{Decision}
 use Rattle.error.specs.Outcome.{Outcome, answer, nothing, refused}
 use Rattle.error.specs.Lent.{With, leaving}
 use Rattle.fields.specs.Ranges.{Range}
 use Rattle.free_space.specs.declared.list.FreeList.{FreeList}
-use Rattle.free_space.specs.declared.decide.Decision.{Decision}
-use Rattle.free_space.specs.declared.decide.Decision.TheVariants.{Refused, Nothing, Change}
-use Rattle.free_space.specs.Calls.{Gave, freed, allocated, allocated_units}
+use Rattle.free_space.specs.declared.list.Given.{Given}
+use Rattle.free_space.specs.Calls.{freed, allocated, allocated_units}
 use Rattle.free_space.specs.Decisions.{given_by, kept_by, Gives, Keeps}
 use Rattle.free_space.proofs.CarryLaws.{kept-carried, gave-carried}
 use Rattle.free_lists.specs.declared.calls.ListCall.TheVariants.{Free, Alloc, AllocWholeUnits}
@@ -19,33 +20,32 @@ use Rattle.paged_lists.specs.PagedCalls.{outcome_of, left_by}
 use Rattle.paged_calls.specs.Decisions.{carried_in}
 
 abbrev pub kept_as : Range → Decision → Outcome Range
-kept_as over (Refused r) = refused r
-kept_as over Nothing = answer over
-kept_as over (Change a lo hi total p) = answer over
+kept_as over (Err r) = refused r
+kept_as over (Ok c) = answer over
 
 abbrev pub gave_as : (ℕ → Range) → Decision → Outcome Range
-gave_as over (Refused r) = refused r
-gave_as over Nothing = nothing
-gave_as over (Change a lo hi total p) = answer (over a)
+gave_as over (Err r) = refused r
+gave_as over (Ok None) = nothing
+gave_as over (Ok (Some c)) = answer (over c.addr)
 
 module _ (l : LentList) where
   kept_as_lem : (over : Range) (d : Decision) → mapped (λ (m : FreeList). over) (leaving l.run (kept_by l.run l.list d)).outcome ≡ kept_as over d
-  kept_as_lem over (Refused r) = refl
-  kept_as_lem over Nothing = refl
-  kept_as_lem over (Change a lo hi total p) = refl
+  kept_as_lem over (Err r) = refl
+  kept_as_lem over (Ok None) = refl
+  kept_as_lem over (Ok (Some c)) = refl
 
-  gave_as_lem : (over : ℕ → Range) (d : Decision) → mapped (λ (g : Gave). over g.addr) (leaving l.run (given_by l.run l.list d)).outcome ≡ gave_as over d
-  gave_as_lem over (Refused r) = refl
-  gave_as_lem over Nothing = refl
-  gave_as_lem over (Change a lo hi total p) = refl
+  gave_as_lem : (over : ℕ → Range) (d : Decision) → mapped (λ (g : Given). over g.addr) (leaving l.run (given_by l.run l.list d)).outcome ≡ gave_as over d
+  gave_as_lem over (Err r) = refl
+  gave_as_lem over (Ok None) = refl
+  gave_as_lem over (Ok (Some c)) = refl
 
   by_kept : (over : Range) (d : Decision) {o : Outcome (With FreeList (List ℕ))} → kept_by l.run l.list d ≡ o
       → mapped (λ (m : FreeList). over) (leaving l.run o).outcome ≡ kept_as over d
   by_kept over d e = sym (ap (λ (o : Outcome (With FreeList (List ℕ))). mapped (λ (m : FreeList). over) (leaving l.run o).outcome) e) ∙ kept_as_lem over d
 
-  by_gave : (over : ℕ → Range) (d : Decision) {o : Outcome (With Gave (List ℕ))} → given_by l.run l.list d ≡ o
-      → mapped (λ (g : Gave). over g.addr) (leaving l.run o).outcome ≡ gave_as over d
-  by_gave over d e = sym (ap (λ (o : Outcome (With Gave (List ℕ))). mapped (λ (g : Gave). over g.addr) (leaving l.run o).outcome) e) ∙ gave_as_lem over d
+  by_gave : (over : ℕ → Range) (d : Decision) {o : Outcome (With Given (List ℕ))} → given_by l.run l.list d ≡ o
+      → mapped (λ (g : Given). over g.addr) (leaving l.run o).outcome ≡ gave_as over d
+  by_gave over d e = sym (ap (λ (o : Outcome (With Given (List ℕ))). mapped (λ (g : Given). over g.addr) (leaving l.run o).outcome) e) ∙ gave_as_lem over d
 
   module _ (d : Decision) where
     pub free_comes_to : (a n : ℕ) → kept_by l.run l.list d ≡ freed l.run l.list a n → outcome_of (Free a n) l ≡ kept_as (bytes a (a + n)) d

@@ -1,6 +1,7 @@
 -- What the number of a decision's refusal tells of the conditions: a call on one of three lists refuses with 3, 4 and 5 in this order, and past them with
 -- 14 alone. Assumes nothing.
 --   number_out   the number of an outcome that is a refusal, 0 of any other
+--   same        whether a refusal, if there is one, is this one, as the code compares
 --   Late        an outcome that refuses with 14 alone
 use mathlib.Core.Path.{◌≡◌, refl, ap, ◌∙◌}
 use mathlib.Core.Bool.{Bool, true, false, ◌||◌, not}
@@ -8,9 +9,16 @@ use mathlib.Core.List.{List, [], ◌∷◌}
 use mathlib.Core.Logic.{◌⊎◌, inl, inr, ⊎_elim}
 use Prim.Native.Nat.{ℕ, ◌+◌}
 use native.Mathlib.Omega.{arith}
-use borrow.Author.Tests.{ltb-false, not-false}
+use borrow.Author.Tests.{ltb-false, not-false, eq-eqb, ne_eqb}
 use lib.Dec.{ltb}
-use Rattle.error.specs.declared.Refusal.TheVariants.{NotAList, Overflow, SharedAddress}
+use Rattle.std.specs.Prelude.{eqb, Option, Some, None, Ok, Err}
+use Rattle.std.specs.Option.{option_eq}
+use Rattle.std.specs.Result.{result_err}
+use Rattle.free_space.specs.Splices.{Decision}
+use Rattle.error.specs.declared.Refusal.{Refusal}
+use Rattle.error.specs.declared.Refusal.TheVariants.{Width, Page, NotAList, Overflow, SharedAddress, PartUnit, OtherKind, Short, MessageVersion, Strategy, InvalidManager, Checksum, WideAddress, Place, OverCapacity, VersionOrClient, BackAddress}
+use Rattle.error.specs.Refusals.{number_of}
+use Rattle.error.specs.contracts.RefusalPartialEq.TheImpl.{eq-value}
 use Rattle.error.specs.Outcome.{Outcome, answer, nothing, refuse, when, first_of}
 use Rattle.error.specs.Ends.{Ends}
 use Rattle.error.proofs.TestLaws.{true_not_false, and_true, or_false}
@@ -18,18 +26,16 @@ use Rattle.fields.specs.Ranges.{top}
 use Rattle.free_regions.specs.Regions.{region, shares}
 use Rattle.free_regions.proofs.ShareLaws.{shares_byte}
 use Rattle.free_space.specs.declared.list.FreeList.{FreeList}
-use Rattle.free_space.specs.declared.decide.Decision.{Decision}
-use Rattle.free_space.specs.declared.decide.Decision.TheVariants.{Refused, Nothing, Change}
 use Rattle.free_space.specs.Runs.{is_list}
 use Rattle.free_space.specs.Calls.{allocated}
-use Rattle.free_space.specs.Decisions.{number_in, given_by, kept_by}
+use Rattle.free_space.specs.Decisions.{given_by, kept_by}
 use Rattle.free_lists.specs.declared.calls.Which.{Which}
 use Rattle.free_lists.specs.declared.calls.Which.TheVariants.{Metadata, Raw, Unclassified}
 use Rattle.free_lists.specs.Lists.{regions_of, Lists, regions_in, are_lists, shared_byte}
 use Rattle.free_lists.specs.Decided.{is_held, freed_together, allocated_together}
 use Rattle.free_lists.specs.CallsSay.{Refuses, three, four, five, six, fourteen}
 use Rattle.free_lists.proofs.CallLaws.{free_law, alloc_law}
-use Rattle.paged_calls.specs.Decisions.{Tells, is_shared}
+use Rattle.paged_calls.specs.Decisions.{number_at, Tells, is_shared}
 
 abbrev pub number_out : {A : Type 0} → Outcome A → ℕ
 number_out (answer a) = 0
@@ -39,15 +45,43 @@ number_out (refuse n vs) = n
 abbrev pub Late : {A : Type 0} → Outcome A → Type 0
 Late o = (number_out o ≡ 0) ⊎ (number_out o ≡ 14)
 
-number_kept : (xs : List ℕ) (l : FreeList) (d : Decision) → number_in d ≡ number_out (kept_by xs l d)
-number_kept xs l (Refused r) = refl
-number_kept xs l Nothing = refl
-number_kept xs l (Change a lo hi total p) = refl
+number_kept : (xs : List ℕ) (l : FreeList) (d : Decision) → number_at (result_err d) ≡ number_out (kept_by xs l d)
+number_kept xs l (Err r) = refl
+number_kept xs l (Ok None) = refl
+number_kept xs l (Ok (Some c)) = refl
 
-number_given : (xs : List ℕ) (l : FreeList) (d : Decision) → number_in d ≡ number_out (given_by xs l d)
-number_given xs l (Refused r) = refl
-number_given xs l Nothing = refl
-number_given xs l (Change a lo hi total p) = refl
+number_given : (xs : List ℕ) (l : FreeList) (d : Decision) → number_at (result_err d) ≡ number_out (given_by xs l d)
+number_given xs l (Err r) = refl
+number_given xs l (Ok None) = refl
+number_given xs l (Ok (Some c)) = refl
+
+-- ---- the code compares with the refusals of numbers 3, 4 and 5
+
+abbrev pub same : Option Refusal → Refusal → Bool
+same r s = option_eq eq-value.it r (Some s)
+
+by_number : (r : Refusal) → (same (Some r) NotAList ≡ eqb (number_of r) 3) × (same (Some r) Overflow ≡ eqb (number_of r) 4) × (same (Some r) SharedAddress ≡ eqb (number_of r) 5)
+by_number Width = (refl, refl, refl)
+by_number Page = (refl, refl, refl)
+by_number NotAList = (refl, refl, refl)
+by_number Overflow = (refl, refl, refl)
+by_number SharedAddress = (refl, refl, refl)
+by_number PartUnit = (refl, refl, refl)
+by_number OtherKind = (refl, refl, refl)
+by_number (Short e v) = (refl, refl, refl)
+by_number (MessageVersion v) = (refl, refl, refl)
+by_number (Strategy v) = (refl, refl, refl)
+by_number InvalidManager = (refl, refl, refl)
+by_number (Checksum s c) = (refl, refl, refl)
+by_number WideAddress = (refl, refl, refl)
+by_number Place = (refl, refl, refl)
+by_number (OverCapacity n g) = (refl, refl, refl)
+by_number (VersionOrClient v) = (refl, refl, refl)
+by_number BackAddress = (refl, refl, refl)
+
+pub compared : (r : Option Refusal) → (same r NotAList ≡ eqb (number_at r) 3) × (same r Overflow ≡ eqb (number_at r) 4) × (same r SharedAddress ≡ eqb (number_at r) 5)
+compared None = (refl, refl, refl)
+compared (Some r) = by_number r
 
 -- ---- three conditions
 
@@ -55,37 +89,27 @@ tells : {A : Type 0} (a b c : Bool) (x : Outcome A) (n : ℕ) → n ≡ number_o
     → (a ≡ false → b ≡ false → c ≡ false → Late x) → Tells n a b c
 unfolding first_of
 tells true b c x n e late = record {
-  is_three = λ h. refl;
-  not_three = λ h. absurd (h e);
-  is_four = λ t h. absurd (true_not_false true refl t);
-  not_four = λ t h. absurd (true_not_false true refl t);
-  is_five = λ t u h. absurd (true_not_false true refl t);
-  not_five = λ t u h. absurd (true_not_false true refl t);
+  is_three = eq-eqb n 3 e;
+  is_four = λ t. absurd (true_not_false true refl t);
+  is_five = λ t u. absurd (true_not_false true refl t);
 }
 tells false true c x n e late = record {
-  is_three = λ h. absurd (omega arith);
-  not_three = λ h. refl;
-  is_four = λ t h. refl;
-  not_four = λ t h. absurd (h e);
-  is_five = λ t u h. absurd (true_not_false true refl u);
-  not_five = λ t u h. absurd (true_not_false true refl u);
+  is_three = ne_eqb n 3 (λ h. omega arith);
+  is_four = λ t. eq-eqb n 4 e;
+  is_five = λ t u. absurd (true_not_false true refl u);
 }
 tells false false true x n e late = record {
-  is_three = λ h. absurd (omega arith);
-  not_three = λ h. refl;
-  is_four = λ t h. absurd (omega arith);
-  not_four = λ t h. refl;
-  is_five = λ t u h. refl;
-  not_five = λ t u h. absurd (h e);
+  is_three = ne_eqb n 3 (λ h. omega arith);
+  is_four = λ t. ne_eqb n 4 (λ h. omega arith);
+  is_five = λ t u. eq-eqb n 5 e;
 }
-tells false false false x n e late = record {
-  is_three = λ h. absurd (⊎_elim (λ p. omega arith) (λ p. omega arith) (late refl refl refl));
-  not_three = λ h. refl;
-  is_four = λ t h. absurd (⊎_elim (λ p. omega arith) (λ p. omega arith) (late refl refl refl));
-  not_four = λ t h. refl;
-  is_five = λ t u h. absurd (⊎_elim (λ p. omega arith) (λ p. omega arith) (late refl refl refl));
-  not_five = λ t u h. refl;
-}
+tells false false false x n e late =
+    let none : (n ≡ 0) ⊎ (n ≡ 14) = ⊎_elim (λ p. inl (e ∙ p)) (λ p. inr (e ∙ p)) (late refl refl refl) in
+    record {
+      is_three = ne_eqb n 3 (λ h. ⊎_elim (λ p. omega arith) (λ p. omega arith) none);
+      is_four = λ t. ne_eqb n 4 (λ h. ⊎_elim (λ p. omega arith) (λ p. omega arith) none);
+      is_five = λ t u. ne_eqb n 5 (λ h. ⊎_elim (λ p. omega arith) (λ p. omega arith) none);
+    }
 
 -- ---- past them the calls refuse with 14 alone
 
@@ -123,7 +147,7 @@ module _ (ls : Lists) (i : Which) where
       go Unclassified = (or_false (shares (region a n) (regions_of (ls Raw))) _ rest.1).1
 
   pub free-tells : (a n : ℕ) (d : Decision) → kept_by (ls i).run (ls i).list d ≡ freed_together ls i a n
-      → Tells (number_in d) (not (are_lists ls)) (ltb top (a + n)) (is_shared a n ls)
+      → Tells (number_at (result_err d)) (not (are_lists ls)) (ltb top (a + n)) (is_shared a n ls)
   unfolding freed_together
   free-tells a n d e =
       tells _ _ _ _ _ (number_kept (ls i).run (ls i).list d ∙ ap number_out e)
@@ -133,7 +157,7 @@ module _ (ls : Lists) (i : Which) where
       (λ h. h)))
 
   pub alloc-tells : (n : ℕ) (d : Decision) → given_by (ls i).run (ls i).list d ≡ allocated_together ls i n
-      → Tells (number_in d) (not (are_lists ls)) false (shared_byte (regions_in ls))
+      → Tells (number_at (result_err d)) (not (are_lists ls)) false (shared_byte (regions_in ls))
   unfolding allocated_together first_of
   alloc-tells n d e =
       tells _ false _ (allocated (ls i).run (ls i).list n) _ (number_given (ls i).run (ls i).list d ∙ ap number_out e)

@@ -2,18 +2,18 @@
 use mathlib.Core.Path.{◌≡◌, refl, sym, ap, ◌∙◌, subst}
 use mathlib.Core.List.{List, []}
 use Prim.Native.Nat.{ℕ, ◌+◌, ◌-◌, ◌*◌, ◌≤◌, ◌<◌}
-use native.Mathlib.Nat.{mul-pos, add-mul}
+use native.Mathlib.Nat.{add-mul}
 use native.Mathlib.Omega.{arith}
+use Rattle.std.specs.Prelude.{Option, Ok, Err}
+use Rattle.free_space.specs.Splices.{Decision}
 use Rattle.error.specs.declared.Refusal.{Refusal}
 use Rattle.error.specs.Outcome.{Outcome, answer, refused}
 use Rattle.error.specs.Lent.{with}
 use Rattle.fields.specs.Ranges.{top}
 use Rattle.free_space.specs.declared.list.FreeList.{FreeList}
-use Rattle.free_space.specs.declared.run.Patch.{Patch}
-use Rattle.free_space.specs.declared.decide.Decision.{Decision}
-use Rattle.free_space.specs.declared.decide.Decision.TheVariants as list
+use Rattle.free_space.specs.declared.decide.Replacement.{Replacement}
 use Rattle.free_space.specs.Calls.{freed}
-use Rattle.free_space.specs.Decisions.{Keeps, Folds, carried_out}
+use Rattle.free_space.specs.Decisions.{Keeps, carried_out}
 use Rattle.free_lists.specs.declared.calls.ListCall.TheVariants.{TakeRange}
 use Rattle.free_lists.specs.Lists.{LentList, list_in}
 use Rattle.paged_lists.specs.declared.PageType.{PageType}
@@ -36,24 +36,17 @@ module _ (page : ℕ) (d : Decision) (p e : ℕ) (xs us ms : List ℕ) (l u : Fr
   abbrev To : Outcome (List ℕ) → LentList → LentList → List ℕ → Type 0
   To = ReturnsTo page d p e (list_in xs l) (list_in us u) ms
 
-  pub return_refused : (r : Refusal) → pages ≡ list.Refused r → To (refused r) (list_in xs l) (list_in us u) ms
-  return_refused r is = (list.Refused r, subst (Keeps us u (freed us u (p * page) ((e - p) * page))) is keeps, λ k. (refl, (refl, (refl, refl))))
+  pub return_refused : (r : Refusal) → pages ≡ Err r → To (refused r) (list_in xs l) (list_in us u) ms
+  return_refused r is = (Err r, subst (Keeps us u (freed us u (p * page) ((e - p) * page))) is keeps, λ k. (refl, (refl, (refl, refl))))
 
-  -- a range of bytes changes the list
-  pub return_some : Folds (p * page) ((e - p) * page) pages → p < e → 0 < page → pages ≡ list.Nothing → ⊥
-  return_some folds h pos is =
-      let z : (e - p) * page ≡ 0 = subst (Folds (p * page) ((e - p) * page)) is folds in
-      let g : 0 < (e - p) * page = mul-pos {m = e - p} {n = page} (omega arith) pos in
-      omega arith
-
-  pub return_done : (b lo hi total : ℕ) (q : Patch) → pages ≡ list.Change b lo hi total q → (ws : List ℕ) (w : FreeList) → with w ws ≡ carried_out xs l d
+  pub return_done : (c : Option Replacement) → pages ≡ Ok c → (ws : List ℕ) (w : FreeList) → with w ws ≡ carried_out xs l d
       → (ys : List ℕ) (r : FreeList) → list_in ys r ≡ left_by (TakeRange (p * page) ((e - p) * page)) (list_in ws w)
       → (vs : List ℕ) (v : FreeList) → with v vs ≡ carried_out us u pages → (ns : List ℕ) → ns ≡ marked p (e - p) 0 ms
       → To (answer []) (list_in ys r) (list_in vs v) ns
-  return_done b lo hi total q is ws w f ys r t vs v g ns n = (
-    list.Change b lo hi total q,
+  return_done c is ws w f ys r t vs v g ns n = (
+    Ok c,
     subst (Keeps us u (freed us u (p * page) ((e - p) * page))) is keeps,
-    λ k. (refl, (t ∙ ap (left_by (TakeRange (p * page) ((e - p) * page))) (in_list_lem xs ws l w d f), (in_list_lem us vs u v (list.Change b lo hi total q) (g ∙ ap (carried_out us u) is), n))),
+    λ k. (refl, (t ∙ ap (left_by (TakeRange (p * page) ((e - p) * page))) (in_list_lem xs ws l w d f), (in_list_lem us vs u v (Ok c) (g ∙ ap (carried_out us u) is), n))),
   )
 
 -- freeing gives no address out

@@ -1,4 +1,8 @@
 -- What a decision of a paged call stands for. No public contract cites this file; it serves the contracts of private functions. Assumes nothing.
+--   applied      what a call answers, and the records after it; a refusal leaves them as they were
+--   leaves       the outcome of a call, and lists and marks after it, by what they are with these records
+--   Step, left_of, step_outcome   (Step of the code) what a step answers and the two records after it; the records after one that may be refused,
+--                and its outcome
 --   PagedDecision   what a paged call decides before anything changes
 --   carried_in   a list after a decision is carried out on it
 --   own_after, shared_after, marks_after   the kind's list, the shared list and the marks after a paged decision is carried out
@@ -23,28 +27,28 @@
 --   DrawsTo      pages are drawn, with what the code answers and leaves
 --   GivesBack    a decision that stands for freeing the range, where the kind's list and the shared one are these
 --   ReturnsTo, BacksTo   the same with what the code answers and leaves
+--   state_of     the lists and marks that are lent
 --   end_fits     the byte before an end lies in a page that has a mark; there is none before 0
 --   Reaches, ReachesAll   an end tells so of all regions of a list, of three lists: no listed page is without a mark
+--   number_at    the number of a refusal, 0 of none
 --   Tells        what the number of a refusal tells: 3, or else 4, or else 5, each by its condition
 --   is_shared    two lists share a byte, or one holds a byte of the range
+--   SoundTested  what the tests tell that both calls begin with
 --   AllocPast, AllocTested, FreePast, FreeTested   what the tests of `alloc` and `free` tell
 --   Joins        a decision on the kind's list, which a freed range joins
 --   rejoined     what `paged_free` comes to past its tests
-use Rattle.std.specs.Prelude.{ℕ, ◌+◌, ◌-◌, ◌*◌, ◌/◌, ◌≤◌, ◌<◌, ◌≡◌, Bool, true, false, cond, ◌&&◌, ◌||◌, List, [], ◌∷◌, ltb, eqb}
+use Rattle.std.specs.Prelude.{ℕ, ◌+◌, ◌-◌, ◌*◌, ◌/◌, ◌≤◌, ◌<◌, ◌≡◌, Bool, true, false, cond, ◌&&◌, ◌||◌, List, [], ◌∷◌, ltb, eqb, Option, Some, None, Result, Ok, Err}
+use Rattle.free_space.specs.Splices.{Decision}
 use Rattle.error.specs.declared.Refusal.{Refusal}
-use Rattle.error.specs.declared.Number.{Number}
-use Rattle.error.specs.declared.Number.TheVariants as number
-use Rattle.error.specs.declared.Checked.{Checked}
-use Rattle.error.specs.declared.Checked.TheVariants as checked
-use Rattle.error.specs.Outcome.{Outcome, answer, nothing, refused, and_then}
+use Rattle.error.specs.declared.Refusal.TheVariants.{Page, NotAList}
+use Rattle.error.specs.Refusals.{number_of}
+use Rattle.error.specs.Outcome.{Outcome, Condition, answer, nothing, refused, when, first_of, and_then}
 use Rattle.error.specs.Lent.{Left, left, with, leaving}
 use Rattle.fields.specs.Ranges.{top}
 use Rattle.free_regions.specs.declared.FreeRegion.{FreeRegion}
 use Rattle.free_regions.specs.Regions.{region}
 use Rattle.free_space.specs.declared.run.Patch.{Patch}
 use Rattle.free_space.specs.declared.run.Patch.TheVariants.{Empty, One, Two}
-use Rattle.free_space.specs.declared.decide.Decision.{Decision}
-use Rattle.free_space.specs.declared.decide.Decision.TheVariants as list
 use Rattle.free_space.specs.Runs.{is_list}
 use Rattle.free_space.specs.Calls.{freed, allocated}
 use Rattle.free_space.specs.Decisions.{Gives, Keeps, Folds, carried_out}
@@ -63,6 +67,27 @@ use Rattle.paged_lists.specs.Kinds.{mark_of, list_of}
 use Rattle.paged_lists.specs.Pages.{last_page, pages_fit, whole_from, whole_up_to, marked}
 use Rattle.paged_lists.specs.PagedCalls.{PagedLists, paged_in, Made, outcome_of, left_by, or_else, own_bytes, new_pages, paged_alloc, unsound, returned, paged_free, given_out, left_after}
 use Rattle.paged_calls.specs.declared.free_pages.Freed.{Freed}
+use Rattle.paged_calls.specs.declared.records.Records.{Records}
+use Rattle.paged_calls.specs.declared.records.Step.{Step}
+use Rattle.paged_calls.specs.declared.records.Called.{Called}
+use Rattle.paged_calls.specs.declared.tests.Lent.{Lent}
+
+-- ---- what the code answers, and the records after it
+
+abbrev pub applied : FileLists → Result Called Refusal → Applied
+applied f (Ok c) = record { answer = Ok c.answer; lists = c.lists }
+applied f (Err r) = record { answer = Err r; lists = f }
+
+abbrev pub leaves : (FileLists → PagedLists) → FileLists → Result Called Refusal → Left (List ℕ) PagedLists
+leaves in_runs f c = left (answered_outcome (applied f c).answer) (in_runs (applied f c).lists)
+
+abbrev pub left_of : Records → Result Step Refusal → Records
+left_of b (Ok s) = s.lists
+left_of b (Err r) = b
+
+abbrev pub step_outcome : Result Step Refusal → Outcome (List ℕ)
+step_outcome (Ok s) = answered_outcome (Ok s.answer)
+step_outcome (Err r) = refused r
 
 -- ---- one list
 
@@ -143,9 +168,8 @@ effect_of c o s = leaving s (mapped (λ m. with (given_out c m) (left_after s m)
 -- ---- parts of the two calls
 
 abbrev pub drawn_with : ℕ → Decision → ℕ → ℕ → Decision → PagedDecision
-drawn_with a pages first count (list.Refused r) = Refused r
-drawn_with a pages first count list.Nothing = Drawn a pages list.Nothing first count
-drawn_with a pages first count (list.Change b lo hi total p) = Drawn a pages (list.Change b lo hi total p) first count
+drawn_with a pages first count (Err r) = Refused r
+drawn_with a pages first count (Ok c) = Drawn a pages (Ok c) first count
 
 abbrev pub Draws : ℕ → ℕ → ℕ → LentList → LentList → PagedDecision → Type 0
 Draws page len w own shared d =
@@ -168,15 +192,18 @@ Serves page k len own ls =
     × (is_list (ls (list_of k)).run (ls (list_of k)).list ≡ true)
 
 -- r is what the code answers, ps and qs the runs of metadata and raw after it; whatever the unclassified list and the marks
-abbrev pub TakesOwn : PageType → ℕ → Decision → List ℕ → List ℕ → FileLists → List ℕ → List ℕ → Applied → Type 0
+abbrev pub TakesOwn : PageType → ℕ → Decision → List ℕ → List ℕ → FileLists → List ℕ → List ℕ → Called → Type 0
 TakesOwn k a own xs ys f ps qs r =
-    (zs ms : List ℕ) → left (answered_outcome r.answer) (paged_in ps qs zs ms r.lists) ≡ stands_for (call.Alloc k 0) (Own a own) (paged_in xs ys zs ms f)
+    (zs ms : List ℕ) → left (answered_outcome (Ok r.answer)) (paged_in ps qs zs ms r.lists) ≡ stands_for (call.Alloc k 0) (Own a own) (paged_in xs ys zs ms f)
 
 abbrev pub DrawsTo : ℕ → PageType → ℕ → ℕ → LentList → LentList → List ℕ → Outcome (List ℕ) → LentList → LentList → List ℕ → Type 0
 DrawsTo page k len w own shared ms ans o u m =
     (d : PagedDecision) × Draws page len w own shared d × (ans ≡ answer_of (call.Alloc k len) d) × CarriedTo k own shared ms d o u m
 
 -- ---- the tests
+
+abbrev pub state_of : Lent → PagedLists
+state_of l = paged_in l.metadata.now l.raw.now l.unclassified.now l.marks.now l.lists
 
 -- n is the number of marks
 abbrev pub end_fits : ℕ → ℕ → ℕ → Bool
@@ -190,14 +217,20 @@ ReachesAll e ls =
     (page n : ℕ) → 0 < page
     → end_fits page n e ≡ (pages_fit page n (regions_of (ls Metadata)) && (pages_fit page n (regions_of (ls Raw)) && pages_fit page n (regions_of (ls Unclassified))))
 
--- they are told the number of the refusal of the kind's list: 3, or else 4, or else 5
+abbrev pub number_at : Option Refusal → ℕ
+number_at None = 0
+number_at (Some r) = number_of r
+
+-- they are told the refusal of the kind's list, of this number: 3, or else 4, or else 5
 pub record Tells (n : ℕ) (three four five : Bool) : Type 0 where
-  pub is_three : n ≡ 3 → three ≡ true
-  pub not_three : (n ≡ 3 → ⊥) → three ≡ false
-  pub is_four : three ≡ false → n ≡ 4 → four ≡ true
-  pub not_four : three ≡ false → (n ≡ 4 → ⊥) → four ≡ false
-  pub is_five : three ≡ false → four ≡ false → n ≡ 5 → five ≡ true
-  pub not_five : three ≡ false → four ≡ false → (n ≡ 5 → ⊥) → five ≡ false
+  pub is_three : eqb n 3 ≡ three
+  pub is_four : three ≡ false → eqb n 4 ≡ four
+  pub is_five : three ≡ false → four ≡ false → eqb n 5 ≡ five
+
+abbrev pub SoundTested : ℕ → PagedLists → Result (Unit {0}) Refusal → Type 0
+SoundTested page s (Err r) =
+    (cs : List Condition) (x : Outcome Made) → first_of (when (eqb page 0) Page ∷ when (unsound page s) NotAList ∷ cs) x ≡ refused r
+SoundTested page s (Ok u) = (page ≡ 0 → ⊥) × (are_lists s.lists ≡ true) × (unsound page s ≡ false)
 
 -- w is the length in whole pages
 pub record AllocPast (page len : ℕ) (s : PagedLists) (w : ℕ) : Type 0 where
@@ -207,9 +240,9 @@ pub record AllocPast (page len : ℕ) (s : PagedLists) (w : ℕ) : Type 0 where
   pub none : (k : PageType) → len ≡ 0 → paged_alloc page k len s ≡ nothing
   pub some : (k : PageType) → (len ≡ 0 → ⊥) → paged_alloc page k len s ≡ served page k len w s
 
-abbrev pub AllocTested : ℕ → ℕ → PagedLists → Number → Type 0
-AllocTested page len s (number.Refused r) = (k : PageType) → paged_alloc page k len s ≡ refused r
-AllocTested page len s (number.Is w) = AllocPast page len s w
+abbrev pub AllocTested : ℕ → ℕ → PagedLists → Result ℕ Refusal → Type 0
+AllocTested page len s (Err r) = (k : PageType) → paged_alloc page k len s ≡ refused r
+AllocTested page len s (Ok w) = AllocPast page len s w
 
 abbrev pub is_shared : ℕ → ℕ → Lists → Bool
 is_shared a len ls = shared_byte (regions_in ls) || is_held a len ls
@@ -221,9 +254,9 @@ pub record FreePast (page a len : ℕ) (s : PagedLists) : Type 0 where
   pub fits : ltb top (a + len) ≡ false
   pub apart : is_shared a len s.lists ≡ false
 
-abbrev pub FreeTested : ℕ → ℕ → ℕ → PagedLists → Checked → Type 0
-FreeTested page a len s (checked.Refused r) = (k : PageType) → paged_free page k a len s ≡ refused r
-FreeTested page a len s checked.Passed = FreePast page a len s
+abbrev pub FreeTested : ℕ → ℕ → ℕ → PagedLists → Result (Unit {0}) Refusal → Type 0
+FreeTested page a len s (Err r) = (k : PageType) → paged_free page k a len s ≡ refused r
+FreeTested page a len s (Ok u) = FreePast page a len s
 
 pub record Ranged (page : ℕ) (f : Freed) : Type 0 where
   pub page_some : 0 < page
@@ -238,13 +271,14 @@ folded_in (One r) = r
 folded_in (Two r s) = region 0 0
 
 abbrev pub returned_with : Decision → ℕ → ℕ → ℕ → ℕ → Decision → PagedDecision
-returned_with own a len first count (list.Refused r) = Refused r
-returned_with own a len first count list.Nothing = Returned own a len list.Nothing first count
-returned_with own a len first count (list.Change b lo hi total p) = Returned own a len (list.Change b lo hi total p) first count
+returned_with own a len first count (Err r) = Refused r
+returned_with own a len first count (Ok c) = Returned own a len (Ok c) first count
 
 -- a decision on the kind's list, which the range joins
-abbrev pub Joins : ℕ → Freed → LentList → Decision → Type 0
-Joins page f own d = Keeps own.run own.list (freed own.run own.list f.addr f.len) d × Folds f.addr f.len d × Ranged page f
+pub record Joins (page : ℕ) (f : Freed) (own : LentList) (d : Decision) : Type 0 where
+  pub keeps : Keeps own.run own.list (freed own.run own.list f.addr f.len) d
+  pub folds : Folds f.addr f.len d
+  pub ranged : Ranged page f
 
 -- past the tests
 abbrev pub rejoined : ℕ → PageType → ℕ → ℕ → PagedLists → Outcome Made

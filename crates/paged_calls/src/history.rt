@@ -11,30 +11,34 @@ use crate::perform;
 use free_lists::FileLists;
 use free_lists::calls::{ListCall, Which, apply};
 use free_space::list::FreeList;
-use paged_lists::marks::set_marks;
 use paged_lists::{PageType, PagedCall};
 
 // The kind of a number: 0 metadata, any other raw.
+// Numbers for kinds and calls: the public functions take calls as a lent run of numbers.
+#[tactic(auto, unfolding(crate::specs::Encoding::type_of))]
 fn type_of(number: u64) -> PageType
     ensures { result ≡ type_of number }
 {
     if number == 0 {
-        return PageType::Meta;
+        PageType::Meta
+    } else {
+        PageType::Raw
     }
-    PageType::Raw
 }
 
 // The call of a number, a kind and two arguments: 0 alloc, any other free.
+#[tactic(auto, unfolding(crate::specs::Encoding::paged_call_of))]
 fn paged_call_of(number: u64, kind: PageType, a: u64, b: u64) -> PagedCall
     ensures { result ≡ paged_call_of number kind a b }
 {
     if number == 0 {
-        return PagedCall::Alloc { kind: kind, len: a };
-    }
-    PagedCall::Free {
-        kind: kind,
-        addr: a,
-        len: b,
+        PagedCall::Alloc { kind, len: a }
+    } else {
+        PagedCall::Free {
+            kind,
+            addr: a,
+            len: b,
+        }
     }
 }
 
@@ -53,11 +57,10 @@ fn free_ranges(
         raw: FreeList::new(),
         unclassified: FreeList::new(),
     };
-    let mut at = 0;
-    while at + 2 <= frees.len() {
+    for range in frees.chunks_exact(2) {
         let call = ListCall::Free {
-            addr: frees[at],
-            len: frees[at + 1],
+            addr: range[0],
+            len: range[1],
         };
         let applied = apply(
             metadata,
@@ -68,7 +71,6 @@ fn free_ranges(
             call,
         );
         lists = applied.lists;
-        at += 2;
     }
     lists
 }
@@ -88,13 +90,10 @@ fn make_in_pages(
         (paged_in metadata.old raw.old unclassified.old marks.old begun) }
 {
     let mut lists = begun;
-    let mut at = 0;
-    while at + 4 <= calls.len() {
-        let kind = type_of(calls[at + 1]);
-        let call = paged_call_of(calls[at], kind, calls[at + 2], calls[at + 3]);
+    for row in calls.chunks_exact(4) {
+        let call = paged_call_of(row[0], type_of(row[1]), row[2], row[3]);
         let applied = perform(metadata, raw, unclassified, marks, lists, page, call);
         lists = applied.lists;
-        at += 4;
     }
     lists
 }
@@ -114,8 +113,7 @@ pub fn make_paged_calls(
         (frees_of frees.now) (paged_calls_of calls.now)
         (paged_in metadata.new raw.new unclassified.new marks.new result) }
 {
-    let count = marks.len() as u64;
-    set_marks(marks, 0, count, 0);
+    marks.fill(0);
     let lists = free_ranges(frees, metadata, raw, unclassified);
     make_in_pages(calls, metadata, raw, unclassified, marks, lists, page)
 }

@@ -1,16 +1,17 @@
 -- Laws of marks for the loops over them: one mark more, pages without a mark, and a fill that stops at the end of the marks. Assumes nothing.
 use mathlib.Core.Path.{◌≡◌, refl, sym, ap, ◌∙◌}
 use mathlib.Core.Bool.{Bool, true, false, ◌&&◌}
-use mathlib.Core.List.{List}
+use mathlib.Core.List.{List, [], ◌∷◌}
 use Prim.Native.Nat.{ℕ, zero, suc, ◌+◌, ◌-◌, ◌≤◌, ◌<◌}
-use native.Mathlib.Numerals.{add-one}
 use native.Mathlib.Omega.{arith}
-use borrow.Author.Tests.{le-leb, lt-leb, eq-eqb, ne_eqb}
+use borrow.Author.Tests.{ne_eqb}
+use borrow.Rule.Slice.PartMut.{put_mid}
 use lib.Dec.{leb, eqb}
-use lib.ListN.{get_or-eq_default, length, drop, get_or, replicate, length-replicate, replicate-append-replicate, drop_of_length-le}
+use lib.ListN.{get_or-eq_default, length, take, drop, get_or, replicate, length-replicate, replicate-append-replicate}
 use lib.Seq.{drop-cons}
 use Rattle.error.specs.Lent.{over}
-use Rattle.error.proofs.OverLaws.{length_over, over_right, over-end}
+use Rattle.error.proofs.OverLaws.{length_over, over-is, over_right, over-end}
+use Rattle.std.specs.List.{list_all}
 use Rattle.paged_lists.specs.declared.PageType.{PageType}
 use Rattle.paged_lists.specs.Kinds.{mark_of}
 use Rattle.paged_lists.specs.Pages.{marks_fit, all_marked}
@@ -18,33 +19,18 @@ use Rattle.paged_lists.proofs.ByteLaws.{mark_some}
 
 -- ---- `marks_fit`
 
-module _ (ms : List ℕ) (i : ℕ) (l : i < length ms) where
-  fit_next : marks_fit (drop i ms) ≡ (leb (get_or ms i 0) 2 && marks_fit (drop (i + 1) ms))
-  fit_next = ap marks_fit (drop-cons ms i 0 l) ∙ ap (λ (k : ℕ). leb (get_or ms i 0) 2 && marks_fit (drop k ms)) (sym (add-one i))
-
-  pub fit_fails : 2 < get_or ms i 0 → marks_fit (drop i ms) ≡ false
-  fit_fails h = fit_next ∙ ap (λ (t : Bool). t && marks_fit (drop (i + 1) ms)) (lt-leb (get_or ms i 0) 2 h)
-
-  pub fit-goes_on : get_or ms i 0 ≤ 2 → marks_fit (drop i ms) ≡ marks_fit (drop (i + 1) ms)
-  fit-goes_on h = fit_next ∙ ap (λ (t : Bool). t && marks_fit (drop (i + 1) ms)) (le-leb (get_or ms i 0) 2 h)
-
-pub fit-ends : (ms : List ℕ) (i : ℕ) → length ms ≤ i → marks_fit (drop i ms) ≡ true
-fit-ends ms i h = ap marks_fit (drop_of_length-le ms h)
+pub fit_all : (ms : List ℕ) → list_all (λ m. leb m 2) ms ≡ marks_fit ms
+fit_all [] = refl
+fit_all (m ∷ ms) = ap (λ (t : Bool). leb m 2 && t) (fit_all ms)
 
 -- ---- `all_marked`
 
--- the pages from i up to e
-module _ (mark e i : ℕ) (ms : List ℕ) (l : i < e) where
-  all-next : all_marked mark (e - i) i ms ≡ (eqb (get_or ms i 0) mark && all_marked mark (e - (i + 1)) (i + 1) ms)
-  all-next =
-      let n : e - i ≡ suc (e - (i + 1)) = omega arith in
-      ap (λ (k : ℕ). all_marked mark k i ms) n ∙ ap (λ (k : ℕ). eqb (get_or ms i 0) mark && all_marked mark (e - (i + 1)) k ms) (sym (add-one i))
-
-  pub all_fails : (get_or ms i 0 ≡ mark → ⊥) → all_marked mark (e - i) i ms ≡ false
-  all_fails h = all-next ∙ ap (λ (t : Bool). t && all_marked mark (e - (i + 1)) (i + 1) ms) (ne_eqb (get_or ms i 0) mark h)
-
-  pub all-goes_on : get_or ms i 0 ≡ mark → all_marked mark (e - i) i ms ≡ all_marked mark (e - (i + 1)) (i + 1) ms
-  all-goes_on h = all-next ∙ ap (λ (t : Bool). t && all_marked mark (e - (i + 1)) (i + 1) ms) (eq-eqb (get_or ms i 0) mark h)
+pub marked_all : (mark n q : ℕ) (ms : List ℕ) → q + n ≤ length ms → list_all (λ m. eqb m mark) (take n (drop q ms)) ≡ all_marked mark n q ms
+marked_all mark zero q ms h = refl
+marked_all mark (suc n) q ms h =
+    let l : q < length ms = omega arith in
+    ap (λ (rest : List ℕ). list_all (λ m. eqb m mark) (take (suc n) rest)) (drop-cons ms q 0 l)
+    ∙ ap (λ (t : Bool). eqb (get_or ms q 0) mark && t) (marked_all mark n (suc q) ms (omega arith))
 
 -- the last of n + 1 pages has no mark
 none-past : (k : PageType) (n q : ℕ) (ms : List ℕ) → length ms ≤ q + n → all_marked (mark_of k) (suc n) q ms ≡ false
@@ -61,6 +47,12 @@ past-marks k zero q ms some h = absurd (omega arith)
 past-marks k (suc n) q ms some h = none-past k n q ms (omega arith)
 
 -- ---- `set_marks`
+
+-- what is written to a part of a run is written over it
+pub put_mid-over : (a : ℕ) (xs ys : List ℕ) → a + length ys ≤ length xs → put_mid a (length ys) xs ys ≡ over a ys xs
+put_mid-over zero xs ys h = sym (over-is ys xs (omega arith))
+put_mid-over (suc a) [] ys h = absurd (omega arith)
+put_mid-over (suc a) (x ∷ xs) ys h = ap (λ (l : List ℕ). x ∷ l) (put_mid-over a xs ys (omega arith))
 
 -- a fill stops at the end of the marks
 pub fill_cut : (i n m v : ℕ) (xs : List ℕ) → n ≤ m → (n < m → length xs ≤ i + n) → over i (replicate n v) xs ≡ over i (replicate m v) xs

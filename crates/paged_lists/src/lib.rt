@@ -6,7 +6,7 @@
 pub mod marks;
 
 // The kind of a page's bytes.
-#[derive(Clone, Copy)]
+#[derive(Clone, Copy, Debug, PartialEq, Eq)]
 pub enum PageType {
     // File metadata.
     Meta,
@@ -15,7 +15,7 @@ pub enum PageType {
 }
 
 // One of the two calls with its arguments.
-#[derive(Clone, Copy)]
+#[derive(Clone, Copy, Debug, PartialEq, Eq)]
 pub enum PagedCall {
     Alloc { kind: PageType, len: u64 },
     Free { kind: PageType, addr: u64, len: u64 },

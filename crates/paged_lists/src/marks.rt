@@ -4,9 +4,9 @@ ghost use Rattle.paged_lists.specs.Kinds.{mark_of};
 ghost use Rattle.paged_lists.specs.Pages.{marks_fit, all_marked, marked};
 
 use crate::PageType;
-use numbers::min;
 
 // The mark of a page that has bytes of a kind; 0 marks one that no kind has.
+// A byte and no Option<PageType>: marks are lent memory and may hold any byte.
 pub fn mark_of(kind: PageType) -> u8
     ensures { result ≡ mark_of kind }
 {
@@ -20,17 +20,10 @@ pub fn mark_of(kind: PageType) -> u8
 pub fn marks_fit(marks: &[u8]) -> bool
     ensures { result ≡ marks_fit marks.now }
 {
-    let mut i = 0;
-    while i < marks.len() {
-        if 2 < marks[i] {
-            return false;
-        }
-        i += 1;
-    }
-    true
+    marks.iter().all(|mark| *mark <= 2)
 }
 
-// Whether all of `count` pages from `first` on are marked with a kind. A page without a mark is not, so the marks that are lent bound the loop.
+// Whether all of `count` pages from `first` on are marked with a kind. A page without a mark is not.
 pub fn all_marked(marks: &[u8], kind: PageType, first: u64, count: u64) -> bool
     ensures { result ≡ all_marked (mark_of kind) count first marks.now }
 {
@@ -38,22 +31,13 @@ pub fn all_marked(marks: &[u8], kind: PageType, first: u64, count: u64) -> bool
         return true;
     }
     let len = marks.len() as u64;
-    if len < count {
-        return false;
-    }
-    if len - count < first {
+    if len < count || len - count < first {
         return false;
     }
     let mark = mark_of(kind);
-    let end = (first + count) as usize;
-    let mut i = first as usize;
-    while i < end {
-        if marks[i] != mark {
-            return false;
-        }
-        i += 1;
-    }
-    true
+    marks[first as usize..(first + count) as usize]
+        .iter()
+        .all(|m| *m == mark)
 }
 
 // Sets the marks of `count` pages from `first` on; what is past the marks is left out.
@@ -64,10 +48,6 @@ pub fn set_marks(marks: &mut [u8], first: u64, count: u64, mark: u8)
     if len <= first {
         return;
     }
-    let end = first + min(count, len - first);
-    let mut i = first as usize;
-    while i < end as usize {
-        marks[i] = mark;
-        i += 1;
-    }
+    let end = first + count.min(len - first);
+    marks[first as usize..end as usize].fill(mark);
 }

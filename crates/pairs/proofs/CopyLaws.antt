@@ -5,9 +5,9 @@ use mathlib.Core.List.{List, [], ◌∷◌}
 use Prim.Native.Nat.{ℕ, zero, suc, ◌+◌, ◌-◌, min, ◌≤◌, ◌<◌}
 use native.Mathlib.Omega.{arith}
 use lib.ListN.{length, take, drop, length-take, length-drop}
-use lib.Seq.{slice, take_all, take-take}
+use lib.Seq.{slice, paste, take_all, take-take}
 use Rattle.error.specs.Lent.{over}
-use Rattle.error.proofs.OverLaws.{over-nil, over-cut}
+use Rattle.error.proofs.OverLaws.{over-nil, over-cut, over-paste}
 use Rattle.error.proofs.TestLaws.{le-or-lt}
 use Rattle.fields.proofs.LayoutLaws.{drop-take}
 
@@ -25,9 +25,6 @@ over-same zero zero (x ∷ xs) = refl
 over-same zero (suc e) (x ∷ xs) = ap (λ (l : List ℕ). x ∷ l) (over-same zero e xs)
 over-same (suc i) zero (x ∷ xs) = ap (λ (l : List ℕ). x ∷ l) (over-nil i xs)
 over-same (suc i) (suc e) (x ∷ xs) = ap (λ (l : List ℕ). x ∷ l) (over-same i e xs)
-
-pub copied_same : (from end to : ℕ) (xs : List ℕ) → to ≡ from → xs ≡ over to (slice from end xs) xs
-copied_same from end to xs e = sym (ap (λ (i : ℕ). over i (slice from end xs) xs) e ∙ over-same from end xs)
 
 -- the lesser of two numbers, where the second is more
 is-first : (n m l to : ℕ) → n ≡ min m (l - to) → to + n < l → m ≤ n
@@ -51,7 +48,7 @@ module _ (from end to : ℕ) (xs : List ℕ) (n : ℕ) (e : n ≡ min (min end (
   pub copied_none : n ≡ 0 → xs ≡ over to (slice from end xs) xs
   copied_none z = sym (over-nil to xs) ∙ ap (λ (k : ℕ). over to (take k (drop from xs)) xs) (sym z) ∙ first
 
-  pub copied : (ys : List ℕ) → ys ≡ over to (slice from (from + n) xs) xs → ys ≡ over to (slice from end xs) xs
-  copied ys q =
+  pub copied : to + n ≤ length xs → from + n ≤ length xs → paste xs to (drop from xs) (from + n - from) ≡ over to (slice from end xs) xs
+  copied t f =
       let k : from + n - from ≡ n = omega arith in
-      q ∙ ap (λ (l : List ℕ). over to l xs) (drop-take from (from + n) xs ∙ ap (λ (m : ℕ). take m (drop from xs)) k) ∙ first
+      ap (paste xs to (drop from xs)) k ∙ over-paste to n (drop from xs) xs t (omega (arith, length-drop from xs)) ∙ first

@@ -7,7 +7,8 @@ ghost use Rattle.pairs.specs.Pairs.{is_run, pair_at, pair};
 
 pub mod copy;
 
-#[derive(Clone, Copy)]
+// FreeRegion and FreeSection have the same two numbers: public types, so that the one is not taken for the other.
+#[derive(Clone, Copy, Debug, PartialEq, Eq)]
 pub struct Pair {
     pub addr: u64,
     pub len: u64,
@@ -17,20 +18,14 @@ pub struct Pair {
 pub fn is_run(run: &[u64], n: usize) -> bool
     ensures { result ≡ is_run run.now n }
 {
-    if run.len() % 2 != 0 {
-        return false;
-    }
-    n <= run.len() / 2
+    run.len() % 2 == 0 && n <= run.len() / 2
 }
 
 // The number at a place of a run; 0 where it has none.
 fn number_at(run: &[u64], at: usize) -> u64
     ensures { result ≡ get_or run.now at 0 }
 {
-    if run.len() <= at {
-        return 0;
-    }
-    run[at]
+    run.get(at).copied().unwrap_or(0)
 }
 
 // The i-th pair of a run. A number that the run does not have is 0.
@@ -58,13 +53,10 @@ pub fn pair_at(run: &[u64], i: usize) -> Pair
 pub fn put_pair(run: &mut [u64], at: usize, addr: u64, len: u64)
     ensures { run.new ≡ over at (addr ∷ len ∷ []) run.old }
 {
-    let n = run.len();
-    if n <= at {
-        return;
+    if at < run.len() {
+        run[at] = addr;
+        if at + 1 < run.len() {
+            run[at + 1] = len;
+        }
     }
-    run[at] = addr;
-    if n - 1 <= at {
-        return;
-    }
-    run[at + 1] = len;
 }

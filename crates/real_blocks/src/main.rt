@@ -3,13 +3,13 @@
 // bytes, and below `strictly` what the strict reading gives.
 #![tactic(auto)]
 
-ghost use Rattle.std.specs.Prelude.{◌≡◌, length};
+ghost use Rattle.std.specs.Prelude.{◌≡◌, ◌<◌, ◌≤◌, length, IfOk, IfSome};
 
 use fields::address::BaseAddress;
 use fields::bytes::read_uint_le;
 use fields::width::enc_size;
-use fsm_blocks::fsse::{SectionsAnswer, parse_fsse};
-use fsm_blocks::header::{FsmHeader, HeaderAnswer};
+use fsm_blocks::fsse::parse_fsse;
+use fsm_blocks::header::FsmHeader;
 use fsm_blocks::persisted::read_persisted_sections_strict;
 use fsm_writer::writer::{serialize_fshd, serialize_fsse};
 use std::io;
@@ -41,6 +41,7 @@ fn block_buffer() -> [u8; 4096]
     [0; 4096]
 }
 
+// As in real_image: a crate for three lines is no plainer.
 fn print_line(rt: &impl Print, value: u64) -> io::Result<()> {
     println!(rt; "{value}")
 }
@@ -51,13 +52,8 @@ fn print_section(rt: &impl Print, addr: u64, size: u64) -> io::Result<()> {
 
 // The first `count` pairs of a run, as far as it goes.
 fn print_sections(rt: &impl Print, run: &[u64], count: usize) -> io::Result<()> {
-    let mut i = 0;
-    while i < run.len() / 2 {
-        if count <= i {
-            return Ok(());
-        }
-        print_section(rt, run[2 * i], run[2 * i + 1])?;
-        i += 1;
+    for pair in run.chunks_exact(2).take(count) {
+        print_section(rt, pair[0], pair[1])?;
     }
     Ok(())
 }
@@ -66,23 +62,17 @@ fn print_sections(rt: &impl Print, run: &[u64], count: usize) -> io::Result<()> 
 fn writes_back(bytes: &[u8], used: usize, run: &[u64], count: usize, fsse_addr: u64) -> bool {
     let address = read_uint_le(bytes, 0, 8);
     let width = enc_size(count as u64);
-    if 8 < width {
+    if 8 < width || 4096 < used || bytes.len() < 90 + used {
         return false;
     }
     // The class byte of the first entry.
     let class = read_uint_le(bytes, 119 + width, 1);
     let mut out = block_buffer();
-    if 4096 < used {
-        return false;
-    }
-    if bytes.len() < 90 + used {
-        return false;
-    }
-    serialize_fshd(run, count, fsse_addr, 8, &mut out);
+    let _ = serialize_fshd(run, count, fsse_addr, 8, &mut out);
     if out[0..82] != bytes[8..90] {
         return false;
     }
-    serialize_fsse(run, count, address, 8, (class % 256) as u8, &mut out);
+    let _ = serialize_fsse(run, count, address, 8, (class % 256) as u8, &mut out);
     out[0..used] == bytes[90..90 + used]
 }
 
@@ -99,31 +89,31 @@ fn print_strictly(
     write_bytes(&mut file, fsse_addr as usize, fsse);
     let mut run = numbers();
     let read = read_persisted_sections_strict(&file, &[fshd_addr], BaseAddress(0), 8, &mut run);
-    let SectionsAnswer::Read(count) = read else {
-        return Ok(());
-    };
-    rt.write_all(b"strictly\n")?;
-    print_sections(rt, &run, count as usize)
+    if let Ok(count) = read {
+        rt.write_all(b"strictly\n")?;
+        print_sections(rt, &run, count as usize)?;
+    }
+    Ok(())
 }
 
-// Prints the manager at the front of `bytes` and answers how many bytes it takes, 0 where none stands there.
-fn manager(rt: &impl Print, bytes: &[u8]) -> io::Result<usize> {
+// Prints the manager at the front of `bytes`, if one stands there, and answers how many bytes it takes.
+fn manager(rt: &impl Print, bytes: &[u8]) -> io::Result<Option<usize>>
+    ensures { IfOk result (λ o. IfSome o (λ n. (0 < n) × (n ≤ length bytes.now))) }
+{
     if bytes.len() < 90 {
-        return Ok(0);
+        return Ok(None);
     }
-    let parsed = FsmHeader::parse(&bytes[8..90], 8);
-    let HeaderAnswer::Header(h) = parsed else {
-        return Ok(0);
+    let Ok(h) = FsmHeader::parse(&bytes[8..90], 8) else {
+        return Ok(None);
     };
     let used = h.fsse_used;
     if ((bytes.len() - 90) as u64) < used {
-        return Ok(0);
+        return Ok(None);
     }
     let end = 90 + used as usize;
     let mut run = numbers();
-    let read = parse_fsse(&bytes[90..end], h, 8, &mut run);
-    let SectionsAnswer::Read(count) = read else {
-        return Ok(0);
+    let Ok(count) = parse_fsse(&bytes[90..end], h, 8, &mut run) else {
+        return Ok(None);
     };
     let address = read_uint_le(bytes, 0, 8);
     rt.write_all(b"manager ")?;
@@ -133,20 +123,13 @@ fn manager(rt: &impl Print, bytes: &[u8]) -> io::Result<usize> {
         rt.write_all(b"same\n")?;
     }
     print_strictly(rt, address, &bytes[8..90], h.fsse_addr, &bytes[90..end])?;
-    Ok(end)
+    Ok(Some(end))
 }
 
 fn managers(rt: &impl Print, bytes: &[u8]) -> io::Result<()> {
-    let mut at = 0;
-    while at < bytes.len() {
-        let taken = manager(rt, &bytes[at..])?;
-        if taken == 0 {
-            return Ok(());
-        }
-        if bytes.len() - at < taken {
-            return Ok(());
-        }
-        at += taken;
+    let mut rest = bytes;
+    while let Some(taken) = manager(rt, rest)? {
+        rest = &rest[taken..];
     }
     Ok(())
 }

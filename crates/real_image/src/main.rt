@@ -10,7 +10,6 @@ use error::Refusal;
 use fields::address::BaseAddress;
 use fields::bytes::read_uint_le;
 use file_space_info::{FileSpaceInfo, NUM_FILE_FSM_MANAGERS, Parsed};
-use fsm_blocks::fsse::SectionsAnswer;
 use fsm_blocks::persisted::{read_persisted_sections, read_persisted_sections_strict};
 use std::io;
 use streams::read_full;
@@ -22,13 +21,14 @@ fn input_buffer() -> [u8; 65536]
     [0; 65536]
 }
 
+// As in real_blocks: a crate for three lines is no plainer.
 fn print_line(rt: &impl Print, value: u64) -> io::Result<()> {
     println!(rt; "{value}")
 }
 
 fn print_refusal(rt: &impl Print, refusal: Refusal) -> io::Result<()> {
     rt.write_all(b"refused\n")?;
-    print_line(rt, refusal.number() as u64)
+    print_line(rt, u64::from(refusal.number()))
 }
 
 fn print_section(rt: &impl Print, addr: u64, size: u64) -> io::Result<()> {
@@ -37,21 +37,16 @@ fn print_section(rt: &impl Print, addr: u64, size: u64) -> io::Result<()> {
 
 // The first `count` pairs of a run, as far as it goes.
 fn print_sections(rt: &impl Print, run: &[u64], count: u64) -> io::Result<()> {
-    let mut i = 0;
-    while i < run.len() / 2 {
-        if count <= i as u64 {
-            return Ok(());
-        }
-        print_section(rt, run[2 * i], run[2 * i + 1])?;
-        i += 1;
+    for pair in run.chunks_exact(2).take(count as usize) {
+        print_section(rt, pair[0], pair[1])?;
     }
     Ok(())
 }
 
-fn print_answer(rt: &impl Print, read: SectionsAnswer, run: &[u64]) -> io::Result<()> {
+fn print_answer(rt: &impl Print, read: Result<u64, Refusal>, run: &[u64]) -> io::Result<()> {
     match read {
-        SectionsAnswer::Read(count) => print_sections(rt, run, count),
-        SectionsAnswer::Refused(refusal) => print_refusal(rt, refusal),
+        Ok(count) => print_sections(rt, run, count),
+        Err(refusal) => print_refusal(rt, refusal),
     }
 }
 
@@ -75,15 +70,10 @@ fn print_slots(
     count: usize,
     offset_size: u8,
 ) -> io::Result<()> {
-    let mut i = 0;
-    while i < slots.len() {
-        if count <= i {
-            return Ok(());
-        }
+    for (i, slot) in slots.iter().enumerate().take(count) {
         rt.write_all(b"slot ")?;
         print_line(rt, i as u64)?;
-        print_manager(rt, file, slots[i], offset_size)?;
-        i += 1;
+        print_manager(rt, file, *slot, offset_size)?;
     }
     Ok(())
 }
@@ -96,10 +86,9 @@ fn print_message(
     length_size: u8,
 ) -> io::Result<()> {
     let mut slots = [0; NUM_FILE_FSM_MANAGERS];
-    let parsed = FileSpaceInfo::parse(message, offset_size, length_size, &mut slots);
-    match parsed {
-        Parsed::Message { info: _, count } => print_slots(rt, file, &slots, count, offset_size),
-        Parsed::Refused(refusal) => print_refusal(rt, refusal),
+    match FileSpaceInfo::parse(message, offset_size, length_size, &mut slots) {
+        Ok(Parsed { info: _, count }) => print_slots(rt, file, &slots, count, offset_size),
+        Err(refusal) => print_refusal(rt, refusal),
     }
 }
 

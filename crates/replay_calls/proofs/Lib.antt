@@ -1,3 +1,1 @@
-pub mod FrontLaws
-pub mod SumLaws
 pub mod WordLaws

@@ -1,134 +1,110 @@
 // One line, answered.
-ghost use Rattle.std.specs.Prelude.{◌≤◌, length};
-
 use crate::addresses::address_call;
 use crate::blocks::{fshd_parse_call, fsse_parse_call, read_call, serialize_call, split_call};
 use crate::images::{image_call, image_into_call};
 use crate::lengths::{blocks_len_call, fsse_len_call};
-use crate::lists::{lists_call, lists_name};
-use crate::memory::{input_memory, numbers_memory};
+use crate::lists::{Lists, change_call, question_call};
+use crate::memory::{INPUT, NUMBERS};
 use crate::message::{managers_call, parse_message_call, serialize_message_call};
-use crate::pages::{pages_call, pages_name};
+use crate::pages::pages_call;
 use crate::plans::plan_call;
-use crate::reply::Reply;
+use crate::reply::{Answered, Failure, Reply};
 use crate::saves::save_call;
-use crate::sums::sum_call;
-use crate::words::{line_numbers, name_in, read_words};
-use fsm_blocks::checks::Reading;
-use replay_lines::call::is_call;
+use crate::sums::{hashlittle_call, lookup3_call, verify_call};
+use crate::words::{read_numbers, read_words};
+use fsm_blocks::persisted::{read_persisted_sections, read_persisted_sections_strict};
+use image::{read_image, read_image_strict};
+use replay_lines::call::call_name;
 
-fn run_name(line: &[u8]) -> u64 {
-    name_in(
-        b"fsse_len blocks_len split serialize plan msg_ser msg_managers",
-        line,
+// Answers a call of numbers alone.
+fn numbers_call(name: &[u8], args: &[u64], lists: &mut Lists, out: &mut [u8]) -> Answered {
+    match name {
+        b"free"
+        | b"take"
+        | b"allocw"
+        | b"alloc"
+        | b"trail"
+        | b"new"
+        | b"lend"
+        | b"room"
+        | b"lend_total"
+        | b"scratch" => change_call(name, args, lists),
+        b"largestw" | b"largest" | b"isempty" | b"total" | b"sections" | b"run" | b"tstart" => {
+            question_call(name, args, lists, out)
+        }
+        b"marks" | b"show_marks" | b"page_alloc" | b"page_free" => {
+            pages_call(name, args, lists, out)
+        }
+        b"fsse_len" => fsse_len_call(args),
+        b"blocks_len" => blocks_len_call(args),
+        b"split" => split_call(args, out),
+        b"serialize" => serialize_call(args, out),
+        b"plan" => plan_call(args, out),
+        b"msg_ser" => serialize_message_call(args, out),
+        b"msg_managers" => managers_call(args, out),
+        _ => address_call(name, args),
+    }
+}
+
+// Whether the last word of a call is bytes.
+fn has_bytes(name: &[u8]) -> bool {
+    matches!(
+        name,
+        b"lookup3"
+            | b"hashlittle"
+            | b"verify"
+            | b"fshd_parse"
+            | b"fsse_parse"
+            | b"read"
+            | b"strict"
+            | b"msg_parse"
+            | b"image"
+            | b"image_into"
+            | b"strict_image"
+            | b"save"
     )
 }
 
-// Answers a call with a run of numbers, by its place among the names of `run_name`.
-fn run_answer(call: u64, args: &[u64], out: &mut [u8]) -> Reply {
-    match call {
-        1 => fsse_len_call(args),
-        2 => blocks_len_call(args),
-        3 => split_call(args, out),
-        4 => serialize_call(args, out),
-        5 => plan_call(args, out),
-        6 => serialize_message_call(args, out),
-        _ => managers_call(args, out),
+// Answers a call of numbers and bytes. A save changes a copy of the image that its bytes are.
+fn bytes_call(
+    name: &[u8],
+    args: &[u64],
+    bytes: &mut [u8],
+    lists: &Lists,
+    out: &mut [u8],
+) -> Answered {
+    match name {
+        b"lookup3" => Ok(Reply::Text(lookup3_call(args, bytes, out))),
+        b"hashlittle" => Ok(Reply::Text(hashlittle_call(args, bytes, out))),
+        b"verify" => Ok(Reply::Text(verify_call(args, bytes, out))),
+        b"fshd_parse" => fshd_parse_call(args, bytes, out),
+        b"fsse_parse" => fsse_parse_call(args, bytes, out),
+        b"read" => read_call(args, bytes, out, read_persisted_sections),
+        b"strict" => read_call(args, bytes, out, read_persisted_sections_strict),
+        b"msg_parse" => parse_message_call(args, bytes, out),
+        b"image" => image_call(args, bytes, out),
+        b"image_into" => image_into_call(args, bytes, out, read_image),
+        b"strict_image" => image_into_call(args, bytes, out, read_image_strict),
+        b"save" => save_call(args, bytes, lists, out),
+        _ => Err(Failure::Bad),
     }
 }
 
-fn run_call(call: u64, line: &[u8], out: &mut [u8]) -> Reply {
-    let mut numbers = numbers_memory();
-    let read = line_numbers(line, &mut numbers);
-    if !read.fine {
-        return Reply::Bad;
+// The answer to a line.
+pub(crate) fn answer_line(line: &[u8], lists: &mut Lists, out: &mut [u8]) -> Answered {
+    let name = call_name(line);
+    let mut numbers = [0; NUMBERS];
+    if has_bytes(name) {
+        let mut bytes = [0; INPUT];
+        let words = read_words(line, &mut numbers, &mut bytes)?;
+        return bytes_call(
+            name,
+            &numbers[..words.numbers],
+            &mut bytes[..words.bytes],
+            lists,
+            out,
+        );
     }
-    let n = read.count;
-    run_answer(call, &numbers[0..n], out)
-}
-
-fn bytes_name(line: &[u8]) -> u64 {
-    name_in(
-        b"lookup3 hashlittle verify fshd_parse fsse_parse read msg_parse image image_into strict strict_image",
-        line,
-    )
-}
-
-// Answers a call with bytes, by its place among the names of `bytes_name`.
-fn bytes_answer(call: u64, args: &[u64], bytes: &[u8], out: &mut [u8]) -> Reply {
-    match call {
-        4 => fshd_parse_call(args, bytes, out),
-        5 => fsse_parse_call(args, bytes, out),
-        6 => read_call(Reading::Loose, args, bytes, out),
-        7 => parse_message_call(args, bytes, out),
-        8 => image_call(args, bytes, out),
-        9 => image_into_call(Reading::Loose, args, bytes, out),
-        10 => read_call(Reading::Strict, args, bytes, out),
-        11 => image_into_call(Reading::Strict, args, bytes, out),
-        _ => sum_call(call, args, bytes, out),
-    }
-}
-
-fn bytes_call(call: u64, line: &[u8], out: &mut [u8]) -> Reply {
-    let mut numbers = numbers_memory();
-    let mut bytes = input_memory();
-    let words = read_words(line, &mut numbers, &mut bytes);
-    if !words.fine {
-        return Reply::Bad;
-    }
-    let n = words.numbers;
-    let m = words.bytes;
-    bytes_answer(call, &numbers[0..n], &bytes[0..m], out)
-}
-
-// Answers a save, which changes a copy of the image that its bytes are.
-fn save_line(line: &[u8], lists: &[u64], out: &mut [u8]) -> Reply
-    requires { 32779 ≤ length lists.now }
-{
-    let mut numbers = numbers_memory();
-    let mut image = input_memory();
-    let words = read_words(line, &mut numbers, &mut image);
-    if !words.fine {
-        return Reply::Bad;
-    }
-    let n = words.numbers;
-    let m = words.bytes;
-    save_call(&numbers[0..n], &mut image[0..m], lists, out)
-}
-
-// Answers a call that needs no list.
-fn plain_call(line: &[u8], out: &mut [u8]) -> Reply {
-    let run = run_name(line);
-    if 0 < run {
-        return run_call(run, line, out);
-    }
-    let bytes = bytes_name(line);
-    if 0 < bytes {
-        return bytes_call(bytes, line, out);
-    }
-    address_call(line)
-}
-
-// The answer to a line. An empty line and one from `#` have none.
-pub(crate) fn answer_line(line: &[u8], lists: &mut [u64], out: &mut [u8]) -> Reply
-    requires { 32779 ≤ length lists.old }
-{
-    if line.len() == 0 {
-        return Reply::Silent;
-    }
-    if line[0] == b'#' {
-        return Reply::Silent;
-    }
-    if is_call(line, b"save") {
-        return save_line(line, lists, out);
-    }
-    let call = lists_name(line);
-    if 0 < call {
-        return lists_call(call, line, lists, out);
-    }
-    let paged = pages_name(line);
-    if 0 < paged {
-        return pages_call(paged, line, lists, out);
-    }
-    plain_call(line, out)
+    let n = read_numbers(line, &mut numbers)?;
+    numbers_call(name, &numbers[..n], lists, out)
 }

@@ -1,35 +1,23 @@
 // The calls of the lengths of blocks.
-use crate::reply::{Reply, number_reply};
-use crate::words::are_pairs;
+use crate::reply::{Answered, Failure, Reply};
+use crate::words::pairs_in;
 use fsm_lengths::fsse_len;
 use fsm_writer::writer::file_fsm_blocks_len;
 
-pub(crate) fn fsse_len_call(args: &[u64]) -> Reply {
-    if args.len() < 2 {
-        return Reply::Bad;
+pub(crate) fn fsse_len_call(args: &[u64]) -> Answered {
+    let [o, count, lens @ ..] = args else {
+        return Err(Failure::Bad);
+    };
+    if *count != lens.len() as u64 {
+        return Err(Failure::Bad);
     }
-    let o = args[0];
-    if 255 < o {
-        return Reply::Bad;
-    }
-    let lens = &args[2..];
-    if args[1] != lens.len() as u64 {
-        return Reply::Bad;
-    }
-    number_reply(fsse_len(lens, o as u8))
+    Ok(Reply::Is(fsse_len(lens, u8::try_from(*o)?)?))
 }
 
-pub(crate) fn blocks_len_call(args: &[u64]) -> Reply {
-    if args.len() < 2 {
-        return Reply::Bad;
-    }
-    let o = args[0];
-    if 255 < o {
-        return Reply::Bad;
-    }
-    let run = &args[2..];
-    if !are_pairs(run, args[1]) {
-        return Reply::Bad;
-    }
-    number_reply(file_fsm_blocks_len(run, run.len() / 2, o as u8))
+pub(crate) fn blocks_len_call(args: &[u64]) -> Answered {
+    let [o, count, run @ ..] = args else {
+        return Err(Failure::Bad);
+    };
+    let n = pairs_in(run, *count)?;
+    Ok(Reply::Is(file_fsm_blocks_len(run, n, u8::try_from(*o)?)?))
 }

@@ -5,22 +5,20 @@ ghost use Rattle.error.specs.Lent.{with};
 ghost use Rattle.text.specs.Text.{written};
 ghost use Rattle.replay_lines.specs.Words.{half_digit, hex_byte};
 
-use numbers::min;
 use replay_lines::answer::put_number;
-use text::words::{write_bytes, write_word};
+use text::words::write_bytes;
 
 // Puts the numbers of a run.
 pub(crate) fn put_numbers(out: &mut [u8], at: usize, run: &[u64]) -> usize {
     let mut to = at;
-    let mut i = 0;
-    while i < run.len() {
-        to = write_word(out, to, run[i], b' ');
-        i += 1;
+    for n in run {
+        to = put_number(out, to, *n);
     }
     to
 }
 
 // The hexadecimal digit of a half byte.
+#[tactic(auto, unfolding(replay_lines::specs::Words::half_digit))]
 fn half_digit(n: u8) -> u8
     requires { n < 16 }
     ensures { result ≡ half_digit n }
@@ -37,42 +35,37 @@ fn put_byte(out: &mut [u8], at: usize, byte: u8) -> usize
 
 // Puts bytes in hexadecimal; `-` stands for none.
 pub(crate) fn put_bytes(out: &mut [u8], at: usize, bytes: &[u8]) -> usize {
-    if bytes.len() == 0 {
+    if bytes.is_empty() {
         return write_bytes(out, at, b"- ");
     }
     let mut to = at;
-    let mut i = 0;
-    while i < bytes.len() {
-        to = put_byte(out, to, bytes[i]);
-        i += 1;
+    for byte in bytes {
+        to = put_byte(out, to, *byte);
     }
     write_bytes(out, to, b" ")
 }
 
 // Ends the line: the space after its last word becomes a newline.
 pub(crate) fn end_line(out: &mut [u8], at: usize) -> usize {
-    if at == 0 {
-        return 0;
+    if 0 < at && at <= out.len() {
+        out[at - 1] = b'\n';
     }
-    if out.len() < at {
-        return out.len();
-    }
-    out[at - 1] = b'\n';
-    at
+    at.min(out.len())
 }
 
 // Puts a count and as many numbers of a run, or all if it has fewer.
+// Beside `put_pairs`: the count is of numbers here, of pairs there.
 pub(crate) fn put_counted(out: &mut [u8], at: usize, run: &[u64], count: u64) -> usize {
-    let n = min(run.len() as u64, count) as usize;
+    let n = run.len().min(count as usize);
     let to = put_number(out, at, count);
-    put_numbers(out, to, &run[0..n])
+    put_numbers(out, to, &run[..n])
 }
 
 // Puts a count and as many pairs of a run, or all if it has fewer.
 pub(crate) fn put_pairs(out: &mut [u8], at: usize, run: &[u64], count: u64) -> usize {
-    let n = 2 * min((run.len() / 2) as u64, count) as usize;
+    let n = (run.len() / 2).min(count as usize);
     let to = put_number(out, at, count);
-    put_numbers(out, to, &run[0..n])
+    put_numbers(out, to, &run[..2 * n])
 }
 
 // The line of a count and as many pairs of a run, after what stands before `at`.
@@ -83,6 +76,6 @@ pub(crate) fn pairs_line(out: &mut [u8], at: usize, run: &[u64], count: u64) -> 
 
 // Puts the first `count` bytes, or all if there are fewer.
 pub(crate) fn put_first(out: &mut [u8], at: usize, bytes: &[u8], count: u64) -> usize {
-    let n = min(bytes.len() as u64, count) as usize;
-    put_bytes(out, at, &bytes[0..n])
+    let n = bytes.len().min(count as usize);
+    put_bytes(out, at, &bytes[..n])
 }

@@ -1,16 +1,18 @@
 // The answers, and standard output.
 use crate::lines::{end_line, pairs_line, put_counted};
-use error::{Number, Refusal};
+use error::Refusal;
+use free_lists::calls::Answer;
 use replay_lines::answer::{bad, done, nothing, number_line, pair_line, refused, word_line};
 use std::io;
+use std::num::TryFromIntError;
 use text::words::write_bytes;
 
 // The answer to a call: none for a line that needs none, a short one, or how many bytes of the memory for answers a long one has.
-#[derive(Clone, Copy)]
+// What is printed: `Is`, `Some` and `Ok` hold one number each and differ in the word, so no Option says them.
+#[derive(Clone, Copy, Debug, PartialEq, Eq)]
 pub(crate) enum Reply {
     Silent,
     Text(usize),
-    Bad,
     Done,
     Nothing,
     Is(u64),
@@ -18,45 +20,65 @@ pub(crate) enum Reply {
     Ok(u64),
     SomePair(u64, u64),
     OkPair(u64, u64),
+}
+
+// Why a call has no such answer.
+#[derive(Clone, Copy, Debug, PartialEq, Eq)]
+pub(crate) enum Failure {
+    // The line breaks the protocol.
+    Bad,
     Refused(Refusal),
 }
 
-pub(crate) fn number_reply(number: Number) -> Reply {
-    match number {
-        Number::Is(n) => Reply::Is(n),
-        Number::Refused(r) => Reply::Refused(r),
+pub(crate) type Answered = Result<Reply, Failure>;
+
+impl From<Answer> for Reply {
+    fn from(answer: Answer) -> Reply {
+        match answer {
+            Answer::Done => Reply::Done,
+            Answer::At(addr) => Reply::Some(addr),
+            Answer::Nothing => Reply::Nothing,
+        }
+    }
+}
+
+impl From<Refusal> for Failure {
+    fn from(refusal: Refusal) -> Failure {
+        Failure::Refused(refusal)
+    }
+}
+
+// A number that is too large for its place breaks the protocol.
+impl From<TryFromIntError> for Failure {
+    fn from(_: TryFromIntError) -> Failure {
+        Failure::Bad
     }
 }
 
 // The line of an answer.
-fn reply_line(out: &mut [u8], reply: Reply) -> usize {
-    match reply {
-        Reply::Silent => 0,
-        Reply::Text(len) => len,
-        Reply::Bad => bad(out),
-        Reply::Done => done(out),
-        Reply::Nothing => nothing(out),
-        Reply::Is(n) => number_line(out, n),
-        Reply::Some(n) => word_line(out, b"some ", n),
-        Reply::Ok(n) => word_line(out, b"ok ", n),
-        Reply::SomePair(first, second) => pair_line(out, b"some ", first, second),
-        Reply::OkPair(first, second) => pair_line(out, b"ok ", first, second),
-        Reply::Refused(r) => refused(out, r),
+fn answer_line(out: &mut [u8], answered: Answered) -> usize {
+    match answered {
+        Ok(Reply::Silent) => 0,
+        Ok(Reply::Text(len)) => len,
+        Ok(Reply::Done) => done(out),
+        Ok(Reply::Nothing) => nothing(out),
+        Ok(Reply::Is(n)) => number_line(out, n),
+        Ok(Reply::Some(n)) => word_line(out, b"some ", n),
+        Ok(Reply::Ok(n)) => word_line(out, b"ok ", n),
+        Ok(Reply::SomePair(first, second)) => pair_line(out, b"some ", first, second),
+        Ok(Reply::OkPair(first, second)) => pair_line(out, b"ok ", first, second),
+        Err(Failure::Bad) => bad(out),
+        Err(Failure::Refused(refusal)) => refused(out, refusal),
     }
-}
-
-// Writes the first `len` bytes of an answer.
-fn write_out(rt: &impl Print, out: &[u8], len: usize) -> io::Result<()> {
-    if len <= out.len() {
-        rt.write_all(&out[0..len])?;
-    }
-    Ok(())
 }
 
 // Writes an answer.
-pub(crate) fn say(rt: &impl Print, reply: Reply, out: &mut [u8]) -> io::Result<()> {
-    let len = reply_line(out, reply);
-    write_out(rt, out, len)
+pub(crate) fn say(rt: &impl Print, answered: Answered, out: &mut [u8]) -> io::Result<()> {
+    let len = answer_line(out, answered);
+    if let Some(line) = out.get(..len) {
+        rt.write_all(line)?;
+    }
+    Ok(())
 }
 
 // A run of numbers.

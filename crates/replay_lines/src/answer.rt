@@ -1,11 +1,11 @@
 // The lines of short answers. What passes the end of the lent bytes is dropped.
 ghost use Rattle.std.specs.Prelude.{◌≡◌, [], ◌∷◌, ◌++◌};
+ghost use Rattle.error.specs.Answers.{as_outcome};
 ghost use Rattle.error.specs.Lent.{with};
-ghost use Rattle.error.specs.Answers.{checked_outcome};
 ghost use Rattle.text.specs.Text.{written, word};
-ghost use Rattle.replay_lines.specs.Words.{numbers_line, err_word, refusal_text, bad_line, ok_line, none_line, checked_text};
+ghost use Rattle.replay_lines.specs.Words.{numbers_line, refusal_text, bad_line, ok_line, none_line, checked_text};
 
-use error::{Checked, Refusal};
+use error::Refusal;
 use text::words::{write_bytes, write_word};
 
 // Puts a number and a space.
@@ -15,57 +15,49 @@ pub fn put_number(out: &mut [u8], at: usize, n: u64) -> usize
     write_word(out, at, n, b' ')
 }
 
-// Puts two numbers that end a line.
-fn put_two(out: &mut [u8], at: usize, first: u64, second: u64) -> usize
-    ensures { with result out.new ≡ written at (word first 32 ++ word second 10) out.old }
+// Puts numbers that end a line.
+fn put_line(out: &mut [u8], at: usize, first: u64, rest: &[u64]) -> usize
+    ensures { with result out.new ≡ written at (numbers_line first rest.now) out.old }
 {
-    let to = write_word(out, at, first, b' ');
-    write_word(out, to, second, b'\n')
+    let mut to = at;
+    let mut last = first;
+    for n in rest {
+        to = write_word(out, to, last, b' ');
+        last = *n;
+    }
+    write_word(out, to, last, b'\n')
 }
 
-// The line of a refusal without values.
-fn plain_refusal(out: &mut [u8], number: u64) -> usize
-    ensures { with result out.new ≡ written 0 (err_word ++ numbers_line number []) out.old }
+// The line of a word and numbers.
+fn line_after(out: &mut [u8], word: &[u8], first: u64, rest: &[u64]) -> usize
+    ensures { with result out.new ≡ written 0 (word.now ++ numbers_line first rest.now) out.old }
 {
-    let at = write_bytes(out, 0, b"err ");
-    write_word(out, at, number, b'\n')
-}
-
-// The line of a refusal with one value.
-fn refusal_of_one(out: &mut [u8], number: u64, value: u64) -> usize
-    ensures { with result out.new ≡ written 0 (err_word ++ numbers_line number (value ∷ [])) out.old }
-{
-    let at = write_bytes(out, 0, b"err ");
-    put_two(out, at, number, value)
-}
-
-// The line of a refusal with two values.
-fn refusal_of_two(out: &mut [u8], number: u64, first: u64, second: u64) -> usize
-    ensures { with result out.new ≡ written 0 (err_word ++ numbers_line number (first ∷ second ∷ [])) out.old }
-{
-    let at = write_bytes(out, 0, b"err ");
-    let to = write_word(out, at, number, b' ');
-    put_two(out, to, first, second)
+    let at = write_bytes(out, 0, word);
+    put_line(out, at, first, rest)
 }
 
 // The line of a refusal: its number, and its values.
 pub fn refused(out: &mut [u8], refusal: Refusal) -> usize
     ensures { with result out.new ≡ written 0 (refusal_text refusal) out.old }
 {
-    let number = refusal.number() as u64;
+    let number = u64::from(refusal.number());
     match refusal {
         Refusal::Short {
             expected,
             available,
-        } => refusal_of_two(out, number, expected, available),
-        Refusal::MessageVersion(byte) => refusal_of_one(out, number, byte as u64),
-        Refusal::Strategy(byte) => refusal_of_one(out, number, byte as u64),
-        Refusal::Checksum { stored, computed } => {
-            refusal_of_two(out, number, stored as u64, computed as u64)
+        } => line_after(out, b"err ", number, &[expected, available]),
+        Refusal::MessageVersion(byte) | Refusal::Strategy(byte) | Refusal::VersionOrClient(byte) =>
+            line_after(out, b"err ", number, &[u64::from(byte)]),
+        Refusal::Checksum { stored, computed } => line_after(
+            out,
+            b"err ",
+            number,
+            &[u64::from(stored), u64::from(computed)],
+        ),
+        Refusal::OverCapacity { needed, given } => {
+            line_after(out, b"err ", number, &[needed, given])
         }
-        Refusal::OverCapacity { needed, given } => refusal_of_two(out, number, needed, given),
-        Refusal::VersionOrClient(byte) => refusal_of_one(out, number, byte as u64),
-        _ => plain_refusal(out, number),
+        _ => line_after(out, b"err ", number, &[]),
     }
 }
 
@@ -95,12 +87,12 @@ pub fn number_line(out: &mut [u8], n: u64) -> usize
     write_word(out, 0, n, b'\n')
 }
 
-pub fn checked_answer(out: &mut [u8], checked: Checked) -> usize
-    ensures { with result out.new ≡ written 0 (checked_text (checked_outcome checked)) out.old }
+pub fn checked_answer(out: &mut [u8], checked: Result<(), Refusal>) -> usize
+    ensures { with result out.new ≡ written 0 (checked_text (as_outcome checked)) out.old }
 {
     match checked {
-        Checked::Passed => done(out),
-        Checked::Refused(r) => refused(out, r),
+        Ok(()) => done(out),
+        Err(r) => refused(out, r),
     }
 }
 
@@ -108,14 +100,12 @@ pub fn checked_answer(out: &mut [u8], checked: Checked) -> usize
 pub fn word_line(out: &mut [u8], word: &[u8], n: u64) -> usize
     ensures { with result out.new ≡ written 0 (word.now ++ numbers_line n []) out.old }
 {
-    let at = write_bytes(out, 0, word);
-    write_word(out, at, n, b'\n')
+    line_after(out, word, n, &[])
 }
 
 // The line of a word and two numbers.
 pub fn pair_line(out: &mut [u8], word: &[u8], first: u64, second: u64) -> usize
     ensures { with result out.new ≡ written 0 (word.now ++ numbers_line first (second ∷ [])) out.old }
 {
-    let at = write_bytes(out, 0, word);
-    put_two(out, at, first, second)
+    line_after(out, word, first, &[second])
 }

@@ -33,7 +33,8 @@ use Rattle.file_space_info.proofs.MessageLaws.{length-twelve}
 use Rattle.save_step.specs.declared.Save.{Save}
 use Rattle.file_space_info.specs.Message.{message_len}
 use Rattle.save_step.specs.Stores.{after, save_stores}
-use Rattle.save_step.specs.Steps.{stored, stores, Saving, saving, steps}
+use Rattle.save_step.specs.Steps.{stores, Saving, saving, steps}
+use Rattle.save_step.specs.declared.Progress.TheVariants.{Stored}
 use Rattle.save_step.proofs.CutLaws as c
 use Rattle.save_step.proofs.CutLaws.{Savable}
 use Rattle.save_step.proofs.StoreLaws.{after-suc}
@@ -242,7 +243,7 @@ module _ (rs : Regions) (page start place : ℕ) (image scratch : List ℕ) (sav
     next = λ k h.
         rw (steps-made k (omega arith), image-made k (omega arith))
         (step_is place start B M image s (more scratch) k h
-        ∙ ap (λ (i : List ℕ). answer (with (stored (recorded (suc k))) i)) (after-suc k image (save_stores place start B M) (omega (arith, c.number_of-stores place start B M image s))));
+        ∙ ap (λ (i : List ℕ). answer (with (Stored (recorded (suc k))) i)) (after-suc k image (save_stores place start B M) (omega (arith, c.number_of-stores place start B M image s))));
     ended = λ k h.
         rw (ended_at k h, ap (λ (x : Saving). x.image) (ended_at k h), image-made T (le_refl T)) (step_after place start B M image s (more scratch));
     long = λ k h. rw (image-made k h) (c.cut-length place start B M image s k);

@@ -9,25 +9,24 @@ use borrow.Author.Tests.{lt-ltb, le-ltb, ltb-false, ltb-true}
 use lib.Dec.{ltb}
 use lib.ListN.{length, get_or, take, drop, take-append-drop}
 use lib.Seq.{length-take-le}
-use Rattle.error.specs.declared.Number.{Number}
+use Rattle.std.specs.Prelude.{Result, Ok, Err}
+use Rattle.error.specs.Answers.{as_outcome}
 use Rattle.error.specs.declared.Refusal.{Refusal}
 use Rattle.error.specs.declared.Refusal.TheVariants.{Width, Page, NotAList, Overflow, SharedAddress, PartUnit, OtherKind, Short, MessageVersion, Strategy, InvalidManager, Checksum, WideAddress, Place, OverCapacity, VersionOrClient, BackAddress}
-use Rattle.error.specs.Refusals.{number_of, values_of}
-use Rattle.error.specs.Answers.{number_outcome}
+use Rattle.error.specs.Refusals.{number_of}
 use Rattle.error.specs.Outcome.{Outcome, answer, refused, when, first_of}
 use Rattle.error.specs.Lent.{With, with, Left, left, leaving, over}
 use Rattle.error.proofs.OutcomeLaws.{passes, first-none, first_holds, first_passes}
 use Rattle.error.proofs.OverLaws.{length_over, over-nil}
 use Rattle.free_lists.specs.declared.FileLists.{FileLists}
 use Rattle.free_lists.specs.Lists.{Regions, lists_in, regions_in, are_lists, shared_byte}
+use Rattle.fsm_sections.proofs.StoredLaws.{refused_alike}
 use Rattle.fsm_blocks.specs.Settings.{starting_set}
 use Rattle.fsm_blocks.proofs.LengthLaws.{part_room, part_back}
 use Rattle.fsm_plan.specs.declared.blocks.PagedManagerPlan.{PagedManagerPlan}
 use Rattle.fsm_plan.specs.declared.blocks.BlocksPlan.{BlocksPlan}
-use Rattle.fsm_plan.specs.declared.blocks.BlocksPlanned.{BlocksPlanned}
-use Rattle.fsm_plan.specs.declared.blocks.BlocksPlanned.TheVariants as blocks
 use Rattle.fsm_plan.specs.Order.{repeats}
-use Rattle.fsm_plan.specs.Blocks.{blocks_at, planned_blocks, blocks_outcome, slots_by}
+use Rattle.fsm_plan.specs.Blocks.{blocks_at, planned_blocks, slots_by}
 use Rattle.fsm_plan.proofs.PlannedLaws.{length_blocks, plan_slots}
 use Rattle.fsm_writer.specs.Paged.{written_managers}
 use Rattle.fsm_writer.proofs.RowLaws.{over-after}
@@ -57,55 +56,33 @@ module _ (page start : ℕ) (p : PagedManagerPlan) (w : WithSlots) (we : w ≡ p
       ∙ sym (passes _ (OverCapacity (length (message_by page start p)) (length part)) _ (le-ltb (length part) (length (message_by page start p)) fits))
       ∙ ap (λ (n : ℕ). answer (with n (over 0 (message_by page start p) part))) long
 
-  pub message_put : (d : List ℕ) (at : ℕ) → at + 125 ≤ length d → (r : Number) (ws : List ℕ)
-      → left (number_outcome r) ws ≡ leaving (take (length d - at) (drop at d)) (serialized w.info w.slots (take (length d - at) (drop at d)))
+  pub message_put : (d : List ℕ) (at : ℕ) → at + 125 ≤ length d → (r : (Result ℕ Refusal)) (ws : List ℕ)
+      → left (as_outcome r) ws ≡ leaving (take (length d - at) (drop at d)) (serialized w.info w.slots (take (length d - at) (drop at d)))
       → take at d ++ (ws ++ drop (length d - at) (drop at d)) ≡ over at (message_by page start p) d
   message_put d at h r ws e =
       part_back d ws (message_by page start p) at
       (ap (λ (q : Left ℕ (List ℕ)). q.memory) (e ∙ ap (leaving (take (length d - at) (drop at d))) (message_answers _ (part_room d at 125 h))))
 
--- ---- a plan whose 4 comes first
+-- ---- the refusals 4 and 14 by their number
 
-module _ (xs ys zs : List ℕ) (f : FileLists) (page start : ℕ) (some : 0 < page) (lists : are_lists (lists_in xs ys zs f) ≡ true)
-    (x : BlocksPlanned) (xe : blocks_outcome x ≡ planned_blocks xs ys zs (counts_in f) page start 8) (early : Refusal) where
-  abbrev rs : Regions
-  rs = regions_in (lists_in xs ys zs f)
-
-  abbrev four : Bool → Outcome Save
-  four t = first_of (when t Overflow ∷ []) (refused early)
-
-  outcome-is : blocks_outcome x ≡ first_of (when (too_large page start rs) Overflow ∷ later page start rs) (answer (blocks_at 8 start (M page start rs)))
-  outcome-is = xe ∙ planned-is xs ys zs f page start some lists
-
-  -- of a plan: the end is not too large
-  pub early_plan : (p : BlocksPlan) → x ≡ blocks.Plan p → refused early ≡ four (too_large page start rs)
-  unfolding first_of
-  early_plan p h = pick (too_large page start rs) (sym (ap blocks_outcome h) ∙ outcome-is)
-    where
-      pick : (t : Bool) → answer p ≡ cond t (refused Overflow) (first_of (later page start rs) (answer (blocks_at 8 start (M page start rs)))) → refused early ≡ four t
-      pick true e = let z : ◌≡◌ {A = ℕ} 0 1 = cc in absurd (omega arith)
-      pick false e = refl
-
-  module _ (r : Refusal) (h : x ≡ blocks.Refused r) where
-    pub early_four : number_of r ≡ 4 → refused Overflow ≡ four (too_large page start rs)
-    unfolding first_of
-    early_four k = pick (too_large page start rs) (repeats (large page rs)) (wide_test page start rs) (sym (ap blocks_outcome h) ∙ outcome-is)
-      where
-        pick : (t u v : Bool) → refused r ≡ cond t (refused Overflow) (cond u (refused SharedAddress) (cond v (refused WideAddress) (answer (blocks_at 8 start (M page start rs))))) → refused Overflow ≡ four t
-        pick true u v e = refl
-        pick false true v e = let z : number_of r ≡ 5 = cc in absurd (omega arith)
-        pick false false true e = let z : number_of r ≡ 12 = cc in absurd (omega arith)
-        pick false false false e = let z : ◌≡◌ {A = ℕ} 0 1 = cc in absurd (omega arith)
-
-    pub early_other : (number_of r ≡ 4 → ⊥) → refused early ≡ four (too_large page start rs)
-    unfolding first_of
-    early_other k = pick (too_large page start rs) (sym (ap blocks_outcome h) ∙ outcome-is)
-      where
-        pick : (t : Bool) → refused r ≡ cond t (refused Overflow) (first_of (later page start rs) (answer (blocks_at 8 start (M page start rs)))) → refused early ≡ four t
-        pick true e = let z : number_of r ≡ 4 = cc in absurd (k z)
-        pick false e = refl
-
--- ---- what a refusal 14 says
+only_overflow : (r : Refusal) → number_of r ≡ 4 → r ≡ Overflow
+only_overflow Width e = absurd (omega arith)
+only_overflow Page e = absurd (omega arith)
+only_overflow NotAList e = absurd (omega arith)
+only_overflow Overflow e = refl
+only_overflow SharedAddress e = absurd (omega arith)
+only_overflow PartUnit e = absurd (omega arith)
+only_overflow OtherKind e = absurd (omega arith)
+only_overflow (Short a b) e = absurd (omega arith)
+only_overflow (MessageVersion b) e = absurd (omega arith)
+only_overflow (Strategy b) e = absurd (omega arith)
+only_overflow InvalidManager e = absurd (omega arith)
+only_overflow (Checksum a b) e = absurd (omega arith)
+only_overflow WideAddress e = absurd (omega arith)
+only_overflow Place e = absurd (omega arith)
+only_overflow (OverCapacity n g) e = absurd (omega arith)
+only_overflow (VersionOrClient b) e = absurd (omega arith)
+only_overflow BackAddress e = absurd (omega arith)
 
 only_capacity : (r : Refusal) → number_of r ≡ 14 → (n : ℕ) × (g : ℕ) × (r ≡ OverCapacity n g)
 only_capacity Width e = absurd (omega arith)
@@ -125,6 +102,48 @@ only_capacity Place e = absurd (omega arith)
 only_capacity (OverCapacity n g) e = (n, g, refl)
 only_capacity (VersionOrClient b) e = absurd (omega arith)
 only_capacity BackAddress e = absurd (omega arith)
+
+-- ---- a plan whose 4 comes first
+
+module _ (xs ys zs : List ℕ) (f : FileLists) (page start : ℕ) (some : 0 < page) (lists : are_lists (lists_in xs ys zs f) ≡ true) (early : Refusal) where
+  abbrev rs : Regions
+  rs = regions_in (lists_in xs ys zs f)
+
+  abbrev four : Bool → Outcome Save
+  four t = first_of (when t Overflow ∷ []) (refused early)
+
+  abbrev Plans : Outcome BlocksPlan → Type 0
+  Plans x = x ≡ planned_blocks xs ys zs (counts_in f) page start 8
+
+  outcome-is : (x : Outcome BlocksPlan) → Plans x → x ≡ first_of (when (too_large page start rs) Overflow ∷ later page start rs) (answer (blocks_at 8 start (M page start rs)))
+  outcome-is x xe = xe ∙ planned-is xs ys zs f page start some lists
+
+  pub early_four : Plans (refused Overflow) → refused Overflow ≡ four (too_large page start rs)
+  unfolding first_of
+  early_four xe = pick (too_large page start rs) (repeats (large page rs)) (wide_test page start rs) (outcome-is _ xe)
+    where
+      pick : (t u v : Bool) → refused Overflow ≡ cond t (refused Overflow) (cond u (refused SharedAddress) (cond v (refused WideAddress) (answer (blocks_at 8 start (M page start rs))))) → refused Overflow ≡ four t
+      pick true u v e = refl
+      pick false true v e = let z : ◌≡◌ {A = ℕ} 4 5 = cc in absurd (omega arith)
+      pick false false true e = let z : ◌≡◌ {A = ℕ} 4 12 = cc in absurd (omega arith)
+      pick false false false e = let z : ◌≡◌ {A = ℕ} 0 1 = cc in absurd (omega arith)
+
+  -- of a plan, or another refusal: the end is not too large
+  pub early_plan : (p : BlocksPlan) → Plans (answer p) → refused early ≡ four (too_large page start rs)
+  unfolding first_of
+  early_plan p xe = pick (too_large page start rs) (outcome-is _ xe)
+    where
+      pick : (t : Bool) → answer p ≡ cond t (refused Overflow) (first_of (later page start rs) (answer (blocks_at 8 start (M page start rs)))) → refused early ≡ four t
+      pick true e = let z : ◌≡◌ {A = ℕ} 0 1 = cc in absurd (omega arith)
+      pick false e = refl
+
+  pub early_other : (r : Refusal) → (r ≡ Overflow → ⊥) → Plans (refused r) → refused early ≡ four (too_large page start rs)
+  unfolding first_of
+  early_other r n xe = pick (too_large page start rs) (outcome-is _ xe)
+    where
+      pick : (t : Bool) → refused r ≡ cond t (refused Overflow) (first_of (later page start rs) (answer (blocks_at 8 start (M page start rs)))) → refused early ≡ four t
+      pick true e = let z : number_of r ≡ 4 = cc in absurd (n (only_overflow r z))
+      pick false e = refl
 
 -- ---- a beginning, by the branches of the code
 
@@ -163,18 +182,18 @@ module _ (xs ys zs : List ℕ) (f : FileLists) (page start place : ℕ) (image d
   abbrev whole : Outcome (With Save (List ℕ))
   whole = begun_after Rs page start place image d
 
-  module _ (x : BlocksPlanned) (ys' : List ℕ) (e : left (blocks_outcome x) ys' ≡ leaving (take lent d) (written_managers xs ys zs (counts_in f) page start 8 (take lent d))) where
+  module _ (x : (Result BlocksPlan Refusal)) (ys' : List ℕ) (e : left (as_outcome x) ys' ≡ leaving (take lent d) (written_managers xs ys zs (counts_in f) page start 8 (take lent d))) where
     abbrev after : List ℕ
     after = ys' ++ drop lent d
 
     abbrev Large : Type 0
-    Large = (T ≡ true) × (blocks_outcome x ≡ refused Overflow) × (after ≡ d)
+    Large = (T ≡ true) × (as_outcome x ≡ refused Overflow) × (after ≡ d)
 
     abbrev Over : Type 0
-    Over = (T ≡ false) × (lent < L) × (blocks_outcome x ≡ refused (OverCapacity L lent)) × (after ≡ d)
+    Over = (T ≡ false) × (lent < L) × (as_outcome x ≡ refused (OverCapacity L lent)) × (after ≡ d)
 
     abbrev Put : Type 0
-    Put = (T ≡ false) × (L ≤ lent) × (blocks_outcome x ≡ answer B) × (after ≡ over 0 bytes d)
+    Put = (T ≡ false) × (L ≤ lent) × (as_outcome x ≡ answer B) × (after ≡ over 0 bytes d)
 
     -- the three ways in which the writing ends
     ways : Large ⊎ (Over ⊎ Put)
@@ -185,7 +204,7 @@ module _ (xs ys zs : List ℕ) (f : FileLists) (page start place : ℕ) (image d
         same h = ap (λ (l : List ℕ). l ++ drop lent d) h ∙ take-append-drop lent d
 
         pick : (t : Bool) → T ≡ t → (u : Bool) → ltb (length (take lent d)) L ≡ u
-            → left (blocks_outcome x) ys' ≡ leaving (take lent d) (cond t (refused Overflow) (cond u (refused (OverCapacity L (length (take lent d)))) (answer (with B (over 0 bytes (take lent d))))))
+            → left (as_outcome x) ys' ≡ leaving (take lent d) (cond t (refused Overflow) (cond u (refused (OverCapacity L (length (take lent d)))) (answer (with B (over 0 bytes (take lent d))))))
             → Large ⊎ (Over ⊎ Put)
         pick true te u ue h = inl (te, ap (λ (q : Left BlocksPlan (List ℕ)). q.outcome) h, same (ap (λ (q : Left BlocksPlan (List ℕ)). q.memory) h))
         pick false te true ue h =
@@ -204,95 +223,96 @@ module _ (xs ys zs : List ℕ) (f : FileLists) (page start place : ℕ) (image d
               ap (λ (l : List ℕ). l ++ drop lent d) (ap (λ (q : Left BlocksPlan (List ℕ)). q.memory) h) ∙ front-over lent bytes d (omega (arith, D-long, long)),
             ))
 
-    module _ (r : Refusal) (h : x ≡ blocks.Refused r) where
-      said : blocks_outcome x ≡ refused r
-      said = ap blocks_outcome h
+    -- a refusal that is no 14 is 4
+    pub other_refused : (r : Refusal) → x ≡ Err r → ((m g : ℕ) → r ≡ OverCapacity m g → ⊥) → left (refused r) after ≡ leaving d whole
+    unfolding begun_after
+    other_refused r h n = ⊎_elim is (λ (z : Over ⊎ Put). ⊎_elim short put z) ways
+      where
+        said : as_outcome x ≡ refused r
+        said = ap as_outcome h
 
-      -- refusal 4
-      pub large_refused : number_of r ≡ 4 → left (refused Overflow) after ≡ leaving d whole
-      unfolding begun_after
-      large_refused k = ⊎_elim is (λ (z : Over ⊎ Put). ⊎_elim short put z) ways
+        is : Large → left (refused r) after ≡ leaving d whole
+        is w =
+            ap₂ (λ (o : Outcome Save) (m : List ℕ). left o m) (refused_alike r Overflow (sym said ∙ w.1)) w.2
+            ∙ ap (leaving d) (sym (first_holds _ Overflow _ _ w.0))
+
+        short : Over → left (refused r) after ≡ leaving d whole
+        short w =
+            let q : refused r ≡ refused (OverCapacity L lent) = sym said ∙ w.2 in
+            let z : number_of r ≡ 14 = cc in
+            let o = only_capacity r z in
+            absurd (n o.0 o.1 o.2)
+
+        put : Put → left (refused r) after ≡ leaving d whole
+        put w =
+            let q : refused r ≡ answer B = sym said ∙ w.2 in
+            let z : ◌≡◌ {A = ℕ} 0 1 = cc in
+            absurd (omega arith)
+
+    module _ (needed held : ℕ) (h : x ≡ Err (OverCapacity needed held)) where
+      said : as_outcome x ≡ refused (OverCapacity needed held)
+      said = ap as_outcome h
+
+      is-short : Over
+      is-short = ⊎_elim large (λ (z : Over ⊎ Put). ⊎_elim (λ (w : Over). w) put z) ways
         where
-          is : Large → left (refused Overflow) after ≡ leaving d whole
-          is w = ap (λ (m : List ℕ). left (refused Overflow) m) w.2 ∙ ap (leaving d) (sym (first_holds _ Overflow _ _ w.0))
-
-          short : Over → left (refused Overflow) after ≡ leaving d whole
-          short w =
-              let q : refused r ≡ refused (OverCapacity L lent) = sym said ∙ w.2 in
-              let z : number_of r ≡ 14 = cc in
+          large : Large → Over
+          large w =
+              let q : refused (OverCapacity needed held) ≡ refused Overflow = sym said ∙ w.1 in
+              let z : ◌≡◌ {A = ℕ} 14 4 = cc in
               absurd (omega arith)
 
-          put : Put → left (refused Overflow) after ≡ leaving d whole
+          put : Put → Over
           put w =
-              let q : refused r ≡ answer B = sym said ∙ w.2 in
+              let q : refused (OverCapacity needed held) ≡ answer B = sym said ∙ w.2 in
               let z : ◌≡◌ {A = ℕ} 0 1 = cc in
               absurd (omega arith)
 
-      module _ (k : number_of r ≡ 4 → ⊥) where
-        is-short : Over
-        is-short = ⊎_elim large (λ (z : Over ⊎ Put). ⊎_elim (λ (w : Over). w) put z) ways
-          where
-            large : Large → Over
-            large w =
-                let q : refused r ≡ refused Overflow = sym said ∙ w.1 in
-                let z : number_of r ≡ 4 = cc in
-                absurd (k z)
+      needed_is : needed ≡ L
+      needed_is =
+          let q : refused (OverCapacity needed held) ≡ refused (OverCapacity L lent) = sym said ∙ is-short.2 in
+          let w : needed ∷ held ∷ [] ≡ L ∷ lent ∷ [] = cc in
+          ap (λ (l : List ℕ). get_or l 0 0) w
 
-            put : Put → Over
-            put w =
-                let q : refused r ≡ answer B = sym said ∙ w.2 in
-                let z : ◌≡◌ {A = ℕ} 0 1 = cc in
-                absurd (omega arith)
+      -- refusal 13 for the blocks
+      pub blocks_refused : room < needed → left (refused Place) after ≡ leaving d whole
+      unfolding begun_after
+      blocks_refused b =
+          ap (λ (m : List ℕ). left (refused Place) m) is-short.3
+          ∙ ap (leaving d)
+          (sym (first_passes _ Overflow _ _ is-short.0 ∙ first_holds _ Place _ _ (out L ∙ lt-ltb room L (omega (arith, needed_is)))))
 
-        module _ (needed : ℕ) (ne : (m g : ℕ) → r ≡ OverCapacity m g → needed ≡ m) where
-          needed_is : needed ≡ L
-          needed_is =
-              let q : refused r ≡ refused (OverCapacity L lent) = sym said ∙ is-short.2 in
-              let z : number_of r ≡ 14 = cc in
-              let v : values_of r ≡ L ∷ lent ∷ [] = cc in
-              let o = only_capacity r z in
-              let w : o.0 ∷ o.1 ∷ [] ≡ L ∷ lent ∷ [] = sym (ap values_of o.2) ∙ v in
-              ne o.0 o.1 o.2 ∙ ap (λ (l : List ℕ). get_or l 0 0) w
+      module _ (b : needed ≤ room) where
+        pub needed_low : needed ≤ length image
+        needed_low = not_longer needed start place image (ltb room needed) (sym (out needed)) (le-ltb room needed b)
 
-          -- refusal 13 for the blocks
-          pub blocks_refused : room < needed → left (refused Place) after ≡ leaving d whole
-          unfolding begun_after
-          blocks_refused b =
-              ap (λ (m : List ℕ). left (refused Place) m) is-short.3
-              ∙ ap (leaving d)
-              (sym (first_passes _ Overflow _ _ is-short.0 ∙ first_holds _ Place _ _ (out L ∙ lt-ltb room L (omega (arith, needed_is)))))
+        -- refusal 14
+        pub scratch-refused : (o : Outcome Save) → o ≡ refused (OverCapacity (needed + 125) (length d)) → left o after ≡ leaving d whole
+        unfolding begun_after
+        scratch-refused o e =
+            ap₂ (λ (o : Outcome Save) (m : List ℕ). left o m) (e ∙ ap (λ (n : ℕ). refused (OverCapacity (n + 125) (length d))) needed_is) is-short.3
+            ∙ ap (leaving d)
+            (sym (first_passes _ Overflow _ _ is-short.0 ∙ first_passes _ Place _ _ (out L ∙ le-ltb room L (omega (arith, needed_is)))
+            ∙ first_holds _ (OverCapacity (L + 125) (length d)) _ _ (lt-ltb (length d) (L + 125) (omega (arith, is-short.1, needed_is)))))
 
-          module _ (b : needed ≤ room) where
-            pub needed_low : needed ≤ length image
-            needed_low = not_longer needed start place image (ltb room needed) (sym (out needed)) (le-ltb room needed b)
-
-            -- refusal 14
-            pub scratch-refused : (o : Outcome Save) → o ≡ refused (OverCapacity (needed + 125) (length d)) → left o after ≡ leaving d whole
-            unfolding begun_after
-            scratch-refused o e =
-                ap₂ (λ (o : Outcome Save) (m : List ℕ). left o m) (e ∙ ap (λ (n : ℕ). refused (OverCapacity (n + 125) (length d))) needed_is) is-short.3
-                ∙ ap (leaving d)
-                (sym (first_passes _ Overflow _ _ is-short.0 ∙ first_passes _ Place _ _ (out L ∙ le-ltb room L (omega (arith, needed_is)))
-                ∙ first_holds _ (OverCapacity (L + 125) (length d)) _ _ (lt-ltb (length d) (L + 125) (omega (arith, is-short.1, needed_is)))))
-
-    module _ (p : BlocksPlan) (h : x ≡ blocks.Plan p) where
+    module _ (p : BlocksPlan) (h : x ≡ Ok p) where
       is-put : Put
       is-put = ⊎_elim large (λ (z : Over ⊎ Put). ⊎_elim short (λ (w : Put). w) z) ways
         where
           large : Large → Put
           large w =
-              let q : answer p ≡ refused Overflow = sym (ap blocks_outcome h) ∙ w.1 in
+              let q : answer p ≡ refused Overflow = sym (ap as_outcome h) ∙ w.1 in
               let z : ◌≡◌ {A = ℕ} 0 1 = cc in
               absurd (omega arith)
 
           short : Over → Put
           short w =
-              let q : answer p ≡ refused (OverCapacity L lent) = sym (ap blocks_outcome h) ∙ w.2 in
+              let q : answer p ≡ refused (OverCapacity L lent) = sym (ap as_outcome h) ∙ w.2 in
               let z : ◌≡◌ {A = ℕ} 0 1 = cc in
               absurd (omega arith)
 
       plan_is : p ≡ B
-      plan_is = let q : answer p ≡ answer B = sym (ap blocks_outcome h) ∙ is-put.2 in cc
+      plan_is = let q : answer p ≡ answer B = sym (ap as_outcome h) ∙ is-put.2 in cc
 
       ends_at : p.managers.end_of_managers ≡ start + L
       ends_at = ap (λ (q : BlocksPlan). q.managers.end_of_managers) plan_is ∙ end_is page start Rs

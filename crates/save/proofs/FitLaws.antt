@@ -20,7 +20,7 @@ use Rattle.free_lists.specs.Lists.{Regions}
 use Rattle.fsm_sections.specs.declared.FreeSection.{FreeSection}
 use Rattle.fsm_sections.specs.Sections.{section, space, All}
 use Rattle.fsm_sections.specs.Pages.{end, cut_at, pieces_from, pieces, split, below_page, from_page}
-use Rattle.fsm_sections.specs.Runs.{any_of, any_wide}
+use Rattle.fsm_sections.specs.Runs.{any_wide}
 use Rattle.fsm_sections.proofs.AllLaws.{all_append, all_map}
 use Rattle.fsm_blocks.specs.Fshd.{fshd_size}
 use Rattle.fsm_blocks.specs.Settings.{Settings, starting_set, fsse_used}
@@ -86,7 +86,6 @@ set8 = starting_set 8
 
 -- 8 bytes hold every address
 pub narrow-all : (l : List FreeSection) → All (Ends top) l → any_wide 8 l ≡ false
-unfolding any_of
 narrow-all [] h = refl
 narrow-all (s ∷ l) h = rw (lt-leb (256 ^ 8) s.addr (omega (arith, h.0))) (narrow-all l h.1)
 

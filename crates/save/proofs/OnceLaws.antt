@@ -27,10 +27,10 @@ use Rattle.save.proofs.HoldingLaws.{holding-list, in_both, one_of}
 
 -- ---- sections that are not empty, of which no two hold one byte
 
-abbrev Some : FreeSection → Type 0
-Some s = 0 < s.size
+abbrev NotEmpty : FreeSection → Type 0
+NotEmpty s = 0 < s.size
 
-at_held : (a : ℕ) (l : List FreeSection) → All Some l → at_addr a l ≤ holding a l
+at_held : (a : ℕ) (l : List FreeSection) → All NotEmpty l → at_addr a l ≤ holding a l
 unfolding at_addr holding
 at_held a [] h = omega arith
 at_held a (s ∷ l) h = pick (eqb a s.addr) (eqb-true a s.addr) (at_held a l h.1)
@@ -39,7 +39,7 @@ at_held a (s ∷ l) h = pick (eqb a s.addr) (eqb-true a s.addr) (at_held a l h.1
     pick true f ih = let e : a ≡ s.addr = f refl in omega (arith, among_in s.addr (end s) a (omega arith) (omega (arith, h.0)))
     pick false f ih = omega arith
 
-once : (l : List FreeSection) → All Some l → ((b : ℕ) → holding b l ≤ 1) → repeats l ≡ false
+once : (l : List FreeSection) → All NotEmpty l → ((b : ℕ) → holding b l ≤ 1) → repeats l ≡ false
 unfolding repeats holding
 once [] h k = refl
 once (s ∷ l) h k =
@@ -48,16 +48,16 @@ once (s ∷ l) h k =
     let more : (b : ℕ) → holding b l ≤ 1 = λ b. omega (arith, k b) in
     rw (le-ltb 0 (at_addr s.addr l) z) (once l h.1 more)
 
-from_some : (page : ℕ) (l : List FreeSection) → 0 < page → All Some (from_page page l)
+from_some : (page : ℕ) (l : List FreeSection) → 0 < page → All NotEmpty (from_page page l)
 unfolding from_page
 from_some page [] p = tt
 from_some page (s ∷ l) p = pick (ltb s.size page) (ltb-false s.size page) (from_some page l p)
   where
-    pick : (t : Bool) → (t ≡ false → page ≤ s.size) → All Some (from_page page l) → All Some (cond t (from_page page l) (s ∷ from_page page l))
+    pick : (t : Bool) → (t ≡ false → page ≤ s.size) → All NotEmpty (from_page page l) → All NotEmpty (cond t (from_page page l) (s ∷ from_page page l))
     pick true f ih = ih
     pick false f ih = (omega (arith, f refl), ih)
 
-list-some : (low high : ℕ) (rs : List FreeRegion) → Within low high rs → All Some (as_sections rs)
+list-some : (low high : ℕ) (rs : List FreeRegion) → Within low high rs → All NotEmpty (as_sections rs)
 list-some low high [] w = tt
 list-some low high (r ∷ rs) w = (w.0, list-some (suc (end_of r)) high rs w.3)
 
@@ -92,6 +92,6 @@ module _ (page : ℕ) (rs : Regions) (some : 0 < page) (valid : (i : Which) → 
       let r = from_page page (split page (as_sections (rs Raw))) in
       let u = as_sections (rs Unclassified) in
       once (large page rs)
-      (all_append Some m (r ++ u) (from_some page (split page (as_sections (rs Metadata))) some)
-      (all_append Some r u (from_some page (split page (as_sections (rs Raw))) some) (list-some 0 top (rs Unclassified) (within Unclassified))))
+      (all_append NotEmpty m (r ++ u) (from_some page (split page (as_sections (rs Metadata))) some)
+      (all_append NotEmpty r u (from_some page (split page (as_sections (rs Raw))) some) (list-some 0 top (rs Unclassified) (within Unclassified))))
       held_few

@@ -7,12 +7,9 @@ use mathlib.Core.List.{List, [], ◌∷◌}
 use borrow.Author.Tests.{lt-ltb, le-ltb, eq-eqb, ne_eqb, leb-true, not-false}
 use lib.Dec.{ltb, eqb}
 use lib.ListN.{length, get_or}
-use Rattle.error.specs.declared.Checked.{Checked}
-use Rattle.error.specs.declared.Checked.TheVariants as checked
 use Rattle.error.specs.declared.Refusal.{Refusal}
 use Rattle.error.specs.declared.Refusal.TheVariants.{Page, NotAList, Overflow, SharedAddress, MessageVersion, Strategy, Place, OverCapacity}
 use Rattle.error.specs.Refusals.{number_of, values_of}
-use Rattle.error.specs.Answers.{checked_outcome}
 use Rattle.error.specs.Outcome.{Outcome, answer, refuse, refused, Condition, when, first_of}
 use Rattle.error.specs.Lent.{With, with, left, leaving}
 use Rattle.error.proofs.TestLaws.{or_false, true_not_false}
@@ -103,20 +100,20 @@ module _ (rs : Regions) (start place : ℕ) (image : List ℕ) where
 -- ---- refusal 5, once refusal 3 is past
 
 module _ (xs ys zs : List ℕ) (f : FileLists) (lists : are_lists (lists_in xs ys zs f) ≡ true)
-    (c : Checked) (e : checked_outcome c ≡ together (lists_in xs ys zs f)) (cs : List Condition) where
+    (cs : List Condition) where
   abbrev share : Condition
   share = when (shared_byte (regions_in (lists_in xs ys zs f))) SharedAddress
 
-  shared_only : checked_outcome c ≡ first_of (share ∷ []) (answer tt)
-  shared_only = e ∙ first_passes _ NotAList _ _ (ap not lists)
+  shared_only : together (lists_in xs ys zs f) ≡ first_of (share ∷ []) (answer tt)
+  shared_only = first_passes _ NotAList _ _ (ap not lists)
 
-  pub shared-refused : (r : Refusal) → c ≡ checked.Refused r → ◌≡◌ {A = Outcome (Unit {0})} (refused r) (first_of (share ∷ cs) (answer tt))
+  pub shared-refused : (r : Refusal) → ◌≡◌ {A = Outcome (Unit {0})} (refused r) (together (lists_in xs ys zs f)) → ◌≡◌ {A = Outcome (Unit {0})} (refused r) (first_of (share ∷ cs) (answer tt))
   shared-refused r h =
-      first_refuses (share ∷ []) tt r (first_of cs (answer tt)) (ap checked_outcome (sym h) ∙ shared_only) ∙ sym (first-append (share ∷ []) cs (answer tt))
+      first_refuses (share ∷ []) tt r (first_of cs (answer tt)) (h ∙ shared_only) ∙ sym (first-append (share ∷ []) cs (answer tt))
 
-  pub shared-not : c ≡ checked.Passed → (o : Outcome (Unit {0})) → o ≡ first_of cs (answer tt) → o ≡ first_of (share ∷ cs) (answer tt)
+  pub shared-not : answer tt ≡ together (lists_in xs ys zs f) → (o : Outcome (Unit {0})) → o ≡ first_of cs (answer tt) → o ≡ first_of (share ∷ cs) (answer tt)
   shared-not h o q =
-      let f = (first_answers (share ∷ []) tt tt (sym shared_only ∙ ap checked_outcome h)).0.0 in
+      let f = (first_answers (share ∷ []) tt tt (sym shared_only ∙ sym h)).0.0 in
       q ∙ sym (first_passes _ SharedAddress cs (answer tt) f)
 
 -- ---- the early tests among all of them: what they refuse is refused, but for 4; where none holds, the blocks are left to test
@@ -187,42 +184,41 @@ module _ (ls : Lists) (page start place : ℕ) (image scratch : List ℕ) where
       unfolding begun_of
       in_two = regions_only ∙ first-append (four ∷ []) (late_tests rs (block_len page rs) start place image (length scratch)) y
 
-      module _ (c : Checked) (ce : checked_outcome c ≡ first_of (early_tests rs start place image) (answer tt)) where
-        pub begin_early : (r : Refusal) → c ≡ checked.Refused r → (q : Refusal) → ◌≡◌ {A = Outcome Save} (refused q) (first_of (four ∷ []) (refused r))
-            → left (refused q) scratch ≡ leaving scratch whole
-        unfolding first_of
-        begin_early r h q e =
-            let l : refused r ≡ first_of (late_tests rs (block_len page rs) start place image (length scratch)) y =
-            first_refuses (early_tests rs start place image) tt r _ (sym (ap checked_outcome h) ∙ ce)
-            ∙ among (MessageVersion (get_or image place 0)) (Strategy (get_or image (place + 1) 0)) short (shared_byte rs) (message_in place image) (not (eqb (get_or image place 0) 1)) (ltb 3 (get_or image (place + 1) 0)) (blocks_out (block_len page rs) start place image) (any_in_the_way start place rs) y in
-            ap (leaving scratch) (alike (too_large page start rs) e ∙ ap (first_of (four ∷ [])) l ∙ sym in_two)
-          where
-            alike : (t : Bool) → ◌≡◌ {A = Outcome Save} (refused q) (first_of (when t Overflow ∷ []) (refused r)) → ◌≡◌ {A = Outcome (With Save (List ℕ))} (refused q) (first_of (when t Overflow ∷ []) (refused r))
-            alike true e =
-                let n : number_of q ≡ 4 = cc in
-                let v : values_of q ≡ [] = cc in
-                ap₂ refuse n v
-            alike false e =
-                let n : number_of q ≡ number_of r = cc in
-                let v : values_of q ≡ values_of r = cc in
-                ap₂ refuse n v
+      pub begin_early : (r : Refusal) → ◌≡◌ {A = Outcome (Unit {0})} (refused r) (first_of (early_tests rs start place image) (answer tt)) → (q : Refusal) → ◌≡◌ {A = Outcome Save} (refused q) (first_of (four ∷ []) (refused r))
+          → left (refused q) scratch ≡ leaving scratch whole
+      unfolding first_of
+      begin_early r h q e =
+          let l : refused r ≡ first_of (late_tests rs (block_len page rs) start place image (length scratch)) y =
+          first_refuses (early_tests rs start place image) tt r _ h
+          ∙ among (MessageVersion (get_or image place 0)) (Strategy (get_or image (place + 1) 0)) short (shared_byte rs) (message_in place image) (not (eqb (get_or image place 0) 1)) (ltb 3 (get_or image (place + 1) 0)) (blocks_out (block_len page rs) start place image) (any_in_the_way start place rs) y in
+          ap (leaving scratch) (alike (too_large page start rs) e ∙ ap (first_of (four ∷ [])) l ∙ sym in_two)
+        where
+          alike : (t : Bool) → ◌≡◌ {A = Outcome Save} (refused q) (first_of (when t Overflow ∷ []) (refused r)) → ◌≡◌ {A = Outcome (With Save (List ℕ))} (refused q) (first_of (when t Overflow ∷ []) (refused r))
+          alike true e =
+              let n : number_of q ≡ 4 = cc in
+              let v : values_of q ≡ [] = cc in
+              ap₂ refuse n v
+          alike false e =
+              let n : number_of q ≡ number_of r = cc in
+              let v : values_of q ≡ values_of r = cc in
+              ap₂ refuse n v
 
-        module _ (h : c ≡ checked.Passed) where
-          none : NoneHolds (early_tests rs start place image)
-          none = (first_answers (early_tests rs start place image) tt tt (sym ce ∙ ap checked_outcome h)).0
+      module _ (h : ◌≡◌ {A = Outcome (Unit {0})} (answer tt) (first_of (early_tests rs start place image) (answer tt))) where
+        none : NoneHolds (early_tests rs start place image)
+        none = (first_answers (early_tests rs start place image) tt tt (sym h)).0
 
-          pub begin_apart : shared_byte rs ≡ false
-          begin_apart = none.0
+        pub begin_apart : shared_byte rs ≡ false
+        begin_apart = none.0
 
-          pub begin_message : message_in place image ≡ true
-          begin_message = not-false (message_in place image) (or_false (not (message_in place image)) (any_in_the_way start place rs) none.1.1.1.0).0
+        pub begin_message : message_in place image ≡ true
+        begin_message = not-false (message_in place image) (or_false (not (message_in place image)) (any_in_the_way start place rs) none.1.1.1.0).0
 
-          pub begin_after : leaving scratch (begun_after rs page start place image scratch) ≡ leaving scratch whole
-          unfolding begun_after
-          begin_after =
-              ap (leaving scratch)
-              (first-append (four ∷ []) (when (blocks_out (block_len page rs) start place image) Place ∷ short ∷ []) y
-              ∙ ap (first_of (four ∷ []))
-              (sym (blocks_left (MessageVersion (get_or image place 0)) (Strategy (get_or image (place + 1) 0)) short (shared_byte rs) (message_in place image) (not (eqb (get_or image place 0) 1)) (ltb 3 (get_or image (place + 1) 0)) (blocks_out (block_len page rs) start place image)
-              (any_in_the_way start place rs) y none))
-              ∙ sym in_two)
+        pub begin_after : leaving scratch (begun_after rs page start place image scratch) ≡ leaving scratch whole
+        unfolding begun_after
+        begin_after =
+            ap (leaving scratch)
+            (first-append (four ∷ []) (when (blocks_out (block_len page rs) start place image) Place ∷ short ∷ []) y
+            ∙ ap (first_of (four ∷ []))
+            (sym (blocks_left (MessageVersion (get_or image place 0)) (Strategy (get_or image (place + 1) 0)) short (shared_byte rs) (message_in place image) (not (eqb (get_or image place 0) 1)) (ltb 3 (get_or image (place + 1) 0)) (blocks_out (block_len page rs) start place image)
+            (any_in_the_way start place rs) y none))
+            ∙ sym in_two)

@@ -42,7 +42,8 @@ use Rattle.file_space_info.specs.Message.{message_len}
 use Rattle.save_step.specs.declared.Save.{Save}
 use Rattle.save_step.specs.declared.Store.{Store}
 use Rattle.save_step.specs.Stores.{no_store, make, after, save_stores}
-use Rattle.save_step.specs.Steps.{stored, finished, stepped, Saving, saving, steps, stores}
+use Rattle.save_step.specs.Steps.{stepped, Saving, saving, steps, stores}
+use Rattle.save_step.specs.declared.Progress.TheVariants.{Stored, Finished}
 use Rattle.save.specs.Saving.{small, small_raw, large, block_bytes, message_of, begun_of, begun}
 use Rattle.fsm_blocks.specs.declared.checks.Reading.{Reading}
 use Rattle.image.specs.Reading.{Listed, in_slot, read_listed, image_into}
@@ -109,8 +110,8 @@ module _ (s : OneSave) where
     pub count : length all_stores ≡ store_count
     pub made : (k : ℕ) → k ≤ store_count → after_steps k ≡ saving (record_at k) (after k s.image all_stores)
     pub next : (k : ℕ) → k < store_count → stepped (after_steps k).save (image_after k) s.lent
-        ≡ answer (with (stored (record_at (suc k))) (make (get_or all_stores k no_store) (image_after k)))
-    pub ended : (k : ℕ) → store_count ≤ k → stepped (after_steps k).save (image_after k) s.lent ≡ answer (with finished (image_after store_count))
+        ≡ answer (with (Stored (record_at (suc k))) (make (get_or all_stores k no_store) (image_after k)))
+    pub ended : (k : ℕ) → store_count ≤ k → stepped (after_steps k).save (image_after k) s.lent ≡ answer (with Finished (image_after store_count))
     pub long : (k : ℕ) → k ≤ store_count → length (image_after k) ≡ length s.image
 
   pub record ReadInto : Type 0 where

@@ -21,10 +21,9 @@
 --   begun_of        a beginning of three lists of regions: the record and the scratch, where no condition holds
 --   list_tests      refusals 2 and 3, which come first ("Fourteen ways to say no": "the lowest number is given")
 --   begun           `save_begin`: these tests, and then a beginning of the lists' regions; in all 2, 3, 4, 5, 8, 9, 13, 14
---   begin_outcome   the outcome that an answer of the code stands for ("Language forms": "for every case of the enum")
 use Rattle.std.specs.Prelude.{ℕ, ◌+◌, Bool, false, ◌&&◌, ◌||◌, not, List, [], ◌∷◌, ◌++◌, map, leb, ltb, eqb, length, get_or}
 use Rattle.error.specs.declared.Refusal.TheVariants as refusal
-use Rattle.error.specs.Outcome.{Outcome, answer, refused, Condition, when, first_of}
+use Rattle.error.specs.Outcome.{Outcome, answer, Condition, when, first_of}
 use Rattle.error.specs.Lent.{With, with, over}
 use Rattle.fields.specs.Ranges.{top}
 use Rattle.checksum.specs.Lookup3.{lookup3}
@@ -41,8 +40,6 @@ use Rattle.file_space_info.specs.declared.FileSpaceStrategy.TheVariants as strat
 use Rattle.file_space_info.specs.Message.{message_len, message_bytes}
 use Rattle.file_space_info.specs.Infos.{persistent_managers}
 use Rattle.save_step.specs.declared.Save.{Save}
-use Rattle.save.specs.declared.Begin.{Begin}
-use Rattle.save.specs.declared.Begin.TheVariants as begin
 
 abbrev pub as_sections : List FreeRegion → List FreeSection
 as_sections rs = map (λ r. section r.addr r.len) rs
@@ -140,7 +137,3 @@ list_tests ls page = when (eqb page 0) refusal.Page ∷ when (not (are_lists ls)
 
 unfoldable pub begun : Lists → ℕ → ℕ → ℕ → List ℕ → List ℕ → Outcome (With Save (List ℕ))
 begun ls page start place image scratch = first_of (list_tests ls page) (begun_of (regions_in ls) page start place image scratch)
-
-abbrev pub begin_outcome : Begin → Outcome Save
-begin_outcome (begin.Begun s) = answer s
-begin_outcome (begin.Refused r) = refused r

@@ -1,25 +1,26 @@
 // What a beginning does after its tests: it plans the blocks, writes them into the scratch, and after them the message.
 ghost use Rattle.std.specs.Prelude.{◌≡◌, ℕ, ◌+◌, ◌-◌, ◌≤◌, ◌<◌, true, false, [], ◌∷◌, length};
+ghost use Rattle.error.specs.Answers.{as_outcome};
 ghost use Rattle.error.specs.declared.Refusal.TheVariants.{Overflow, OverCapacity};
 ghost use Rattle.error.specs.Outcome.{Outcome, refused, when, first_of};
 ghost use Rattle.error.specs.Lent.{left, leaving, over};
 ghost use Rattle.fields.specs.Ranges.{top};
 ghost use Rattle.free_lists.specs.Lists.{lists_in, regions_in, are_lists, shared_byte};
 ghost use Rattle.save_step.specs.declared.Save.{Save};
-ghost use Rattle.save.specs.Saving.{too_large, message_in, begin_outcome};
+ghost use Rattle.save.specs.Saving.{too_large, message_in};
 ghost use Rattle.save.specs.Beginning.{counts_in, message_by, begun_after};
 
+use crate::Request;
 use crate::conditions::block_room;
-use crate::{Begin, Request};
 use error::Refusal;
 use file_space_info::{DEFAULT_THRESHOLD, FileSpaceInfo, FileSpaceStrategy, MESSAGE_LEN};
 use free_lists::FileLists;
 use fsm_plan::Counts;
-use fsm_plan::blocks::{BlocksPlanned, PagedManagerPlan, plan_blocks};
+use fsm_plan::blocks::{PagedManagerPlan, plan_blocks};
 use fsm_writer::managers::serialize_paged_managers;
-use numbers::{min, saturating_sub};
 use save_step::Save;
 
+// No `From`: both types are of other crates.
 fn counts_of(lists: FileLists) -> Counts
     ensures { result ≡ counts_in lists }
 {
@@ -45,7 +46,7 @@ fn put_message(page: u64, start: u64, p: PagedManagerPlan, scratch: &mut [u8])
     let info = message.info;
     let addrs = message.slots;
     let from = (p.end_of_managers - start) as usize;
-    info.serialize(&addrs, &mut scratch[from..]);
+    let _ = info.serialize(&addrs, &mut scratch[from..]);
 }
 
 // The refusal of a beginning that an early test refuses: a plan's 4 comes before it.
@@ -62,37 +63,14 @@ pub(crate) fn refuse_early(
         (regions_in (lists_in meta.now raw.now unclassified.now q.lists))) Overflow ∷ []) (refused early)) }
 {
     let n = counts_of(q.lists);
-    let planned = plan_blocks(meta, raw, unclassified, n, q.to.page, q.to.start, 8);
-    match planned {
-        BlocksPlanned::Plan(_) => early,
-        BlocksPlanned::Refused(r) => {
-            if r.number() == 4 {
-                return Refusal::Overflow;
-            }
-            early
-        }
+    match plan_blocks(meta, raw, unclassified, n, q.to.page, q.to.start, 8) {
+        Ok(_) => early,
+        // Matched in two steps for the same reason as in `begin_after`.
+        Err(r) => match r {
+            Refusal::Overflow => r,
+            _ => early,
+        },
     }
-}
-
-// How many bytes a refusal 14 says to be needed.
-fn needed_of(r: Refusal) -> u64
-    ensures { (m g : ℕ) → r ≡ OverCapacity m g → result ≡ m }
-{
-    if let Refusal::OverCapacity { needed, given: _ } = r {
-        return needed;
-    }
-    0
-}
-
-// Refusal 14 of blocks of `len` bytes.
-fn refuse_room(len: u64, given: u64) -> Begin
-    requires { len + 125 ≤ top }
-    ensures { begin_outcome result ≡ refused (OverCapacity (len + 125) given) }
-{
-    Begin::Refused(Refusal::OverCapacity {
-        needed: len + MESSAGE_LEN,
-        given: given,
-    })
 }
 
 // A beginning that no early test refuses.
@@ -103,18 +81,18 @@ pub(crate) fn begin_after(
     q: Request,
     image: &[u8],
     scratch: &mut [u8],
-) -> Begin
+) -> Result<Save, Refusal>
     requires lists { (0 < q.to.page) × (are_lists (lists_in meta.now raw.now unclassified.now q.lists) ≡ true) }
     requires apart { shared_byte (regions_in (lists_in meta.now raw.now unclassified.now q.lists)) ≡ false }
     requires message { message_in q.to.place image.now ≡ true }
-    ensures { left (begin_outcome result) scratch.new
+    ensures { left (as_outcome result) scratch.new
         ≡ leaving scratch.old (begun_after (regions_in (lists_in meta.now raw.now unclassified.now q.lists))
         q.to.page q.to.start q.to.place image.now scratch.old) }
 {
     let n = counts_of(q.lists);
     let given = scratch.len() as u64;
     let room = block_room(q.to, image);
-    let lent = min(room, saturating_sub(given, MESSAGE_LEN)) as usize;
+    let lent = room.min(given.saturating_sub(MESSAGE_LEN)) as usize;
     let planned = serialize_paged_managers(
         meta,
         raw,
@@ -123,31 +101,37 @@ pub(crate) fn begin_after(
         q.to.page,
         q.to.start,
         8,
-        &mut scratch[0..lent],
+        &mut scratch[..lent],
     );
     match planned {
-        BlocksPlanned::Refused(r) => {
-            if r.number() == 4 {
-                return Begin::Refused(Refusal::Overflow);
-            }
-            let needed = needed_of(r);
-            if room < needed {
-                return Begin::Refused(Refusal::Place);
-            }
-            refuse_room(needed, given)
-        }
-        BlocksPlanned::Plan(p) => {
+        Ok(p) => {
             let len = p.managers.end_of_managers - q.to.start;
             if given < MESSAGE_LEN {
-                return refuse_room(len, given);
+                return Err(Refusal::OverCapacity {
+                    needed: len + MESSAGE_LEN,
+                    given,
+                });
             }
             put_message(q.to.page, q.to.start, p.managers, scratch);
-            Begin::Begun(Save {
+            Ok(Save {
                 start: q.to.start,
                 place: q.to.place,
-                len: len,
+                len,
                 done: 0,
             })
         }
+        // Tried by `Err(Refusal::OverCapacity { .. })` beside `Err(r)`, whose proof did not close: the last arm does not say that it is no 14.
+        Err(r) => match r {
+            Refusal::OverCapacity { needed, .. } => {
+                if room < needed {
+                    return Err(Refusal::Place);
+                }
+                Err(Refusal::OverCapacity {
+                    needed: needed + MESSAGE_LEN,
+                    given,
+                })
+            }
+            _ => Err(r),
+        },
     }
 }

@@ -2,21 +2,22 @@
 #![tactic(auto)]
 
 ghost use Rattle.std.specs.Prelude.{◌≡◌};
+ghost use Rattle.error.specs.Answers.{as_outcome};
 ghost use Rattle.error.specs.Lent.{left, leaving};
 ghost use Rattle.free_lists.specs.Lists.{lists_in};
-ghost use Rattle.save.specs.Saving.{begun, begin_outcome};
+ghost use Rattle.save.specs.Saving.{begun};
 
 mod conditions;
 mod fill;
 
 use crate::conditions::test_early;
 use crate::fill::{begin_after, refuse_early};
-use error::{Checked, Refusal};
+use error::Refusal;
 use free_lists::{FileLists, are_lists};
 use save_step::Save;
 
 // Where a save goes: the page size of its blocks, the address of the first, and the place of the message.
-#[derive(Clone, Copy)]
+#[derive(Clone, Copy, Debug, PartialEq, Eq)]
 pub struct Target {
     pub page: u64,
     pub start: u64,
@@ -30,13 +31,6 @@ pub(crate) struct Request {
     pub(crate) to: Target,
 }
 
-// What the beginning of a save answers: its record.
-#[derive(Clone, Copy)]
-pub enum Begin {
-    Begun(Save),
-    Refused(Refusal),
-}
-
 // Begins a save of three lists: blocks from `to.start` on, message at `to.place`. The scratch gets all blocks and then the message.
 pub fn save_begin(
     meta: &[u64],
@@ -46,24 +40,20 @@ pub fn save_begin(
     to: Target,
     image: &[u8],
     scratch: &mut [u8],
-) -> Begin
-    ensures { left (begin_outcome result) scratch.new
+) -> Result<Save, Refusal>
+    ensures { left (as_outcome result) scratch.new
         ≡ leaving scratch.old (begun (lists_in meta.now raw.now unclassified.now lists) to.page to.start
         to.place image.now scratch.old) }
 {
     if to.page == 0 {
-        return Begin::Refused(Refusal::Page);
+        return Err(Refusal::Page);
     }
     if !are_lists(meta, raw, unclassified, lists) {
-        return Begin::Refused(Refusal::NotAList);
+        return Err(Refusal::NotAList);
     }
-    let q = Request {
-        lists: lists,
-        to: to,
-    };
-    let early = test_early(meta, raw, unclassified, q, image);
-    match early {
-        Checked::Refused(r) => Begin::Refused(refuse_early(meta, raw, unclassified, q, r)),
-        Checked::Passed => begin_after(meta, raw, unclassified, q, image, scratch),
+    let q = Request { lists, to };
+    match test_early(meta, raw, unclassified, q, image) {
+        Err(r) => Err(refuse_early(meta, raw, unclassified, q, r)),
+        Ok(()) => begin_after(meta, raw, unclassified, q, image, scratch),
     }
 }

@@ -18,7 +18,9 @@ use Rattle.fields.specs.Layout.{window}
 use Rattle.save_step.specs.declared.Save.{Save}
 use Rattle.file_space_info.specs.Message.{message_len}
 use Rattle.save_step.specs.Stores.{no_store, make_all, after, save_stores}
-use Rattle.save_step.specs.Steps.{Progress, stored, finished, stores, leaves, next_store, one_more, stepped, Saving, saving, record_after, go_on, step_on, steps}
+use Rattle.save_step.specs.Steps.{stores, leaves, next_store, one_more, stepped, Saving, saving, record_after, go_on, step_on, steps}
+use Rattle.save_step.specs.declared.Progress.{Progress}
+use Rattle.save_step.specs.declared.Progress.TheVariants.{Stored, Finished}
 use Rattle.save_step.proofs.StoreLaws.{after-suc}
 use Rattle.save_step.proofs.CutLaws.{Savable, number_of-stores, cut-length}
 use Rattle.save_step.proofs.StepLaws.{step_ends, step_made}
@@ -26,7 +28,7 @@ use Rattle.save_step.proofs.StepLaws.{step_ends, step_made}
 -- ---- any record
 
 -- a step after the last says finished and changes nothing, whatever it is given
-pub step_ended : (s : Save) (image scratch : List ℕ) → stores s.len ≤ s.done → stepped s image scratch ≡ answer (with finished image)
+pub step_ended : (s : Save) (image scratch : List ℕ) → stores s.len ≤ s.done → stepped s image scratch ≡ answer (with Finished image)
 unfolding stepped
 step_ended s image scratch h = rw (le-leb (stores s.len) s.done h)
 
@@ -62,7 +64,7 @@ module _ (c : Save) (image scratch : List ℕ) where
   goes new p (refuse n vs) e = let o = (both e).0 in let z : ◌≡◌ {A = ℕ} 0 1 = cc in absurd (omega arith)
 
   -- a step that says finished or refuses changes nothing
-  stands : (new : List ℕ) (o : Outcome Progress) → ((t : Save) → o ≡ answer (stored t) → ⊥) → left o new ≡ leaving image (stepped c image scratch)
+  stands : (new : List ℕ) (o : Outcome Progress) → ((t : Save) → o ≡ answer (Stored t) → ⊥) → left o new ≡ leaving image (stepped c image scratch)
       → (new ≡ image) × (step_on scratch (saving c image) ≡ saving c image)
   stands new o n =
       step_ends c image scratch (λ x. left o new ≡ leaving image x → (new ≡ image) × (go_on (saving c image) x ≡ saving c image))
@@ -70,13 +72,13 @@ module _ (c : Save) (image scratch : List ℕ) where
       (λ e. ((both e).1, refl))
       (λ e. absurd (n (one_more c) (both e).0))
 
-  pub steps_step : (x : Saving) (i : ℕ) → saving c image ≡ steps i scratch x → (new : List ℕ) (o : Outcome Progress) (t : Save) → o ≡ answer (stored t)
+  pub steps_step : (x : Saving) (i : ℕ) → saving c image ≡ steps i scratch x → (new : List ℕ) (o : Outcome Progress) (t : Save) → o ≡ answer (Stored t)
       → left o new ≡ leaving image (stepped c image scratch) → saving t new ≡ steps (i + 1) scratch x
   unfolding steps
   steps_step x i h new o t s e =
-      goes new (stored t) (stepped c image scratch) (ap (λ (q : Outcome Progress). left q new) (sym s) ∙ e) ∙ ap (step_on scratch) h ∙ rw add-one
+      goes new (Stored t) (stepped c image scratch) (ap (λ (q : Outcome Progress). left q new) (sym s) ∙ e) ∙ ap (step_on scratch) h ∙ rw add-one
 
-  pub steps-stop : (x : Saving) (i : ℕ) → saving c image ≡ steps i scratch x → (new : List ℕ) (o : Outcome Progress) → ((t : Save) → o ≡ answer (stored t) → ⊥)
+  pub steps-stop : (x : Saving) (i : ℕ) → saving c image ≡ steps i scratch x → (new : List ℕ) (o : Outcome Progress) → ((t : Save) → o ≡ answer (Stored t) → ⊥)
       → left o new ≡ leaving image (stepped c image scratch) → (k : ℕ) → i ≤ k → saving c new ≡ steps k scratch x
   steps-stop x i h new o n e k l =
       let z : i + (k - i) ≡ k = omega arith in
@@ -123,7 +125,7 @@ module _ (place start : ℕ) (blocks message image : List ℕ) (s : Savable plac
   next-is k = rw (take-append_seam blocks (message ++ more), lent_message)
 
   -- step number k + 1 makes store number k, and counts it
-  pub step_is : (k : ℕ) → k < stores L → stepped (done k) (cut k) lent ≡ answer (with (stored (done (suc k))) (cut (suc k)))
+  pub step_is : (k : ℕ) → k < stores L → stepped (done k) (cut k) lent ≡ answer (with (Stored (done (suc k))) (cut (suc k)))
   step_is k h =
       step_made (done k) (cut k) lent (lt-leb (stores L) k h) (stays k)
       ∙ rw (add-one, next-is k, after-suc k image (save_stores place start blocks message) (omega (arith, number_of-stores place start blocks message image s)))
@@ -134,7 +136,7 @@ module _ (place start : ℕ) (blocks message image : List ℕ) (s : Savable plac
   steps_are (suc k) h = rw (steps_are k (omega arith), step_is k h)
 
   -- the step after the last, and all that follow
-  pub step_after : stepped (done (stores L)) (cut (stores L)) lent ≡ answer (with finished (cut (stores L)))
+  pub step_after : stepped (done (stores L)) (cut (stores L)) lent ≡ answer (with Finished (cut (stores L)))
   step_after = step_ended (done (stores L)) (cut (stores L)) lent (omega arith)
 
   pub steps-end : (k : ℕ) → stores L ≤ k → steps k lent (saving (done 0) image) ≡ saving (done (stores L)) (cut (stores L))

@@ -1,63 +1,28 @@
 -- Laws of one step: the tests of the code, the store by its number, and the three ways that a step ends. Assumes nothing.
 use mathlib.Core.Path.{◌≡◌, refl, sym, ap, ◌∙◌}
-use mathlib.Core.Logic.{⊎_elim}
 use mathlib.Core.Bool.{Bool, true, false, cond}
 use mathlib.Core.List.{List}
-use Prim.Native.Nat.{ℕ, suc, ◌+◌, ◌-◌, ◌≤◌, ◌<◌}
+use Prim.Native.Nat.{ℕ, suc, ◌+◌, ◌≤◌, ◌<◌}
 use native.Mathlib.Omega.{arith}
-use lib.Dec.{leb, ltb}
+use lib.Dec.{ltb}
 use lib.ListN.{length, take, drop, get_or, length-drop}
 use lib.Seq.{length-take-le, get_or-take, get_or-drop}
-use borrow.Author.Tests.{le-leb, lt-leb, lt-ltb, le-ltb, ltb-false, leb-false}
+use borrow.Author.Tests.{lt-ltb, ltb-false, leb-false}
 use Rattle.error.specs.declared.Refusal.TheVariants.{Place}
 use Rattle.error.specs.Outcome.{Outcome, answer, refused, first_of}
 use Rattle.error.specs.Lent.{left, leaving, With, with}
-use Rattle.error.proofs.TestLaws.{le-or-lt, or_false, and_false}
+use Rattle.error.proofs.TestLaws.{or_false, and_false}
 use Rattle.fields.specs.Layout.{window}
 use Rattle.save_step.specs.declared.Save.{Save}
 use Rattle.save_step.specs.declared.Store.{Store}
 use Rattle.file_space_info.specs.Message.{message_len}
 use Rattle.save_step.specs.Stores.{no_store, store, make, persist, save_stores}
-use Rattle.save_step.specs.Steps.{Progress, stored, finished, stores, all_made, leaves, Inside, next_store, one_more, stepped}
+use Rattle.save_step.specs.Steps.{stores, all_made, leaves, Inside, next_store, one_more, stepped}
+use Rattle.save_step.specs.declared.Progress.{Progress}
+use Rattle.save_step.specs.declared.Progress.TheVariants.{Stored, Finished}
 use Rattle.save_step.proofs.NumberLaws.{store-first, store_block, store-before, stored-after, store-last, each}
 
--- ---- the tests, without a sum that could wrap
-
-pub passes_short : (from n e : ℕ) → e < n → true ≡ ltb e (from + n)
-passes_short from n e h = sym (lt-ltb e (from + n) (omega arith))
-
-pub passes_else : (from n e : ℕ) → n ≤ e → ltb (e - n) from ≡ ltb e (from + n)
-passes_else from n e h =
-    ⊎_elim
-    (λ (k : from ≤ e - n). rw (le-ltb (e - n) from k, le-ltb e (from + n) (omega arith)))
-    (λ (k : e - n < from). rw (lt-ltb (e - n) from k, lt-ltb e (from + n) (omega arith)))
-    (le-or-lt from (e - n))
-
-pub made-short : (L done : ℕ) → done < 126 → false ≡ leb (stores L) done
-made-short L done h = sym (lt-leb (stores L) done (omega arith))
-
-pub made_else : (L done : ℕ) → 126 ≤ done → leb L (done - 126) ≡ leb (stores L) done
-made_else L done h =
-    ⊎_elim
-    (λ (k : L ≤ done - 126). rw (le-leb L (done - 126) k, le-leb (stores L) done (omega arith)))
-    (λ (k : done - 126 < L). rw (lt-leb L (done - 126) k, lt-leb (stores L) done (omega arith)))
-    (le-or-lt L (done - 126))
-
--- the tests of `leaves` in their order
-module _ (s : Save) (image scratch : ℕ) (a : Bool) (e : a ≡ ltb image (s.place + message_len)) where
-  pub leaves_message : a ≡ true → true ≡ leaves s image scratch
-  leaves_message t = rw (sym e ∙ t)
-
-  module _ (f : a ≡ false) (b : Bool) (g : b ≡ ltb scratch (s.len + message_len)) where
-    pub leaves-scratch : b ≡ true → true ≡ leaves s image scratch
-    leaves-scratch t = rw (sym e ∙ f, sym g ∙ t)
-
-    module _ (h : b ≡ false) where
-      pub leaves_none : s.len ≡ 0 → false ≡ leaves s image scratch
-      leaves_none z = rw (sym e ∙ f, sym g ∙ h, le-ltb 0 s.len (omega arith))
-
-      pub leaves_blocks : (s.len ≡ 0 → ⊥) → (d : Bool) → d ≡ ltb image (s.start + s.len) → d ≡ leaves s image scratch
-      leaves_blocks n d k = k ∙ rw (sym e ∙ f, sym g ∙ h, lt-ltb 0 s.len (omega arith))
+-- ---- what the tests say
 
 pub inside : (s : Save) (image scratch : ℕ) → leaves s image scratch ≡ false → Inside s image scratch
 inside s image scratch e =
@@ -134,17 +99,17 @@ next_in s scratch image i h =
 -- ---- the ends of a step
 
 module _ (s : Save) (image scratch : List ℕ) where
-  pub step_finished : all_made s ≡ true → left (answer finished) image ≡ leaving image (stepped s image scratch)
+  pub step_finished : all_made s ≡ true → left (answer Finished) image ≡ leaving image (stepped s image scratch)
   unfolding stepped
   step_finished e = rw e
 
   -- in one of three ways
-  pub step_ends : (P : Outcome (With Progress (List ℕ)) → Type 0) → P (answer (with finished image)) → P (refused Place)
-      → P (answer (with (stored (one_more s)) (make (next_store s scratch) image))) → P (stepped s image scratch)
+  pub step_ends : (P : Outcome (With Progress (List ℕ)) → Type 0) → P (answer (with Finished image)) → P (refused Place)
+      → P (answer (with (Stored (one_more s)) (make (next_store s scratch) image))) → P (stepped s image scratch)
   unfolding stepped first_of
   step_ends P last outside next = pick (all_made s) (leaves s (length image) (length scratch))
     where
-      pick : (a b : Bool) → P (cond a (answer (with finished image)) (cond b (refused Place) (answer (with (stored (one_more s)) (make (next_store s scratch) image)))))
+      pick : (a b : Bool) → P (cond a (answer (with Finished image)) (cond b (refused Place) (answer (with (Stored (one_more s)) (make (next_store s scratch) image)))))
       pick true b = last
       pick false true = outside
       pick false false = next
@@ -157,10 +122,10 @@ module _ (s : Save) (image scratch : List ℕ) where
     unfolding stepped first_of
     step_refused e = rw (f, e)
 
-    pub step_made : leaves s (length image) (length scratch) ≡ false → stepped s image scratch ≡ answer (with (stored (one_more s)) (make (next_store s scratch) image))
+    pub step_made : leaves s (length image) (length scratch) ≡ false → stepped s image scratch ≡ answer (with (Stored (one_more s)) (make (next_store s scratch) image))
     unfolding stepped first_of
     step_made e = rw (f, e)
 
     pub step_stored : leaves s (length image) (length scratch) ≡ false → {next : Store} → next ≡ next_store s scratch
-        → left (answer (stored (one_more s))) (make next image) ≡ leaving image (stepped s image scratch)
+        → left (answer (Stored (one_more s))) (make next image) ≡ leaving image (stepped s image scratch)
     step_stored e h = rw (step_made e, h)

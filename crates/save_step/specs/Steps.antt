@@ -1,7 +1,5 @@
 -- A step of a save, which makes one store, and steps in a row. Assumes nothing.
 -- In quotes: document 01's words, from "The save" or from the heading named.
---   Progress      what a step says: that it made a store, with the record after it, or finished
---   step_outcome  the outcome that an answer of the code stands for ("Language forms": "for every case of the enum")
 --   stores        how many stores a save with L block bytes has: "That is L+126"
 --   all_made      all stores of the record's save are made
 --   leaves        message or blocks of the record leave an image of a length, or a scratch of a length lacks bytes of them: "an earlier step
@@ -19,27 +17,18 @@
 --   step_on       record and image after one step
 --   steps         record and image after k steps in a row: "the image is the one before the save with those k stores made"
 use Rattle.std.specs.Prelude.{ℕ, zero, suc, ◌+◌, ◌≤◌, ◌<◌, Bool, cond, ◌&&◌, ◌||◌, List, [], ◌∷◌, ltb, leb, length, get_or, take}
+use Rattle.save_step.specs.declared.Progress.{Progress}
+use Rattle.save_step.specs.declared.Progress.TheVariants.{Stored, Finished}
 use Rattle.error.specs.declared.Refusal.TheVariants.{Place}
-use Rattle.error.specs.Outcome.{Outcome, answer, nothing, refuse, refused, when, first_of}
+use Rattle.error.specs.Outcome.{Outcome, answer, nothing, refuse, when, first_of}
 use Rattle.error.specs.Lent.{With, with}
 use Rattle.fields.specs.Layout.{window}
 use Rattle.save_step.specs.declared.Save.{Save}
-use Rattle.save_step.specs.declared.Step.{Step}
-use Rattle.save_step.specs.declared.Step.TheVariants as step
 use Rattle.save_step.specs.declared.Store.{Store}
 use Rattle.file_space_info.specs.Message.{message_len}
 use Rattle.save_step.specs.Stores.{no_store, make, save_stores}
 
 -- ---- one step
-
-pub data Progress : Type 0 where
-  stored : Save → Progress
-  finished : Progress
-
-abbrev pub step_outcome : Step → Outcome Progress
-step_outcome (step.Stored s) = answer (stored s)
-step_outcome step.Finished = answer finished
-step_outcome (step.Refused r) = refused r
 
 abbrev pub stores : ℕ → ℕ
 stores L = L + 126
@@ -67,9 +56,9 @@ one_more s = record { start = s.start; place = s.place; len = s.len; done = s.do
 
 unfoldable pub stepped : Save → List ℕ → List ℕ → Outcome (With Progress (List ℕ))
 stepped s image scratch =
-    cond (all_made s) (answer (with finished image))
+    cond (all_made s) (answer (with Finished image))
     (first_of (when (leaves s (length image) (length scratch)) Place ∷ [])
-    (answer (with (stored (one_more s)) (make (next_store s scratch) image))))
+    (answer (with (Stored (one_more s)) (make (next_store s scratch) image))))
 
 -- ---- steps in a row
 
@@ -81,8 +70,8 @@ abbrev pub saving : Save → List ℕ → Saving
 saving s i = record { save = s; image = i }
 
 abbrev pub record_after : Save → Progress → Save
-record_after s (stored t) = t
-record_after s finished = s
+record_after s (Stored t) = t
+record_after s Finished = s
 
 abbrev pub go_on : Saving → Outcome (With Progress (List ℕ)) → Saving
 go_on x (answer a) = saving (record_after x.save a.value) a.memory

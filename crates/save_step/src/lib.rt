@@ -2,9 +2,10 @@
 #![tactic(auto)]
 
 ghost use Rattle.std.specs.Prelude.{◌≡◌, ◌+◌, ◌<◌, length, ltb};
+ghost use Rattle.error.specs.Answers.{as_outcome};
 ghost use Rattle.error.specs.Lent.{left, leaving};
 ghost use Rattle.fields.specs.Ranges.{top};
-ghost use Rattle.save_step.specs.Steps.{step_outcome, stores, all_made, leaves, Inside, next_store, stepped, saving, steps};
+ghost use Rattle.save_step.specs.Steps.{stores, all_made, leaves, Inside, next_store, stepped, saving, steps};
 
 use error::Refusal;
 use file_space_info::MESSAGE_LEN;
@@ -16,7 +17,7 @@ const MESSAGE_STORES: u64 = MESSAGE_LEN + 1;
 
 // The record of a save: its blocks go to `start` and its message to `place`; `len` is the length of the blocks, `done`
 // the number of the stores that are made.
-#[derive(Clone, Copy)]
+#[derive(Clone, Copy, Debug, PartialEq, Eq)]
 pub struct Save {
     pub start: u64,
     pub place: u64,
@@ -24,17 +25,17 @@ pub struct Save {
     pub done: u64,
 }
 
-#[derive(Clone, Copy)]
-pub enum Step {
+// No Option<Save>: None would not say that all stores are made.
+#[derive(Clone, Copy, Debug, PartialEq, Eq)]
+pub enum Progress {
     // A store was made; the record after it.
     Stored(Save),
     // All stores were made before.
     Finished,
-    Refused(Refusal),
 }
 
 // A byte and the place in the image that it goes to.
-#[derive(Clone, Copy)]
+#[derive(Clone, Copy, Debug, PartialEq, Eq)]
 pub struct Store {
     pub place: usize,
     pub byte: u8,
@@ -44,39 +45,24 @@ pub struct Store {
 fn passes(from: u64, n: u64, end: usize) -> bool
     ensures { result ≡ ltb end (from + n) }
 {
-    let e = end as u64;
-    if e < n {
-        return true;
-    }
-    e - n < from
+    let end = end as u64;
+    end < n || end - n < from
 }
 
 // Whether all stores are made.
 fn is_finished(s: Save) -> bool
     ensures { result ≡ all_made s }
 {
-    let done = s.done;
-    if done < MESSAGE_STORES {
-        return false;
-    }
-    s.len <= done - MESSAGE_STORES
+    MESSAGE_STORES <= s.done && s.len <= s.done - MESSAGE_STORES
 }
 
 // Whether message or blocks leave an image of a length, or a scratch of a length lacks bytes of them.
 fn leaves_lent(s: Save, image: usize, scratch: usize) -> bool
     ensures { result ≡ leaves s image scratch }
 {
-    let len = s.len;
-    if passes(s.place, MESSAGE_LEN, image) {
-        return true;
-    }
-    if passes(len, MESSAGE_LEN, scratch) {
-        return true;
-    }
-    if len == 0 {
-        return false;
-    }
-    passes(s.start, len, image)
+    passes(s.place, MESSAGE_LEN, image)
+        || passes(s.len, MESSAGE_LEN, scratch)
+        || (0 < s.len && passes(s.start, s.len, image))
 }
 
 // Store number `done`. The scratch has the blocks and after them the message; persist is left out of the message's bytes,
@@ -122,25 +108,21 @@ fn next_store(s: Save, scratch: &[u8]) -> Store
 }
 
 // Makes the next store of a save.
-pub fn save_step(s: Save, image: &mut [u8], scratch: &[u8]) -> Step
-    ensures { left (step_outcome result) image.new ≡ leaving image.old (stepped s image.old scratch.now) }
+pub fn save_step(s: Save, image: &mut [u8], scratch: &[u8]) -> Result<Progress, Refusal>
+    ensures { left (as_outcome result) image.new ≡ leaving image.old (stepped s image.old scratch.now) }
 {
     if is_finished(s) {
-        return Step::Finished;
+        return Ok(Progress::Finished);
     }
     if leaves_lent(s, image.len(), scratch.len()) {
-        return Step::Refused(Refusal::Place);
+        return Err(Refusal::Place);
     }
-    let next = next_store(s, scratch);
-    let at = next.place;
-    let done = s.done + 1;
-    image[at] = next.byte;
-    Step::Stored(Save {
-        start: s.start,
-        place: s.place,
-        len: s.len,
-        done: done,
-    })
+    let Store { place, byte } = next_store(s, scratch);
+    image[place] = byte;
+    Ok(Progress::Stored(Save {
+        done: s.done + 1,
+        ..s
+    }))
 }
 
 // Makes `k` steps. The record after them. A step that makes no store would make none again, so the first such one ends them.
@@ -148,13 +130,13 @@ pub fn save_steps(s: Save, image: &mut [u8], scratch: &[u8], k: u64) -> Save
     ensures { saving result image.new ≡ steps k scratch.now (saving s image.old) }
 {
     let mut c = s;
-    let mut i = 0;
-    while i < k {
-        let Step::Stored(next) = save_step(c, image, scratch) else {
-            return c;
-        };
-        c = next;
-        i += 1;
+    for _made in 0..k {
+        // Tried by `let Ok(Progress::Stored(next)) = .. else`, whose proof did not close: the else arm does not say what the answer was.
+        match save_step(c, image, scratch) {
+            Ok(Progress::Stored(next)) => c = next,
+            Ok(Progress::Finished) => return c,
+            Err(_) => return c,
+        }
     }
     c
 }

@@ -1,12 +1,12 @@
 -- The refusals of `split_at_pages` over records, and the records at the end. Assumes nothing.
-use mathlib.Core.Path.{◌≡◌, sym, ap, ap₂, ◌∙◌}
+use mathlib.Core.Path.{◌≡◌, sym, ap, ◌∙◌}
 use Prim.Native.Nat.{ℕ, suc, ◌-◌, ◌*◌, ◌^◌, ◌≤◌, ◌<◌}
 use native.Mathlib.Omega.{arith}
 use mathlib.Core.Bool.{false}
-use mathlib.Core.List.{List, [], ◌∷◌, ◌++◌}
+use mathlib.Core.List.{List, [], ◌∷◌, ◌++◌, append-nil}
 use lib.Dec.{ltb}
-use lib.ListN.{length, take, drop, set, get_or, length-drop}
-use lib.Seq.{take-length, drop-cons, take-suc, set_at, append_snoc, length-take-le}
+use lib.ListN.{length, take, drop, set, get_or, length-drop, drop_of_length-le}
+use lib.Seq.{take-length, take_all, drop-cons, take-suc, set_at, append_snoc, length-take-le}
 use borrow.Author.Tests.{lt-ltb, le-ltb, ltb-false, eqb-false, not-false}
 use Rattle.error.specs.declared.Refusal.{Refusal}
 use Rattle.error.specs.declared.Refusal.TheVariants.{OverCapacity}
@@ -18,12 +18,10 @@ use Rattle.pairs.specs.Pairs.{is_run}
 use Rattle.fsm_sections.specs.declared.FreeSection.{FreeSection}
 use Rattle.fsm_sections.specs.Sections.{section, decode}
 use Rattle.fsm_sections.specs.Pages.{split}
-use Rattle.fsm_pages.specs.declared.pages.Split.{Split}
-use Rattle.fsm_pages.specs.declared.pages.Split.TheVariants as code
 use Rattle.fsm_sections.specs.Runs.{ends_above}
-use Rattle.fsm_pages.specs.Split.{split_tests, split_count, split_outcome}
+use Rattle.fsm_pages.specs.Split.{split_tests, split_count}
 use Rattle.fsm_pages.proofs.SplitLaws.{Splits}
-use Rattle.split_records.specs.Records.{at_front, refusals, split_records, split_answer, pieces_in, pieces_left}
+use Rattle.split_records.specs.Records.{at_front, refusals, split_records, split_answer, pieces_left}
 
 module _ (xs : List ℕ) (n page : ℕ) where
   abbrev pub all : List FreeSection
@@ -69,10 +67,10 @@ module _ (xs : List ℕ) (n page : ℕ) where
     pub whole : m ≡ length all
     pub space : m ≤ room
 
-  pub ready : (a : Split) (room m k : ℕ) → split_outcome a ≡ split_answer xs n page room → m ≡ pieces_in (split_outcome a) → k < m → Ready room m
+  pub ready : (room m : ℕ) → answer m ≡ split_answer xs n page room → Ready room m
   unfolding split_answer
-  ready (code.Pieces p) room m k e f h =
-      let q = first_answers (refusals xs n page room) (length all) p (sym e) in
+  ready room m e =
+      let q = first_answers (refusals xs n page room) (length all) m (sym e) in
       let z = eqb-false page 0 q.0.0 in
       record {
         some = omega (arith, z);
@@ -81,24 +79,35 @@ module _ (xs : List ℕ) (n page : ℕ) where
         whole = omega (arith, q.1);
         space = omega (arith, q.1, ltb-false room (length all) q.0.1.1.1.0);
       }
-  ready (code.Refused r) room m k e f h = absurd (omega arith)
+
+  -- the same of as many records as there are pieces
+  pub ready_front : (ys : List FreeSection) (m : ℕ) → Ready (length ys) m → Ready (length (take m ys)) m
+  ready_front ys m now = record { some = now.some; run = now.run; fits = now.fits; whole = now.whole; space = omega (arith, length-take-le m ys now.space) }
 
   -- the lent run after k pieces
   abbrev pub shown : List FreeSection → ℕ → List FreeSection
   shown ys k = take k all ++ drop k ys
 
-  pub records_are : (a : Split) (ys : List FreeSection) (m : ℕ) → split_outcome a ≡ split_answer xs n page (length ys) → m ≡ pieces_in (split_outcome a)
-      → left (split_outcome a) (shown ys m) ≡ leaving ys (split_records xs n page ys)
+  -- after the last piece, the records behind it are as they were
+  pub front_shown : (ys : List FreeSection) (m k : ℕ) → Ready (length ys) m → length (take m ys) ≤ k → shown (take m ys) k ++ drop m ys ≡ shown ys m
+  front_shown ys m k now h =
+      let f : length (take m ys) ≡ m = length-take-le m ys now.space in
+      let w : m ≡ length all = now.whole in
+      ap (λ (l : List FreeSection). (take k all ++ l) ++ drop m ys) (drop_of_length-le (take m ys) h)
+      ∙ ap (λ (l : List FreeSection). l ++ drop m ys) (append-nil (take k all) ∙ take_all k all (omega arith) ∙ sym (take_all m all (omega arith)))
+
+  pub records_are : (ys : List FreeSection) (m : ℕ) → answer m ≡ split_answer xs n page (length ys) → left (answer m) (shown ys m) ≡ leaving ys (split_records xs n page ys)
   unfolding split_answer split_records
-  records_are (code.Pieces p) ys m e f =
-      let q = first_answers (refusals xs n page (length ys)) (length all) p (sym e) in
-      let g : m ≡ length all = f ∙ sym q.1 in
-      ap₂ (λ (x y : ℕ). left (answer x) (shown ys y)) (sym q.1) g
+  records_are ys m e =
+      let q = first_answers (refusals xs n page (length ys)) (length all) m (sym e) in
+      ap (λ (x : ℕ). left (answer x) (shown ys x)) (sym q.1)
       ∙ ap (λ (l : List FreeSection). left (answer (length all)) (l ++ drop (length all) ys)) (take-length all)
       ∙ sym (ap (leaving ys) (first_pass (refusals xs n page (length ys)) (answer (with (length all) (at_front all ys))) q.0))
-  records_are (code.Refused r) ys m e f =
-      ap (λ (x : ℕ). left (refused r) (shown ys x)) f
-      ∙ ap (leaving ys) (first_refuses (refusals xs n page (length ys)) (length all) r (answer (with (length all) (at_front all ys))) e)
+
+  pub records_refused : (ys : List FreeSection) (r : Refusal) → refused r ≡ split_answer xs n page (length ys) → left (refused r) ys ≡ leaving ys (split_records xs n page ys)
+  unfolding split_answer split_records
+  records_refused ys r e =
+      ap (leaving ys) (first_refuses (refusals xs n page (length ys)) (length all) r (answer (with (length all) (at_front all ys))) e)
 
   module _ (ys : List FreeSection) (m : ℕ) (now : Ready (length ys) m) where
     module _ (k i d : ℕ) (here : drop k all ≡ pieces_left page n xs i d) (h : k < m) where

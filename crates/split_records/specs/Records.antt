@@ -5,12 +5,11 @@
 --   split_records   `split_at_pages`: the pieces in input order at the front of the lent run, or the first refusal ("Language forms": "one thin
 --                   function over &mut [FreeSection]")
 --   split_answer    the same without the run: how many pieces there are, where a run of `room` records holds them
---   pieces_in       how many pieces an outcome announces; a refusal none. This and the next two serve contracts of private functions
---   cut_off         sections with the first bytes of the first one cut off
+--   cut_off         sections with the first bytes of the first one cut off. This and the next serve contracts of private functions
 --   pieces_left     the pieces that are left where d bytes of section i are cut
 use Rattle.std.specs.Prelude.{ℕ, ◌+◌, ◌-◌, List, [], ◌∷◌, ◌++◌, ltb, length, drop}
 use Rattle.error.specs.declared.Refusal.TheVariants.{OverCapacity}
-use Rattle.error.specs.Outcome.{Outcome, answer, nothing, refuse, Condition, when, first_of, sat}
+use Rattle.error.specs.Outcome.{Outcome, answer, Condition, when, first_of, sat}
 use Rattle.error.specs.Lent.{With, with}
 use Rattle.fsm_sections.specs.declared.FreeSection.{FreeSection}
 use Rattle.fsm_sections.specs.Sections.{section, decode}
@@ -32,11 +31,6 @@ split_records xs n page out =
 
 unfoldable pub split_answer : List ℕ → ℕ → ℕ → ℕ → Outcome ℕ
 split_answer xs n page room = first_of (refusals xs n page room) (answer (length (split page (decode n xs))))
-
-abbrev pub pieces_in : Outcome ℕ → ℕ
-pieces_in (answer n) = n
-pieces_in nothing = 0
-pieces_in (refuse n vs) = 0
 
 abbrev pub cut_off : ℕ → List FreeSection → List FreeSection
 cut_off d [] = []

@@ -16,7 +16,6 @@ use Rattle.fields.specs.Width.{least_from, enc_size}
 use Rattle.checksum.specs.Lookup3.{add32, sub32, xor32, rotl32, mixed, finished, block_added, gained, byte_added, tail_added, ending, hash_from, hash_of, lookup3}
 use Rattle.fsm_sections.specs.Sections.{section, space, of_size, distinct, insert, by_size_then_addr, push, groups_of}
 use Rattle.fsm_sections.specs.Pages.{pieces_from, pieces, split, below_page, from_page}
-use Rattle.fsm_sections.specs.Runs.{any_of}
 use Rattle.fsm_blocks.specs.Groups.{entry_bytes, group_bytes}
 use Rattle.fsm_blocks.specs.Fshd.{fshd_bytes}
 use Rattle.fsm_blocks.specs.Fsse.{fsse_bytes}
@@ -40,11 +39,11 @@ abbrev plan : BlocksPlan
 plan = blocks_at 1 179 (measures_of (paged n 4096) [] [] run 1)
 
 planned-last : planned_blocks [] [] run n 4096 179 1 ≡ answer plan
-unfolding planned_blocks slots_measured planned_from first_of and_then space any_of at_addr repeats split pieces pieces_from below_page from_page least_from enc_size of_size distinct
+unfolding planned_blocks slots_measured planned_from first_of and_then space at_addr repeats split pieces pieces_from below_page from_page least_from enc_size of_size distinct
 planned-last = refl
 
 pub planned-past : planned_blocks [] [] run n 4096 180 1 ≡ refused WideAddress
-unfolding planned_blocks slots_measured planned_from first_of and_then space any_of at_addr repeats split pieces pieces_from below_page from_page least_from enc_size of_size distinct
+unfolding planned_blocks slots_measured planned_from first_of and_then space at_addr repeats split pieces pieces_from below_page from_page least_from enc_size of_size distinct
 planned-past = refl
 
 abbrev blocks : List ℕ

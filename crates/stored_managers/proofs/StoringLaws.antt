@@ -7,7 +7,7 @@ use mathlib.Core.List.{List, [], ◌++◌}
 use lib.ListN.{length, take, drop, length-drop, drop_of_length-le}
 use lib.Seq.{take_all}
 use borrow.Author.Tests.{ltb-false}
-use Rattle.error.specs.Outcome.{Outcome, answer, nothing, refuse, sat, and_then}
+use Rattle.error.specs.Outcome.{Outcome, answer, nothing, refuse, and_then}
 use Rattle.error.specs.Lent.{With, with, Left, left, leaving, over}
 use Rattle.error.proofs.TestLaws.{le-or-lt}
 use Rattle.error.proofs.OutcomeLaws.{first_answers, then_answers}
@@ -44,8 +44,7 @@ module _ (i k : ℕ) (xs : List ℕ) (ke : k ≡ min i (length xs)) where
       ⊎_elim (λ (l : i ≤ length xs). let e : k ≡ i = omega arith in ap (λ (n : ℕ). over n vs xs) e)
       (λ (l : length xs < i). over-end k vs xs (omega arith) ∙ sym (over-end i vs xs (omega arith))) (le-or-lt i (length xs))
 
-pub cut-place : (i r k n : ℕ) → n ≤ 2 ^ 64 - 1 → r ≡ sat i → k ≡ min r n → k ≡ min i n
-unfolding sat
+pub cut-place : (i r k n : ℕ) → n ≤ 2 ^ 64 - 1 → r ≡ min i (2 ^ 64 - 1) → k ≡ min r n → k ≡ min i n
 cut-place i r k n h e f = omega arith
 
 -- ---- the blocks

@@ -13,6 +13,7 @@ pub fn read_full<R: Read>(reader: &mut R, memory: &mut [u8]) -> io::Result<usize
     ensures bytes { IfOk result (λ n. Consumes (R.remaining reader.old) (R.remaining reader.new) (take n memory.new)) }
     ensures end { IfOk result (λ n. n < length memory.new → IsAtEnd (R.remaining reader.new)) }
 {
+    // A read gives any number of bytes, and std's `Read` has no call that fills memory or stops at the end, so a `while` is plainer.
     let mut done = 0;
     while done < memory.len() {
         let n = reader.read(&mut memory[done..])?;

@@ -2,28 +2,28 @@
 #![tactic(auto)]
 
 ghost use Rattle.std.specs.Prelude.{◌≡◌};
+ghost use Rattle.error.specs.Answers.{as_outcome};
 ghost use Rattle.error.specs.Lent.{left, leaving};
 ghost use Rattle.fsm_blocks.specs.declared.checks.Reading.TheVariants.{Loose, Strict};
-ghost use Rattle.fsm_blocks.specs.Answers.{sections_outcome};
 ghost use Rattle.fsm_blocks.specs.Reading.{persisted};
 ghost use Rattle.image.specs.Answers.{image_outcome, counts_in};
 ghost use Rattle.image.specs.Reading.{image_into};
 ghost use Rattle.strict_reading.specs.StrictReading.{Alike};
 
+use error::Refusal;
 use fields::address::BaseAddress;
-use fsm_blocks::fsse::SectionsAnswer;
 use fsm_blocks::persisted::{read_persisted_sections, read_persisted_sections_strict};
 use image::{ImageRead, read_image, read_image_strict};
 
 // What both readings of managers answer.
-#[derive(Clone, Copy)]
+#[derive(Clone, Copy, Debug, PartialEq, Eq)]
 pub struct SectionsReadings {
-    pub strict: SectionsAnswer,
-    pub loose: SectionsAnswer,
+    pub strict: Result<u64, Refusal>,
+    pub loose: Result<u64, Refusal>,
 }
 
 // What both readings of an image answer.
-#[derive(Clone, Copy)]
+#[derive(Clone, Copy, Debug, PartialEq, Eq)]
 pub struct ImageReadings {
     pub strict: ImageRead,
     pub loose: ImageRead,
@@ -39,18 +39,16 @@ pub fn read_sections_both(
     strict: &mut [u64],
     loose: &mut [u64],
 ) -> SectionsReadings
-    ensures strict { left (sections_outcome result.strict) strict.new
+    ensures strict { left (as_outcome result.strict) strict.new
         ≡ leaving strict.old (persisted Strict slots.now base.0 offset_size bytes.now strict.old) }
-    ensures loose { left (sections_outcome result.loose) loose.new
+    ensures loose { left (as_outcome result.loose) loose.new
         ≡ leaving loose.old (persisted Loose slots.now base.0 offset_size bytes.now loose.old) }
-    ensures alike { Alike (sections_outcome result.strict) strict.old strict.new (sections_outcome result.loose)
+    ensures alike { Alike (as_outcome result.strict) strict.old strict.new (as_outcome result.loose)
         loose.old loose.new }
 {
-    let first = read_persisted_sections_strict(bytes, slots, base, offset_size, strict);
-    let second = read_persisted_sections(bytes, slots, base, offset_size, loose);
     SectionsReadings {
-        strict: first,
-        loose: second,
+        strict: read_persisted_sections_strict(bytes, slots, base, offset_size, strict),
+        loose: read_persisted_sections(bytes, slots, base, offset_size, loose),
     }
 }
 
@@ -69,10 +67,8 @@ pub fn read_image_both(
     ensures alike { Alike (image_outcome result.strict) strict.old strict.new (image_outcome result.loose)
         loose.old loose.new }
 {
-    let first = read_image_strict(image, place, strict);
-    let second = read_image(image, place, loose);
     ImageReadings {
-        strict: first,
-        loose: second,
+        strict: read_image_strict(image, place, strict),
+        loose: read_image(image, place, loose),
     }
 }

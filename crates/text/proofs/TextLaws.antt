@@ -1,15 +1,17 @@
--- Laws of text in lent bytes: one text after another, a byte, and the loop that copies bytes. Assumes nothing.
+-- Laws of text in lent bytes: one text after another, and bytes that are copied. Assumes nothing.
 use mathlib.Core.Path.{◌≡◌, refl, sym, ap, ap₂, ◌∙◌}
-use mathlib.Core.List.{List, [], ◌∷◌, ◌++◌}
+use mathlib.Core.List.{List, [], ◌++◌}
 use mathlib.Core.Logic.{⊎_elim}
 use Prim.Native.Nat.{ℕ, ◌+◌, ◌-◌, ◌≤◌, ◌<◌, min}
 use native.Mathlib.Nat.{min-eq_left, min-eq_right}
 use native.Mathlib.Omega.{arith}
-use lib.ListN.{length, take, get_or, set, length-append}
-use lib.Seq.{take-append_seam, take-length}
+use lib.ListN.{length, take, length-append}
+use lib.Seq.{take-append_seam, take-length, length-take-le, take_all}
+use borrow.Rule.Slice.PartMut.{put_mid}
+use Rattle.std.proofs.lemmas.Slice.{put_mid-paste}
 use Rattle.error.specs.Lent.{With, with, over}
 use Rattle.error.proofs.TestLaws.{le-or-lt}
-use Rattle.error.proofs.OverLaws.{length_over, over-nil, over_right, over-cut, over-end, set-over, down_next}
+use Rattle.error.proofs.OverLaws.{length_over, over-nil, over_right, over-cut, over-end, over-paste}
 use Rattle.text.specs.Decimal.{decimal}
 use Rattle.text.specs.Text.{written}
 
@@ -68,14 +70,6 @@ printing_length at text out₀ to rest out p =
     let n = ap (λ (w : With ℕ (List ℕ)). length w.memory) p.same in
     omega (arith, length_over to rest out, length_over at text out₀)
 
--- ---- a byte
-
-pub byte_in : (at v : ℕ) (out : List ℕ) → at < length out → with (at + 1) (set out at v) ≡ written at (v ∷ []) out
-byte_in at v out h = let n : at + 1 ≡ min (at + 1) (length out) = omega arith in ap₂ with n (set-over out at v)
-
-pub byte_out : (at v : ℕ) (out : List ℕ) → length out ≤ at → with (length out) out ≡ written at (v ∷ []) out
-byte_out at v out h = let n : length out ≡ min (at + 1) (length out) = omega arith in ap₂ with n (sym (over-end at (v ∷ []) out h))
-
 -- ---- a word: digits, whose number is counted, and the byte after them
 
 pub digits-written : (n at : ℕ) (out : List ℕ) {count p : ℕ} {m : List ℕ} → count ≡ length (decimal n) → m ≡ over at (decimal n) out → p ≡ min (at + count) (length m)
@@ -85,22 +79,13 @@ digits-written n at out {count} {p} {m} c e q =
     let v : p ≡ min (at + length (decimal n)) (length out) = omega arith in
     ap₂ with v e
 
--- ---- the loop that copies bytes: those before `to` are copied
+-- ---- bytes that are copied: those before `to`
 
 module _ (at : ℕ) (bytes out₀ : List ℕ) where
   pub copy_start : out₀ ≡ over at (take (at - at) bytes) out₀
   copy_start =
       let z : at - at ≡ 0 = omega arith in
       sym (ap (λ (k : ℕ). over at (take k bytes) out₀) z ∙ over-nil at out₀)
-
-  pub copy_step : (to : ℕ) {out : List ℕ} → at ≤ to → to - at < length bytes → out ≡ over at (take (to - at) bytes) out₀
-      → set out to (get_or bytes (to - at) 0) ≡ over at (take (to + 1 - at) bytes) out₀
-  copy_step to l h e =
-      let p : to ≡ at + (to - at) = omega arith in
-      let q : to - at + 1 ≡ to + 1 - at = omega arith in
-      ap₂ (λ (m : List ℕ) (i : ℕ). set m i (get_or bytes (to - at) 0)) e p
-      ∙ down_next at (to - at) bytes out₀ h
-      ∙ ap (λ (k : ℕ). over at (take k bytes) out₀) q
 
   pub copy_end : (to end : ℕ) {out : List ℕ} → at ≤ to → end ≤ to → to - at ≤ length bytes → end ≡ min (at + length bytes) (length out₀)
       → out ≡ over at (take (to - at) bytes) out₀ → with end out ≡ written at bytes out₀
@@ -113,3 +98,16 @@ module _ (at : ℕ) (bytes out₀ : List ℕ) where
       ap (λ (j : ℕ). over at (take j bytes) out₀) k ∙ ap (λ (s : List ℕ). over at s out₀) (take-length bytes))
       (λ (q : to - at < length bytes). over-cut at (to - at) bytes out₀ (omega arith))
       (le-or-lt (length bytes) (to - at)))
+
+-- what stands in the part from at up to end after the copy
+pub copied-part : (at end : ℕ) (bytes out part : List ℕ) → at < end → end ≡ min (at + length bytes) (length out) → part ≡ take (end - at) bytes
+    → with end (put_mid at (end - at) out part) ≡ written at bytes out
+copied-part at end bytes out part h e q =
+    let n = end - at in
+    let zs = take n bytes in
+    let k : length zs ≡ n = length-take-le n bytes (omega arith) in
+    let p : put_mid at n out part ≡ over at zs out =
+    put_mid-paste at n out part zs n q refl (sym k)
+    ∙ over-paste at n zs out (omega arith) (omega arith)
+    ∙ ap (λ (l : List ℕ). over at l out) (take_all n zs (omega arith)) in
+    copy_end at bytes out end end (omega arith) (omega arith) (omega arith) e p

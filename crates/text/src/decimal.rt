@@ -4,13 +4,15 @@ ghost use Rattle.error.specs.Lent.{over};
 ghost use Rattle.text.specs.Decimal.{decimal};
 
 // How many digits a number has.
+// By hand: std prints to a writer or a String; here what passes the end of lent bytes is dropped.
 pub(crate) fn digit_count(n: u64) -> usize
     ensures { result ≡ length (decimal n) }
 {
+    // This goes by what is left, as the definition of the digits does; a `for` would have no end to count to.
     let mut count = 1;
     let mut rest = n;
     while 9 < rest {
-        rest = rest / 10;
+        rest /= 10;
         count += 1;
     }
     count
@@ -20,11 +22,8 @@ pub(crate) fn digit_count(n: u64) -> usize
 fn put(out: &mut [u8], at: usize, i: usize, byte: u8)
     ensures { out.new ≡ set out.old (at + i) byte }
 {
-    let len = out.len();
-    if at < len {
-        if i < len - at {
-            out[at + i] = byte;
-        }
+    if at < out.len() && i < out.len() - at {
+        out[at + i] = byte;
     }
 }
 
@@ -34,11 +33,9 @@ pub(crate) fn write_decimal(out: &mut [u8], at: usize, n: u64) -> usize
 {
     let count = digit_count(n);
     let mut rest = n;
-    let mut i = count;
-    while 0 < i {
-        i -= 1;
-        put(out, at, i, 48 + (rest % 10) as u8);
-        rest = rest / 10;
+    for i in (0..count).rev() {
+        put(out, at, i, b'0' + (rest % 10) as u8);
+        rest /= 10;
     }
     count
 }

@@ -1,6 +1,6 @@
 // Words at a place inside a text, for crates that write whole texts: total like `write_uint_le`, so that what would pass the end of
 // the lent bytes is dropped. Whether a whole text fits is its writer's to test.
-ghost use Rattle.std.specs.Prelude.{◌≡◌, [], ◌∷◌, ◌+◌, min};
+ghost use Rattle.std.specs.Prelude.{◌≡◌, ◌+◌, min};
 ghost use Rattle.error.specs.Lent.{with};
 ghost use Rattle.text.specs.Text.{written, word};
 
@@ -10,13 +10,7 @@ use crate::decimal::write_decimal;
 fn place_after(at: usize, count: usize, len: usize) -> usize
     ensures { result ≡ min (at + count) len }
 {
-    if len <= at {
-        return len;
-    }
-    if len - at < count {
-        return len;
-    }
-    at + count
+    at.saturating_add(count).min(len)
 }
 
 // Writes bytes at `at`, and answers the place after them.
@@ -24,23 +18,10 @@ pub fn write_bytes(out: &mut [u8], at: usize, bytes: &[u8]) -> usize
     ensures { with result out.new ≡ written at bytes.now out.old }
 {
     let end = place_after(at, bytes.len(), out.len());
-    let mut to = at;
-    while to < end {
-        out[to] = bytes[to - at];
-        to += 1;
+    if at < end {
+        out[at..end].copy_from_slice(&bytes[..end - at]);
     }
     end
-}
-
-// Writes one byte.
-fn write_byte(out: &mut [u8], at: usize, byte: u8) -> usize
-    ensures { with result out.new ≡ written at (byte ∷ []) out.old }
-{
-    if at < out.len() {
-        out[at] = byte;
-        return at + 1;
-    }
-    out.len()
 }
 
 // Writes a number in decimal and the byte that stands after it.
@@ -49,5 +30,5 @@ pub fn write_word(out: &mut [u8], at: usize, n: u64, stop: u8) -> usize
 {
     let count = write_decimal(out, at, n);
     let second = place_after(at, count, out.len());
-    write_byte(out, second, stop)
+    write_bytes(out, second, &[stop])
 }

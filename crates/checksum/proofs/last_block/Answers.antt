@@ -5,9 +5,9 @@ use Rattle.checksum.proofs.last_block.Goals as goal
 pub loop-i-preserved : goal.loop-i-preserved
 loop-i-preserved c =
     let l = c.loop-i in
-    (search rules, rw l.invariant.1 (copy_next c.args.bytes.now l.i (search rules)))
+    rw l.invariant (copy_next c.args.bytes.now l.i (search rules))
 
 pub returns : goal.returns
 returns c =
     let l = c.loop-i in
-    l.invariant.1 ∙ copy_end c.args.bytes.now l.i (search rules) (search rules)
+    l.invariant ∙ copy_end c.args.bytes.now l.i (search rules) (search rules)

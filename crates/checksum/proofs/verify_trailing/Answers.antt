@@ -1,17 +1,22 @@
-use Rattle.std.proofs.Common.{sym, arith, length-take-le}
+use Rattle.std.proofs.Common.{◌≤◌, List, ℕ, length, take, ap, ◌∙◌, arith}
+use Rattle.fields.specs.Le.{le_value}
+use Rattle.checksum.specs.Lookup3.{lookup3}
 use Rattle.checksum.proofs.TrailingLaws.{short, differs, agrees}
 use Rattle.checksum.proofs.verify_trailing.Goals as goal
 
-pub returns-then-len-lt4 : goal.returns-then-len-lt4
-returns-then-len-lt4 c = short c.args.block.now c.if-len-lt4.true
-
-pub slice_bounds-jenkins_lookup3-end : goal.slice_bounds-jenkins_lookup3-end
-slice_bounds-jenkins_lookup3-end c = sym (length-take-le _ c.args.block.now (omega arith))
+pub returns-in_default : goal.returns-in_default
+returns-in_default c = short c.args.block.now c.in_default.ensures.cases
 
 pub returns-then-computed-stored : goal.returns-then-computed-stored
 returns-then-computed-stored c =
-    differs c.args.block.now _ _ c.if-len-lt4.false c.word-stored.ensures c.jenkins_lookup3-computed.ensures c.if-computed-stored.true
+    let k = c.in-Some.ensures.cases in
+    let long : 4 ≤ length c.args.block.now = omega (arith, k.2) in
+    differs c.args.block.now _ _ long
+    (c.word-stored.ensures ∙ ap (λ (l : List ℕ). le_value (take 4 l)) k.1) (c.jenkins_lookup3-computed.ensures ∙ ap lookup3 k.0) c.if-computed-stored.true
 
 pub returns : goal.returns
 returns c =
-    agrees c.args.block.now _ _ c.if-len-lt4.false c.word-stored.ensures c.jenkins_lookup3-computed.ensures c.if-computed-stored.false
+    let k = c.in-Some.ensures.cases in
+    let long : 4 ≤ length c.args.block.now = omega (arith, k.2) in
+    agrees c.args.block.now _ _ long
+    (c.word-stored.ensures ∙ ap (λ (l : List ℕ). le_value (take 4 l)) k.1) (c.jenkins_lookup3-computed.ensures ∙ ap lookup3 k.0) c.if-computed-stored.false

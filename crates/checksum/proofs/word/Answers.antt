@@ -1,6 +1,6 @@
 use Rattle.std.proofs.Common.{arith}
-use Rattle.checksum.proofs.WordLaws.{word-is}
+use Rattle.checksum.proofs.WordLaws.{four}
 use Rattle.checksum.proofs.word.Goals as goal
 
 pub returns : goal.returns
-returns c = omega (arith, word-is c.args.at c.args.bytes.now)
+returns c = omega (arith, c.from_le_bytes.ensures, four c.args.bytes.now)

@@ -1,12 +1,8 @@
 use mathlib.Core.Path.{◌≡◌}
-use Prim.Native.Nat.{◌+◌, ◌-◌, ◌*◌, ◌≤◌}
-use lib.ListN.{length, take, drop}
+use lib.ListN.{take, drop}
 use Rattle.error.specs.Lent.{over}
 use Rattle.file_space_info.specs.Message.{numbers_at}
 use Rattle.file_space_info.proofs.read_addrs.Given as goal
 
 abbrev pub invariant-loop-i : goal.invariant-loop-i
-invariant-loop-i l = (l.i ≤ l.n) × (l.pos ≡ l.at + l.i * l.width) × (length l.addrs ≡ length l.initial.addrs) × (l.addrs ≡ over 0 (take l.i (numbers_at l.width l.n (drop l.at l.bytes))) l.initial.addrs)
-
-abbrev pub decreases-loop-i : goal.decreases-loop-i
-decreases-loop-i l = l.n - l.i
+invariant-loop-i l = l.addrs ≡ over 0 (take l.i (numbers_at l.width l.n (drop l.at l.bytes))) l.initial.addrs

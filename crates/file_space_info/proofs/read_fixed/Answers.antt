@@ -2,9 +2,9 @@
 use mathlib.Core.Path.{◌≡◌, sym, ap, ◌∙◌}
 use mathlib.Core.Bool.{true, ◌&&◌}
 use native.Mathlib.Omega.{arith}
+use Rattle.std.proofs.lemmas.Result.{err_from_is_err_and}
 use Rattle.error.specs.Outcome.{answer}
 use Rattle.fields.specs.Width.{valid_width}
-use Rattle.file_space_info.specs.Strategies.{strategy_outcome}
 use Rattle.file_space_info.proofs.ReadLaws.{sizes, read-width, read_short, read-version, read-refused, read_is}
 use Rattle.file_space_info.proofs.read_fixed.Goals as goal
 
@@ -31,17 +31,16 @@ fixed_fields-requires c =
     let s = sizes _ _ valid in
     (s.os_high, s.ls_high, omega arith)
 
-pub returns-in-Refused : goal.returns-in-Refused
-returns-in-Refused c =
+pub returns-in_err-strategy : goal.returns-in_err-strategy
+returns-in_err-strategy c =
     let valid : ((valid_width c.args.offset_size && valid_width c.args.length_size) ≡ true) = sym c.are_widths.ensures ∙ c.if-not-are_widths.false in
     let a = c.args in
-    read-refused a.offset_size a.length_size a.bytes.now valid (omega arith) (omega arith) c.in-Refused.r
-    (sym (ap strategy_outcome c.in-Refused.is) ∙ c.from_code.ensures)
+    let p = err_from_is_err_and c.from_residual.result c.from_residual.ensures.1 in
+    rw (p.1, p.2) (read-refused a.offset_size a.length_size a.bytes.now valid (omega arith) (omega arith) _ c.in_err-strategy.ensures)
 
-pub returns-in-Is : goal.returns-in-Is
-returns-in-Is c =
+pub returns : goal.returns
+returns c =
     let valid : ((valid_width c.args.offset_size && valid_width c.args.length_size) ≡ true) = sym c.are_widths.ensures ∙ c.if-not-are_widths.false in
     let a = c.args in
     ap answer c.fixed_fields.ensures
-    ∙ read_is a.offset_size a.length_size a.bytes.now valid (omega arith) (omega arith) _
-    (sym (ap strategy_outcome c.in-Is.is) ∙ c.from_code.ensures)
+    ∙ read_is a.offset_size a.length_size a.bytes.now valid (omega arith) (omega arith) _ c.in_ok-strategy.ensures

@@ -1,22 +1,30 @@
+-- `again`: whether the size at the index comes again
+use mathlib.Core.Path.{◌≡◌, sym, ap, ◌∙◌}
+use Prim.Native.Nat.{◌+◌, ◌-◌}
 use native.Mathlib.Omega.{arith}
-use Rattle.fsm_lengths.proofs.LengthLaws.{counted, all-counted, one_at_most}
+use lib.Dec.{eqb, ltb}
+use lib.ListN.{length, drop, get_or, length-drop}
+use lib.Seq.{take_all}
+use Rattle.std.specs.List.{list_any}
+use Rattle.fsm_sections.specs.Sections.{of_size}
+use Rattle.fsm_lengths.specs.Lengths.{unplaced}
+use Rattle.fsm_lengths.proofs.LengthLaws.{stands, counted, all-counted}
 use Rattle.fsm_lengths.proofs.size_count.Goals as goal
-
-pub loop-i-init : goal.loop-i-init
-loop-i-init c = (omega arith, omega arith, omega arith)
-
-pub overflow_add-n : goal.overflow_add-n
-overflow_add-n c = omega (arith, c.last_one-n.ensures, one_at_most c.comes.result)
+use Rattle.fsm_lengths.proofs.size_count.Goals.{then-not-contains, else-not-contains}
 
 pub loop-i-preserved : goal.loop-i-preserved
 loop-i-preserved c =
-    let a = c.args in
-    let l = c.loop-i in (
-      omega arith,
-      omega (arith, c.last_one-n.ensures, one_at_most c.comes.result),
-      rw c.last_one-n.ensures (counted a.sizes.now l.i l.n l.invariant.2 c.loop-i-test.true c.comes.result c.comes.ensures),
-    )
+    let zs = c.args.sizes.now in
+    let l = c.loop-i in
+    let z = get_or zs l.i 0 in
+    let again : c.contains.result ≡ ltb 0 (of_size z (unplaced (drop (l.i + 1) zs))) =
+    c.contains.ensures.value
+    ∙ ap (list_any (λ y. eqb y z)) (take_all (length zs - (l.i + 1)) (drop (l.i + 1) zs) (omega (arith, length-drop (l.i + 1) zs)))
+    ∙ stands z (drop (l.i + 1) zs) in
+    elim c.if-not-contains.branch [
+      | then-not-contains w ↦ (omega (arith, w.n-is), rw w.n-is (counted zs l.i l.n l.invariant.1 c.loop-i-test.true _ (sym w.if-not-contains.true ∙ again)))
+      | else-not-contains w ↦ (omega (arith, w.n-is), let e = counted zs l.i l.n l.invariant.1 c.loop-i-test.true _ (sym w.if-not-contains.false ∙ again) in omega (arith, e, w.n-is))
+    ]
 
 pub returns : goal.returns
-returns c =
-    let a = c.args in all-counted a.sizes.now c.loop-i.i c.loop-i.n c.loop-i.invariant.2 c.loop-i-test.false
+returns c = all-counted c.args.sizes.now c.loop-i.i c.loop-i.n c.loop-i.invariant.1 c.loop-i-test.false

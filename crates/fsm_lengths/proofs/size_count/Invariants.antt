@@ -1,12 +1,9 @@
 use mathlib.Core.Path.{◌≡◌}
-use Prim.Native.Nat.{◌+◌, ◌-◌, ◌≤◌}
-use lib.ListN.{length, drop}
+use Prim.Native.Nat.{◌+◌, ◌≤◌}
+use lib.ListN.{drop}
 use Rattle.fsm_sections.specs.Sections.{distinct}
 use Rattle.fsm_lengths.specs.Lengths.{unplaced}
 use Rattle.fsm_lengths.proofs.size_count.Given as goal
 
 abbrev pub invariant-loop-i : goal.invariant-loop-i
-invariant-loop-i l = (l.i ≤ length l.sizes) × (l.n ≤ l.i) × (l.n + distinct (unplaced (drop l.i l.sizes)) ≡ distinct (unplaced l.sizes))
-
-abbrev pub decreases-loop-i : goal.decreases-loop-i
-decreases-loop-i l = length l.sizes - l.i
+invariant-loop-i l = (l.n ≤ l.i) × (l.n + distinct (unplaced (drop l.i l.sizes)) ≡ distinct (unplaced l.sizes))

@@ -1,19 +1,18 @@
-use mathlib.Core.Path.{sym, ap, ◌∙◌}
+use mathlib.Core.Path.{◌≡◌, sym, ap, ◌∙◌}
+use mathlib.Core.Bool.{true}
+use Prim.Native.Nat.{ℕ}
+use Rattle.std.specs.Prelude.{Result, Ok, Err, is_ok}
+use Rattle.error.specs.Answers.{as_outcome}
+use Rattle.error.specs.declared.Refusal.{Refusal}
 use Rattle.error.specs.Lent.{left}
-use Rattle.holes_text.specs.declared.Written.{Written}
-use Rattle.holes_text.specs.Answers.{written_outcome}
-use Rattle.holes_text.proofs.SizeLaws.{never-refused, always_written}
+use Rattle.holes_text.proofs.SizeLaws.{always_ok, always_written}
 use Rattle.holes.proofs.write_text.Goals as goal
 
-pub returns-in-Bytes : goal.returns-in-Bytes
-returns-in-Bytes c =
+pub unwrap-requires : goal.unwrap-requires
+unwrap-requires c = let a = c.args in always_ok a.image.now a.out.now c.requires c.holes_text.result c.holes_text.ensures
+
+pub returns : goal.returns
+returns c =
     let a = c.args in
     always_written a.image.now a.out.now c.requires
-    (sym (ap (λ (r : Written). left (written_outcome r) c.holes_text.new.out) c.in-Bytes.is) ∙ c.holes_text.ensures)
-
-pub returns-in-Refused : goal.returns-in-Refused
-returns-in-Refused c =
-    let a = c.args in
-    absurd
-    (never-refused a.image.now a.out.now c.requires c.in-Refused.field-0
-    (sym (ap (λ (r : Written). left (written_outcome r) c.holes_text.new.out) c.in-Refused.is) ∙ c.holes_text.ensures))
+    (sym (ap (λ (r : (Result ℕ Refusal)). left (as_outcome r) c.holes_text.new.out) c.unwrap.ensures) ∙ c.holes_text.ensures)

@@ -9,15 +9,15 @@ returns-then-image-gt-IMAGE_LIMIT c =
     printed_as a.out.now c.write_refusal.ensures
     (ap refused_text c.number.ensures ∙ text_longer a.image.now c.if-image-gt-IMAGE_LIMIT.true)
 
-pub returns-in-Refused : goal.returns-in-Refused
-returns-in-Refused c =
+pub returns-in-Err : goal.returns-in-Err
+returns-in-Err c =
     let a = c.args in
-    printed_as a.out.now c.write_refusal-in-Refused.ensures
-    (ap refused_text c.number-in-Refused.ensures
-    ∙ text_refused c.lent_run-run.result c.lent_run-run.ensures a.image.now c.if-image-gt-IMAGE_LIMIT.false c.read_image-read.result _ c.read_image-read.ensures.read _ c.in-Refused.is)
+    printed_as a.out.now c.write_refusal-in-Err.ensures
+    (ap refused_text c.number-in-Err.ensures
+    ∙ text_refused c.lent_run-run.result c.lent_run-run.ensures a.image.now c.if-image-gt-IMAGE_LIMIT.false c.read_image-read.result _ c.read_image-read.ensures.read _ c.in-Err.is)
 
-pub returns-in-Read : goal.returns-in-Read
-returns-in-Read c =
+pub returns-in-Ok : goal.returns-in-Ok
+returns-in-Ok c =
     let a = c.args in
     printed_as a.out.now c.write_listing.ensures
-    (text_listed c.lent_run-run.result c.lent_run-run.ensures a.image.now c.if-image-gt-IMAGE_LIMIT.false c.read_image-read.result _ c.read_image-read.ensures.read c.in-Read.is)
+    (text_listed c.lent_run-run.result c.lent_run-run.ensures a.image.now c.if-image-gt-IMAGE_LIMIT.false c.read_image-read.result _ c.read_image-read.ensures.read c.in-Ok.is)

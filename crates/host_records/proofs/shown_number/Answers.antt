@@ -1,11 +1,12 @@
 use mathlib.Core.Path.{sym, ap, ◌∙◌}
 use Prim.Native.Nat.{ℕ, ◌-◌}
+use Rattle.std.specs.Prelude.{Result}
+use Rattle.error.specs.Answers.{as_outcome}
+use Rattle.error.specs.declared.Refusal.{Refusal}
 use Rattle.fields.specs.Ranges.{top}
-use Rattle.fsm_pages.specs.declared.pages.Split.{Split}
-use Rattle.fsm_pages.specs.Split.{split_outcome}
 use Rattle.host_records.specs.Shown.{shown}
 use Rattle.host_records.proofs.shown_number.Goals as goal
 
-pub returns-in-Refused : goal.returns-in-Refused
-returns-in-Refused c =
-    ap (λ (k : ℕ). top - k) c.number.ensures ∙ sym (ap (λ (s : Split). shown (split_outcome s)) c.in-Refused.is)
+pub returns-in-Err : goal.returns-in-Err
+returns-in-Err c =
+    ap (λ (k : ℕ). top - k) (c.from.ensures ∙ c.number.ensures) ∙ sym (ap (λ (s : (Result ℕ Refusal)). shown (as_outcome s)) c.in-Err.is)

@@ -15,37 +15,37 @@ returns-then-out-ne0 c =
 pub slice_bounds-slots-end : goal.slice_bounds-slots-end
 slice_bounds-slots-end c =
     let message : (let a = c.args in
-    MessageIs (message_at a.place a.image.now) c.in-Message.info c.in-Message.count c.read_message-message.new.slots) = let a = c.args in
-    message_is (message_at a.place a.image.now) (message_few a.place a.image.now) _ _ c.read_message-message.ensures _ _ c.in-Message.is in
+    MessageIs (message_at a.place a.image.now) c.in-Ok.field-0.info c.in-Ok.field-0.count c.read_message.new.slots) = let a = c.args in
+    message_is (message_at a.place a.image.now) (message_few a.place a.image.now) _ _ c.read_message.ensures c.in-Ok.field-0.info c.in-Ok.field-0.count c.in-Ok.is in
     message.within
 
 pub slice_bounds-read_slots-end : goal.slice_bounds-read_slots-end
 slice_bounds-read_slots-end c =
     let message : (let a = c.args in
-    MessageIs (message_at a.place a.image.now) c.in-Message.info c.in-Message.count c.read_message-message.new.slots) = let a = c.args in
-    message_is (message_at a.place a.image.now) (message_few a.place a.image.now) _ _ c.read_message-message.ensures _ _ c.in-Message.is in
+    MessageIs (message_at a.place a.image.now) c.in-Ok.field-0.info c.in-Ok.field-0.count c.read_message.new.slots) = let a = c.args in
+    message_is (message_at a.place a.image.now) (message_few a.place a.image.now) _ _ c.read_message.ensures c.in-Ok.field-0.info c.in-Ok.field-0.count c.in-Ok.is in
     sym (length-take-le _ _ message.within)
 
 pub read_slots-requires : goal.read_slots-requires
 read_slots-requires c =
     let message : (let a = c.args in
-    MessageIs (message_at a.place a.image.now) c.in-Message.info c.in-Message.count c.read_message-message.new.slots) = let a = c.args in
-    message_is (message_at a.place a.image.now) (message_few a.place a.image.now) _ _ c.read_message-message.ensures _ _ c.in-Message.is in
+    MessageIs (message_at a.place a.image.now) c.in-Ok.field-0.info c.in-Ok.field-0.count c.read_message.new.slots) = let a = c.args in
+    message_is (message_at a.place a.image.now) (message_few a.place a.image.now) _ _ c.read_message.ensures c.in-Ok.field-0.info c.in-Ok.field-0.count c.in-Ok.is in
     message.few
 
-pub returns-in-Refused : goal.returns-in-Refused
-returns-in-Refused c =
+pub returns-in-Err : goal.returns-in-Err
+returns-in-Err c =
     let every = let a = c.args in
-    refused_as _ _ _ c.refused-in-Refused.ensures
-    (image-refused a.reading a.place a.image.now a.out.now c.if-out-ne0.false c.in-Refused.r
-    (message_refused (message_at a.place a.image.now) (message_few a.place a.image.now) _ _ c.read_message-message.ensures _ c.in-Refused.is)) in
+    refused_as _ _ _ c.refused-in-Err.ensures
+    (image-refused a.reading a.place a.image.now a.out.now c.if-out-ne0.false c.in-Err.r
+    (message_refused (message_at a.place a.image.now) (message_few a.place a.image.now) _ _ c.read_message.ensures _ c.in-Err.is)) in
     record { read = every.0; counted = every.1 }
 
-pub returns-in-Message : goal.returns-in-Message
-returns-in-Message c =
+pub returns-in-Ok : goal.returns-in-Ok
+returns-in-Ok c =
     let message : (let a = c.args in
-    MessageIs (message_at a.place a.image.now) c.in-Message.info c.in-Message.count c.read_message-message.new.slots) = let a = c.args in
-    message_is (message_at a.place a.image.now) (message_few a.place a.image.now) _ _ c.read_message-message.ensures _ _ c.in-Message.is in
+    MessageIs (message_at a.place a.image.now) c.in-Ok.field-0.info c.in-Ok.field-0.count c.read_message.new.slots) = let a = c.args in
+    message_is (message_at a.place a.image.now) (message_few a.place a.image.now) _ _ c.read_message.ensures c.in-Ok.field-0.info c.in-Ok.field-0.count c.in-Ok.is in
     let a = c.args in
     let e = c.read_slots.ensures in
     let m = message in

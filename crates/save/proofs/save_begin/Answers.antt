@@ -13,8 +13,8 @@ returns-then-not-are_lists c =
     let a = c.args in
     begin_lists (lists_in a.meta.now a.raw.now a.unclassified.now a.lists) a.to.page a.to.start a.to.place a.image.now a.scratch.now c.if-to-eq0.false _ c.are_lists.ensures c.if-not-are_lists.true
 
-pub test_early-early-requires : goal.test_early-early-requires
-test_early-early-requires c =
+pub test_early-requires : goal.test_early-requires
+test_early-requires c =
     record {
       lists = let a = c.args in
           (begin_asks (lists_in a.meta.now a.raw.now a.unclassified.now a.lists) a.to.page a.to.start a.to.place a.image.now a.scratch.now c.if-to-eq0.false _ c.are_lists.ensures c.if-not-are_lists.false).1;
@@ -28,14 +28,14 @@ refuse_early-requires c =
 pub begin_after-requires : goal.begin_after-requires
 begin_after-requires c =
     let a = c.args in
-    record { lists = begin_asks (lists_in a.meta.now a.raw.now a.unclassified.now a.lists) a.to.page a.to.start a.to.place a.image.now a.scratch.now c.if-to-eq0.false _ c.are_lists.ensures c.if-not-are_lists.false; apart = begin_apart (lists_in a.meta.now a.raw.now a.unclassified.now a.lists) a.to.page a.to.start a.to.place a.image.now a.scratch.now c.if-to-eq0.false _ c.are_lists.ensures c.if-not-are_lists.false _ c.test_early-early.ensures c.in-Passed.is; message = begin_message (lists_in a.meta.now a.raw.now a.unclassified.now a.lists) a.to.page a.to.start a.to.place a.image.now a.scratch.now c.if-to-eq0.false _ c.are_lists.ensures c.if-not-are_lists.false _ c.test_early-early.ensures c.in-Passed.is }
+    record { lists = begin_asks (lists_in a.meta.now a.raw.now a.unclassified.now a.lists) a.to.page a.to.start a.to.place a.image.now a.scratch.now c.if-to-eq0.false _ c.are_lists.ensures c.if-not-are_lists.false; apart = begin_apart (lists_in a.meta.now a.raw.now a.unclassified.now a.lists) a.to.page a.to.start a.to.place a.image.now a.scratch.now c.if-to-eq0.false _ c.are_lists.ensures c.if-not-are_lists.false c.in-Ok.ensures; message = begin_message (lists_in a.meta.now a.raw.now a.unclassified.now a.lists) a.to.page a.to.start a.to.place a.image.now a.scratch.now c.if-to-eq0.false _ c.are_lists.ensures c.if-not-are_lists.false c.in-Ok.ensures }
 
-pub returns-in-Refused : goal.returns-in-Refused
-returns-in-Refused c =
+pub returns-in-Err : goal.returns-in-Err
+returns-in-Err c =
     let a = c.args in
-    begin_early (lists_in a.meta.now a.raw.now a.unclassified.now a.lists) a.to.page a.to.start a.to.place a.image.now a.scratch.now c.if-to-eq0.false _ c.are_lists.ensures c.if-not-are_lists.false _ c.test_early-early.ensures _ c.in-Refused.is c.refuse_early.result c.refuse_early.ensures
+    begin_early (lists_in a.meta.now a.raw.now a.unclassified.now a.lists) a.to.page a.to.start a.to.place a.image.now a.scratch.now c.if-to-eq0.false _ c.are_lists.ensures c.if-not-are_lists.false _ c.in-Err.ensures c.refuse_early.result c.refuse_early.ensures
 
-pub returns-in-Passed : goal.returns-in-Passed
-returns-in-Passed c =
+pub returns-in-Ok : goal.returns-in-Ok
+returns-in-Ok c =
     let a = c.args in
-    c.begin_after.ensures ∙ begin_after (lists_in a.meta.now a.raw.now a.unclassified.now a.lists) a.to.page a.to.start a.to.place a.image.now a.scratch.now c.if-to-eq0.false _ c.are_lists.ensures c.if-not-are_lists.false _ c.test_early-early.ensures c.in-Passed.is
+    c.begin_after.ensures ∙ begin_after (lists_in a.meta.now a.raw.now a.unclassified.now a.lists) a.to.page a.to.start a.to.place a.image.now a.scratch.now c.if-to-eq0.false _ c.are_lists.ensures c.if-not-are_lists.false c.in-Ok.ensures

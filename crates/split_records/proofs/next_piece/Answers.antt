@@ -11,7 +11,7 @@ use Rattle.split_records.proofs.next_piece.Goals as goal
 
 pub loop-i-init : goal.loop-i-init
 loop-i-init c =
-    let a = c.args in (within a.page a.count a.sections.now c.requires.1 a.section a.done c.requires.3, refl)
+    let a = c.args in (within a.page a.count a.sections.now c.requires.1 a.at.section a.at.done c.requires.3, refl)
 
 pub loop-i-preserved : goal.loop-i-preserved
 loop-i-preserved c =
@@ -37,8 +37,8 @@ overflow_sub-page c =
     let a = c.args in
     le_of_lt (mod-lt ((section_at a.sections.now l.i).addr + l.d) c.requires.0)
 
-pub overflow_add-result : goal.overflow_add-result
-overflow_add-result c =
+pub overflow_add-next : goal.overflow_add-next
+overflow_add-next c =
     let ends : (let r = section_at c.args.sections.now c.loop-i.i in r.addr + r.size < 2 ^ 64) = let l = c.loop-i in
     let a = c.args in
     fits-here a.count a.sections.now c.requires.1 c.requires.2 l.i l.invariant.0 in

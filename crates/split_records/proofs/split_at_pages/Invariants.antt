@@ -1,17 +1,12 @@
--- the records are those that are shown after k pieces, and the other pieces are left
+-- the first records are those that are shown after as many pieces, and the other pieces are left
 use mathlib.Core.Path.{◌≡◌}
-use Prim.Native.Nat.{◌-◌, ◌≤◌}
-use lib.ListN.{drop}
+use lib.ListN.{take, drop}
 use Rattle.split_records.specs.Records.{pieces_left}
 use Rattle.split_records.proofs.RecordLaws.{all, shown}
 use Rattle.split_records.proofs.split_at_pages.Given as goal
 
-abbrev pub invariant-loop-k : goal.invariant-loop-k
-invariant-loop-k l = record {
-  few : l.k ≤ l.n;
-  stored : l.out ≡ shown l.sections l.count l.page l.initial.out l.k;
-  others : drop l.k (all l.sections l.count l.page) ≡ pieces_left l.page l.count l.sections l.section l.done;
+abbrev pub invariant-loop-record : goal.invariant-loop-record
+invariant-loop-record l = record {
+  stored : l.record-items ≡ shown l.sections l.count l.page (take l.n l.fn.out) l.record-index;
+  others : drop l.record-index (all l.sections l.count l.page) ≡ pieces_left l.page l.count l.sections l.at.section l.at.done;
 }
-
-abbrev pub decreases-loop-k : goal.decreases-loop-k
-decreases-loop-k l = l.n - l.k

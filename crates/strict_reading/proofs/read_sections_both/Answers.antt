@@ -9,8 +9,8 @@ returns c =
     let s = a.slots.now in
     let b = a.bytes.now in
     record {
-      strict = c.read_persisted_sections_strict-first.ensures;
-      loose = c.read_persisted_sections-second.ensures;
+      strict = c.read_persisted_sections_strict.ensures;
+      loose = c.read_persisted_sections.ensures;
       alike = alike (persisted Strict s a.base.0 a.offset_size b) (persisted Loose s a.base.0 a.offset_size b) (persisted-alike s a.base.0 a.offset_size b) _ _ _ _ _ _
-          c.read_persisted_sections_strict-first.ensures c.read_persisted_sections-second.ensures;
+          c.read_persisted_sections_strict.ensures c.read_persisted_sections.ensures;
     }

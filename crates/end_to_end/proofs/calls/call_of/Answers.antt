@@ -1,26 +1,26 @@
-use borrow.Author.Tests.{eq-eqb, ne_eqb}
+use native.Mathlib.Omega.{arith}
+use borrow.Author.Tests.{ne_eqb}
 use Rattle.end_to_end.specs.Encoding.{call_of}
 use Rattle.end_to_end.proofs.calls.call_of.Goals as goal
 
-pub returns-then-number-eq0 : goal.returns-then-number-eq0
+pub returns-in-0 : goal.returns-in-0
 unfolding call_of
-returns-then-number-eq0 c = rw (eq-eqb _ 0 c.if-number-eq0.true)
+returns-in-0 c = rw c.in-0.is
 
-pub returns-then-number-eq1 : goal.returns-then-number-eq1
+pub returns-in-1 : goal.returns-in-1
 unfolding call_of
-returns-then-number-eq1 c = rw (ne_eqb _ 0 c.if-number-eq0.false, eq-eqb _ 1 c.if-number-eq1.true)
+returns-in-1 c = rw c.in-1.is
 
-pub returns-then-number-eq2 : goal.returns-then-number-eq2
+pub returns-in-2 : goal.returns-in-2
 unfolding call_of
-returns-then-number-eq2 c =
-    rw (ne_eqb _ 0 c.if-number-eq0.false, ne_eqb _ 1 c.if-number-eq1.false, eq-eqb _ 2 c.if-number-eq2.true)
+returns-in-2 c = rw c.in-2.is
 
-pub returns-then-number-eq3 : goal.returns-then-number-eq3
+pub returns-in-3 : goal.returns-in-3
 unfolding call_of
-returns-then-number-eq3 c =
-    rw (ne_eqb _ 0 c.if-number-eq0.false, ne_eqb _ 1 c.if-number-eq1.false, ne_eqb _ 2 c.if-number-eq2.false, eq-eqb _ 3 c.if-number-eq3.true)
+returns-in-3 c = rw c.in-3.is
 
-pub returns : goal.returns
+pub returns-in_default : goal.returns-in_default
 unfolding call_of
-returns c =
-    rw (ne_eqb _ 0 c.if-number-eq0.false, ne_eqb _ 1 c.if-number-eq1.false, ne_eqb _ 2 c.if-number-eq2.false, ne_eqb _ 3 c.if-number-eq3.false)
+returns-in_default c =
+    let n = c.args.number in
+    rw (ne_eqb n 0 (omega arith), ne_eqb n 1 (omega arith), ne_eqb n 2 (omega arith), ne_eqb n 3 (omega arith))

@@ -1,15 +1,16 @@
-use borrow.Author.Tests.{eq-eqb, ne_eqb}
+use native.Mathlib.Omega.{arith}
+use borrow.Author.Tests.{ne_eqb}
 use Rattle.end_to_end.specs.Encoding.{which_of}
 use Rattle.end_to_end.proofs.calls.which_of.Goals as goal
 
-pub returns-then-number-eq0 : goal.returns-then-number-eq0
+pub returns-in-0 : goal.returns-in-0
 unfolding which_of
-returns-then-number-eq0 c = rw (eq-eqb _ 0 c.if-number-eq0.true)
+returns-in-0 c = rw c.in-0.is
 
-pub returns-then-number-eq1 : goal.returns-then-number-eq1
+pub returns-in-1 : goal.returns-in-1
 unfolding which_of
-returns-then-number-eq1 c = rw (ne_eqb _ 0 c.if-number-eq0.false, eq-eqb _ 1 c.if-number-eq1.true)
+returns-in-1 c = rw c.in-1.is
 
-pub returns : goal.returns
+pub returns-in_default : goal.returns-in_default
 unfolding which_of
-returns c = rw (ne_eqb _ 0 c.if-number-eq0.false, ne_eqb _ 1 c.if-number-eq1.false)
+returns-in_default c = let n = c.args.number in rw (ne_eqb n 0 (omega arith), ne_eqb n 1 (omega arith))

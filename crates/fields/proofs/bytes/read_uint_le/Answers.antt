@@ -1,10 +1,10 @@
 use mathlib.Core.List.{[]}
 use mathlib.Core.Path.{◌≡◌, sym, ap, ◌∙◌}
-use Prim.Native.Nat.{ℕ, ◌+◌, ◌-◌, ◌*◌, ◌≤◌, min}
-use native.Mathlib.Nat.{le_refl, one-le-pow}
+use Prim.Native.Nat.{ℕ, ◌+◌, ◌-◌, ◌*◌, ◌≤◌, ◌<◌, min}
+use native.Mathlib.Nat.{one-le-pow}
 use native.Mathlib.Omega.{arith}
 use lib.Dec.{lit≤}
-use lib.ListN.{length, take, drop, length-drop}
+use lib.ListN.{length, take, drop, get_or, length-drop}
 use Rattle.fields.specs.Le.{le_value}
 use Rattle.fields.proofs.LeLaws.{take_min, past_end, get_step, room, grows}
 use Rattle.fields.proofs.bytes.read_uint_le.Goals as goal
@@ -14,24 +14,22 @@ unfolding le_value
 loop-i-init c =
     let a = c.args in
     let n = c.places-n.result in
-    (le_refl n, sym (ap le_value (past_end n a.bytes.now a.at)), omega (arith, one-le-pow (n - n) 256 (lit≤ tt)))
+    (sym (ap le_value (past_end n a.bytes.now a.at)), omega (arith, one-le-pow (n - n) 256 (lit≤ tt)))
 
 pub overflow_mul-v : goal.overflow_mul-v
 overflow_mul-v c =
     let l = c.loop-i in
     let n = c.places-n.result in
     let s : n ≤ 8 = omega arith in
-    omega (arith, room [] 0 n l.i l.v c.loop-i-test.true l.invariant.0 s l.invariant.2)
-
-pub wide-requires : goal.wide-requires
-wide-requires c = tt
+    omega (arith, room [] 0 n l.i l.v c.loop-i-test.true l.auto.i s l.invariant.1)
 
 pub overflow_add-v : goal.overflow_add-v
 overflow_add-v c =
     let l = c.loop-i in
     let n = c.places-n.result in
     let s : n ≤ 8 = omega arith in
-    omega (arith, room [] 0 n l.i l.v c.loop-i-test.true l.invariant.0 s l.invariant.2)
+    let b : get_or c.args.bytes.now (c.args.at + (l.i - 1)) 0 < 256 = omega (arith, c.type_inv.bytes (c.args.at + (l.i - 1))) in
+    omega (arith, room [] 0 n l.i l.v c.loop-i-test.true l.auto.i s l.invariant.1)
 
 pub loop-i-preserved : goal.loop-i-preserved
 loop-i-preserved c =
@@ -39,10 +37,10 @@ loop-i-preserved c =
     let l = c.loop-i in
     let n = c.places-n.result in
     let t = c.loop-i-test.true in
+    let b : get_or a.bytes.now (a.at + (l.i - 1)) 0 < 256 = omega (arith, c.type_inv.bytes (a.at + (l.i - 1))) in
     let f : a.at + n ≤ length a.bytes.now = omega arith in (
-      omega arith,
-      ap (λ (b : ℕ). l.v * 256 + b) c.wide.ensures.0 ∙ get_step a.bytes.now a.at n l.i l.v t l.invariant.0 f l.invariant.1,
-      grows a.bytes.now a.at n l.i l.v t l.invariant.0 c.wide.result c.wide.ensures.1 l.invariant.2,
+      ap (λ (b : ℕ). l.v * 256 + b) c.from.ensures ∙ get_step a.bytes.now a.at n l.i l.v t l.auto.i f l.invariant.0,
+      grows a.bytes.now a.at n l.i l.v t l.auto.i c.from.result (omega arith) l.invariant.1,
     )
 
 pub returns : goal.returns
@@ -53,7 +51,7 @@ returns c =
     let n = c.places-n.result in
     let z : l.i ≡ 0 = omega arith in
     let e : n ≡ min (min a.width 8) (length d) = omega (arith, length-drop a.at a.bytes.now) in
-    l.invariant.1
+    l.invariant.0
     ∙ ap (λ (k : ℕ). le_value (drop k (take n d))) z
     ∙ ap (λ (k : ℕ). le_value (take k d)) e
     ∙ ap le_value (take_min (min a.width 8) d)

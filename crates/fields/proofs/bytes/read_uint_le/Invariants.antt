@@ -1,11 +1,6 @@
-use mathlib.Core.Path.{◌≡◌}
-use Prim.Native.Nat.{◌-◌, ◌^◌, ◌≤◌, ◌<◌}
-use lib.ListN.{take, drop}
+use Rattle.std.proofs.Common.{◌≡◌, ◌-◌, ◌^◌, ◌<◌, take, drop}
 use Rattle.fields.specs.Le.{le_value}
 use Rattle.fields.proofs.bytes.read_uint_le.Given as goal
 
 abbrev pub invariant-loop-i : goal.invariant-loop-i
-invariant-loop-i l = (l.i ≤ l.n) × (l.v ≡ le_value (drop l.i (take l.n (drop l.at l.bytes)))) × (l.v < 256 ^ (l.n - l.i))
-
-abbrev pub decreases-loop-i : goal.decreases-loop-i
-decreases-loop-i l = l.i
+invariant-loop-i l = (l.v ≡ le_value (drop l.i (take l.n (drop l.at l.bytes)))) × (l.v < 256 ^ (l.n - l.i))

@@ -1,63 +1,50 @@
-use Rattle.std.proofs.Common.{sym, ap, ◌∙◌, subst, arith}
+-- `served`: what the search found, where it found a region
+use Rattle.std.proofs.Common.{sym, refl, ap, ◌∙◌, arith, rules, of_calls}
+use Rattle.std.proofs.lemmas.Result.{err_from_is_err_and}
+use Rattle.error.specs.Outcome.{first_of}
 use Rattle.free_regions.specs.Units.{interior_start, interior_span}
-use Rattle.error.specs.declared.Refusal.TheVariants.{PartUnit}
-use Rattle.free_space.specs.declared.decide.Decision.TheVariants.{Refused, Nothing}
-use Rattle.free_space.specs.Calls.{serve}
-use Rattle.free_space.specs.Searches.{Finds}
-use Rattle.free_space.proofs.AnswerLaws.{if_gives, serve-at, units_bad, units_part, units_zero, units_else}
+use Rattle.free_space.specs.Calls.{allocated_units}
+use Rattle.free_space.specs.Searches.{Serves}
+use Rattle.free_space.proofs.AnswerLaws.{serve-at, units_else}
 use Rattle.free_space.proofs.decide.decide_whole_units.Goals as goal
+use Rattle.free_space.proofs.decide.decide_whole_units.Goals.{In-Some}
 
-pub returns-then-is_part : goal.returns-then-is_part
-returns-then-is_part c =
-    let a = c.args in
-    let xs = a.run.now in
-    if_gives xs a.list _ _ _ (Refused PartUnit) c.if_list.ensures c.is_list.ensures
-    (units_part xs a.list a.len a.unit (sym c.is_part.ensures ∙ c.if-is_part.true)) tt
+served : (s : In-Some) → Serves (interior_span s.args.unit) s.args.run.now s.args.list s.args.len s.in-Some.i
+served s = rw s.in-Some.is at (s.in_ok-i.ensures (interior_span s.args.unit) (λ r n k p. search (rules, of_calls)))
 
-pub returns-then-len-eq0 : goal.returns-then-len-eq0
-returns-then-len-eq0 c =
-    let a = c.args in
-    let xs = a.run.now in
-    if_gives xs a.list _ _ _ Nothing c.if_list-then-len-eq0.ensures c.is_list-then-len-eq0.ensures
-    (units_zero xs a.list a.len a.unit (sym c.is_part.ensures ∙ c.if-is_part.false) c.if-len-eq0.true) tt
+pub returns-in_err-i : goal.returns-in_err-i
+unfolding allocated_units first_of
+returns-in_err-i c =
+    let h = c.in_err-i.ensures (interior_span c.args.unit) (λ r n k p. search (rules, of_calls)) in
+    let p = err_from_is_err_and c.from_residual-in_err-i.result c.from_residual-in_err-i.ensures.1 in
+    rw (p.1, p.2, h.1, h.0) (refl, tt)
 
-pub region_at-r-requires : goal.region_at-r-requires
-region_at-r-requires c =
+pub returns-in_default : goal.returns-in_default
+returns-in_default c =
     let a = c.args in
-    let f = subst (Finds (interior_span a.unit) a.run.now a.list a.len) c.in-At.is c.best_fit-s.ensures in
-    omega (arith, f.below, f.room)
+    let h = rw c.in_default.is at (c.in_ok-i.ensures (interior_span a.unit) (λ r n k p. search (rules, of_calls))) in
+    (rw h.1 at (units_else a.run.now a.list a.len a.unit (sym c.if-is_part.ensures) h.0 c.if-len-eq0.false), tt)
+
+pub invariant_of-valid : goal.invariant_of-valid
+invariant_of-valid c = record { tested = (served (goal.at.invariant_of-valid c).In-Some).list }
+
+pub region-requires : goal.region-requires
+region-requires c = (served (goal.at.region-requires c).In-Some).below
 
 pub take_units-requires : goal.take_units-requires
 take_units-requires c =
-    let a = c.args in
-    let g = c.region_at-r in
-    let f = subst (Finds (interior_span a.unit) a.run.now a.list a.len) c.in-At.is c.best_fit-s.ensures in
-    (f.list, f.below, g.ensures, omega (arith, c.if-len-eq0.false), omega (arith, f.suffices, ap (interior_span a.unit) g.ensures))
+    let f = served (goal.at.take_units-requires c).In-Some in
+    let g = c.region in
+    (f.below, g.ensures.read, omega arith, omega (arith, f.suffices, ap (interior_span c.args.unit) g.ensures.read))
 
-pub returns-in-Bad : goal.returns-in-Bad
-returns-in-Bad c =
+pub returns : goal.returns
+returns c =
     let a = c.args in
     let xs = a.run.now in
-    (units_bad xs a.list a.len a.unit (subst (Finds (interior_span a.unit) xs a.list a.len) c.in-Bad.is c.best_fit-s.ensures), tt)
-
-pub returns-in-Nothing : goal.returns-in-Nothing
-returns-in-Nothing c =
-    let a = c.args in
-    let xs = a.run.now in
-    let f = subst (Finds (interior_span a.unit) xs a.list a.len) c.in-Nothing.is c.best_fit-s.ensures in (
-      sym (ap (serve (interior_start a.unit) xs a.list a.len) f.1)
-          ∙ units_else xs a.list a.len a.unit (sym c.is_part.ensures ∙ c.if-is_part.false) f.0 c.if-len-eq0.false,
-      tt,
-    )
-
-pub returns-in-At : goal.returns-in-At
-returns-in-At c =
-    let a = c.args in
-    let xs = a.run.now in
-    let g = c.region_at-r in
-    let f = subst (Finds (interior_span a.unit) xs a.list a.len) c.in-At.is c.best_fit-s.ensures in (
+    let g = c.region in
+    let f = served (goal.at.returns c).In-Some in (
       c.take_units.ensures.0
-          ∙ serve-at (interior_start a.unit) xs a.list a.len _ f.span _ g.result f.below f.room g.ensures f.is
-          ∙ units_else xs a.list a.len a.unit (sym c.is_part.ensures ∙ c.if-is_part.false) f.list c.if-len-eq0.false,
+          ∙ serve-at (interior_start a.unit) xs a.list a.len _ f.span _ g.result f.below f.room g.ensures.read f.is
+          ∙ units_else xs a.list a.len a.unit (sym c.if-is_part.ensures) f.list c.if-len-eq0.false,
       c.take_units.ensures.1,
     )

@@ -1,25 +1,27 @@
-use Rattle.std.proofs.Common.{◌≡◌, ℕ, ◌-◌, List, length, set, replicate, ap, ◌∙◌, arith, rules}
+use Rattle.std.proofs.Common.{◌≡◌, ◌+◌, ◌-◌, ◌≤◌, ℕ, zero, suc, List, [], ◌∷◌, length, take, drop, replicate, sym, ap, ◌∙◌, length-take, length-drop, arith}
+use borrow.Rule.Slice.PartMut.{put_mid}
 use Rattle.error.specs.Lent.{over}
-use Rattle.error.proofs.OverLaws.{length_over, fill_start, fill_next}
+use Rattle.error.proofs.OverLaws.{over-nil, over-is}
 use Rattle.free_space.proofs.run.clear.Goals as goal
 
-pub loop-j-init : goal.loop-j-init
-loop-j-init c = (search rules, search rules, fill_start _ _ _)
+-- what is written to a part of a run is written over it
+put_mid-over : (a : ℕ) (xs ys : List ℕ) → a + length ys ≤ length xs → put_mid a (length ys) xs ys ≡ over a ys xs
+put_mid-over zero xs ys h = sym (over-is ys xs (omega arith))
+put_mid-over (suc a) [] ys h = absurd (omega arith)
+put_mid-over (suc a) (x ∷ xs) ys h = ap (λ (l : List ℕ). x ∷ l) (put_mid-over a xs ys (omega arith))
 
-pub bounds-run-j : goal.bounds-run-j
-bounds-run-j c =
-    let l = c.loop-j in let a = c.args in omega (arith, simp length_over at (ap length l.invariant.2))
+pub returns-then-from-to : goal.returns-then-from-to
+returns-then-from-to c =
+    let a = c.args in
+    let long : length (take (a.to - a.from) (drop a.from a.run.now)) ≡ a.to - a.from = simp (length-take, length-drop) (omega arith) in
+    let ys = c.fill.new.self in
+    let n : length ys ≡ a.to - a.from = c.fill.ensures.len ∙ long in
+    ap (λ (k : ℕ). put_mid a.from k a.run.now ys) (sym n)
+    ∙ put_mid-over a.from a.run.now ys (omega arith)
+    ∙ ap (λ (l : List ℕ). over a.from l a.run.now) (c.fill.ensures.after (λ y e. e) ∙ ap (λ (m : ℕ). replicate m 0) long)
 
-pub loop-j-preserved : goal.loop-j-preserved
-loop-j-preserved c =
-    let l = c.loop-j in let a = c.args in
-    (omega arith, omega arith, ap (λ (p : List ℕ). set p l.j 0) l.invariant.2 ∙ fill_next a.from l.j 0 a.run.now l.invariant.0)
-
-pub shape_of-run : goal.shape_of-run
-shape_of-run c = let l = c.loop-j in let a = c.args in simp length_over at (ap length l.invariant.2)
-
-pub returns : goal.returns
-returns c =
-    let l = c.loop-j in let a = c.args in
-    let e : l.j - a.from ≡ a.to - a.from = omega arith in
-    l.invariant.2 ∙ ap (λ (k : ℕ). over a.from (replicate k 0) a.run.now) e
+pub returns-else-from-to : goal.returns-else-from-to
+returns-else-from-to c =
+    let a = c.args in
+    let z : a.to - a.from ≡ 0 = omega arith in
+    rw z (sym (over-nil a.from a.run.now))

@@ -1,4 +1,4 @@
-use Rattle.std.proofs.Common.{ℕ, ◌+◌, List, [], ◌∷◌, length, sym, ap, ◌∙◌, arith}
+use Rattle.std.proofs.Common.{ℕ, ◌+◌, List, [], ◌∷◌, sym, ap, ◌∙◌}
 use Rattle.error.specs.Lent.{over}
 use Rattle.error.proofs.OverLaws.{over-nil, over_right}
 use Rattle.free_space.specs.declared.run.Patch.{Patch}
@@ -6,25 +6,10 @@ use Rattle.free_space.specs.Runs.{flat}
 use Rattle.free_space.specs.Splices.{patch}
 use Rattle.free_space.proofs.run.put_patch.Goals as goal
 
-pub put_region-requires : goal.put_region-requires
-put_region-requires c = omega (arith, ap (λ (q : Patch). length (patch q)) c.in-One.is)
-
-pub put_region-requires-in-Two : goal.put_region-requires-in-Two
-put_region-requires-in-Two c = omega (arith, ap (λ (q : Patch). length (patch q)) c.in-Two.is)
-
-pub put_region-requires-in-Two-2 : goal.put_region-requires-in-Two-2
-put_region-requires-in-Two-2 c =
-    omega (arith, c.put_region-in-Two.auto.run, ap (λ (q : Patch). length (patch q)) c.in-Two.is)
-
 pub returns-in-Empty : goal.returns-in-Empty
 returns-in-Empty c =
     let a = c.args in
     sym (ap (λ (q : Patch). over a.at (flat (patch q)) a.run.now) c.in-Empty.is ∙ over-nil a.at a.run.now)
-
-pub returns-in-One : goal.returns-in-One
-returns-in-One c =
-    let a = c.args in
-    c.put_region.ensures ∙ ap (λ (q : Patch). over a.at (flat (patch q)) a.run.now) (sym c.in-One.is)
 
 pub returns-in-Two : goal.returns-in-Two
 returns-in-Two c =

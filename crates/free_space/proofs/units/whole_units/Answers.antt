@@ -1,12 +1,18 @@
+use Rattle.std.proofs.Common.{ap, ◌∙◌}
+use Rattle.std.specs.Prelude.{Option, Ok}
+use Rattle.free_regions.specs.declared.Whole.{Whole}
 use Rattle.free_regions.proofs.InteriorLaws.{interior-tells}
 use Rattle.free_space.proofs.units.whole_units.Goals as goal
 
-pub returns-in-Whole : goal.returns-in-Whole
-returns-in-Whole c = interior-tells _ _ _ _ c.requires c.aligned_interior-inside.ensures c.in-Whole.is
+pub returns-in-Ok-Some : goal.returns-in-Ok-Some
+returns-in-Ok-Some c = λ fits.
+    let s = c.in-Ok-Some in
+    interior-tells _ _ _ _ fits c.aligned_interior.ensures (s.is ∙ ap (λ (w : Option Whole). Ok w) s.field-0-is)
 
-pub returns-in-Nothing : goal.returns-in-Nothing
-returns-in-Nothing c = interior-tells _ _ _ _ c.requires c.aligned_interior-inside.ensures c.in-Nothing.is
+pub returns-in-Ok-None : goal.returns-in-Ok-None
+returns-in-Ok-None c = λ fits.
+    let s = c.in-Ok-None in
+    interior-tells _ _ _ _ fits c.aligned_interior.ensures (s.is ∙ ap (λ (w : Option Whole). Ok w) s.field-0-is)
 
-pub returns-in-Refused : goal.returns-in-Refused
-returns-in-Refused c =
-    interior-tells _ _ _ _ c.requires c.aligned_interior-inside.ensures c.in-Refused.is
+pub returns-in-Err : goal.returns-in-Err
+returns-in-Err c = λ fits. interior-tells _ _ _ _ fits c.aligned_interior.ensures c.in-Err.is

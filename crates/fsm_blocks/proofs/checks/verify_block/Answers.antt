@@ -1,15 +1,7 @@
 use mathlib.Core.Path.{sym, ap, ◌∙◌}
 use mathlib.Core.Bool.{not}
-use Rattle.fsm_blocks.proofs.CheckLaws.{block_short, block_unsigned, block_version, block_passed}
+use Rattle.fsm_blocks.proofs.CheckLaws.{block_version, block_passed}
 use Rattle.fsm_blocks.proofs.checks.verify_block.Goals as goal
-
-pub returns-then-bytes-len : goal.returns-then-bytes-len
-returns-then-bytes-len c = let a = c.args in block_short a.len a.third a.fourth a.bytes.now c.if-bytes-len.true
-
-pub returns-then-not-is_signed : goal.returns-then-not-is_signed
-returns-then-not-is_signed c =
-    let a = c.args in
-    block_unsigned a.len a.third a.fourth a.bytes.now c.if-bytes-len.false (ap not (sym c.is_signed.ensures ∙ c.if-not-is_signed.true))
 
 pub returns-then-version-ne0 : goal.returns-then-version-ne0
 returns-then-version-ne0 c =

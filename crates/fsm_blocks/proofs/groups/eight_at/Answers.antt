@@ -1,7 +1,14 @@
 use native.Mathlib.Omega.{arith}
-use Rattle.fsm_blocks.proofs.BytesLaws.{le_at_eight}
+use Prim.Native.Nat.{◌+◌, ◌-◌}
+use lib.ListN.{take, drop}
+use Rattle.std.specs.Array.{IsWholeChunk}
+use Rattle.std.proofs.lemmas.Result.{MatchResult-at_ok}
+use Rattle.fsm_blocks.proofs.BytesLaws.{le_at_eight, chunk_length, chunk_value}
 use Rattle.fsm_blocks.proofs.groups.eight_at.Goals as goal
 
 pub returns : goal.returns
 returns c =
-    omega (arith, le_at_eight c.args.at c.args.bytes.now c.requires, c.wide.ensures.0, c.wide-2.ensures.0, c.wide-3.ensures.0, c.wide-4.ensures.0, c.wide-5.ensures.0, c.wide-6.ensures.0, c.wide-7.ensures.0, c.wide-8.ensures.0)
+    let a = c.args in
+    let xs = c.unwrap-eight.result in
+    let w = MatchResult-at_ok (λ y. IsWholeChunk (take (a.at + 8 - a.at) (drop a.at a.bytes.now)) y 8) _ xs c.unwrap-eight.ensures c.try_into.ensures.1 in
+    omega (arith, c.from_le_bytes.ensures, le_at_eight 0 xs (omega (arith, chunk_length a.at 8 a.bytes.now xs w)), chunk_value a.at 8 a.bytes.now xs w)

@@ -1,27 +1,22 @@
-use mathlib.Core.Path.{◌≡◌, sym, ap, ◌∙◌}
-use Prim.Native.Nat.{ℕ, ◌+◌, ◌*◌, ◌≤◌}
-use native.Mathlib.Omega.{arith}
-use lib.ListN.{length}
+use mathlib.Core.Path.{sym, ap, ◌∙◌}
+use Prim.Native.Nat.{ℕ}
 use Rattle.fields.specs.Layout.{le_at}
 use Rattle.fields.proofs.LayoutLaws.{le_at-one}
-use Rattle.fsm_blocks.proofs.BytesLaws.{as_read, le_at-two}
+use native.Mathlib.Omega.{arith}
+use Prim.Native.Nat.{◌+◌, ◌-◌}
+use lib.ListN.{take, drop}
+use Rattle.std.specs.Array.{IsWholeChunk}
+use Rattle.std.proofs.lemmas.Result.{MatchResult-at_ok}
+use Rattle.fsm_blocks.proofs.BytesLaws.{le_at-two, chunk_length, chunk_value}
 use Rattle.fsm_blocks.proofs.groups.field_at.Goals as goal
 
-pub returns-then-width-eq8 : goal.returns-then-width-eq8
-returns-then-width-eq8 c =
-    c.eight_at.ensures ∙ ap (λ (n : ℕ). le_at c.args.at n c.args.bytes.now) (sym c.if-width-eq8.true)
+pub returns-in-1 : goal.returns-in-1
+returns-in-1 c = c.from.ensures ∙ sym (le_at-one c.args.at c.args.bytes.now) ∙ ap (λ (n : ℕ). le_at c.args.at n c.args.bytes.now) (sym c.in-1.is)
 
-pub returns-then-width-eq1 : goal.returns-then-width-eq1
-returns-then-width-eq1 c =
-    c.wide.ensures.0 ∙ sym (le_at-one c.args.at c.args.bytes.now) ∙ ap (λ (n : ℕ). le_at c.args.at n c.args.bytes.now) (sym c.if-width-eq1.true)
-
-pub returns-then-width-eq2 : goal.returns-then-width-eq2
-returns-then-width-eq2 c =
-    let w = c.if-width-eq2.true in
-    let h : c.args.at + 2 ≤ length c.args.bytes.now = omega (arith, c.requires.1) in
-    let e : c.wide-then-width-eq2.result + c.wide-then-width-eq2-2.result * 256 ≡ le_at c.args.at 2 c.args.bytes.now =
-    omega (arith, le_at-two c.args.at c.args.bytes.now h, c.wide-then-width-eq2.ensures.0, c.wide-then-width-eq2-2.ensures.0) in
-    e ∙ ap (λ (n : ℕ). le_at c.args.at n c.args.bytes.now) (sym (w))
-
-pub returns : goal.returns
-returns c = c.read_uint_le.ensures ∙ as_read c.args.at c.args.width c.args.bytes.now c.requires.0
+pub returns-in-2 : goal.returns-in-2
+returns-in-2 c =
+    let a = c.args in
+    let xs = c.unwrap-two.result in
+    let w = MatchResult-at_ok (λ y. IsWholeChunk (take (a.at + 2 - a.at) (drop a.at a.bytes.now)) y 2) _ xs c.unwrap-two.ensures c.try_into.ensures.1 in
+    rw c.in-2.is
+    (omega (arith, c.from-in-2.ensures, c.from_le_bytes.ensures, le_at-two 0 xs (omega (arith, chunk_length a.at 2 a.bytes.now xs w)), chunk_value a.at 2 a.bytes.now xs w))

@@ -1,42 +1,33 @@
 -- `inside`: the list that was found lies within the bytes
-use mathlib.Core.Path.{sym, ap, ◌∙◌}
-use mathlib.Core.Bool.{not}
-use Prim.Native.Nat.{◌+◌, ◌≤◌}
-use native.Mathlib.Omega.{arith}
-use lib.ListN.{length}
-use Rattle.fsm_blocks.proofs.SlotsLaws.{count-width, count_none, count-refused, count_at, inside-at}
-use borrow.Author.Rules.{rules}
+use mathlib.Core.List.{List}
+use Prim.Native.Nat.{ℕ}
+use mathlib.Core.Path.{sym, ap, ◌∙◌, subst}
+use Rattle.std.specs.Prelude.{Ok}
+use Rattle.std.proofs.lemmas.Result.{err_from_is_err_and}
+use Rattle.error.specs.Outcome.{Outcome}
+use Rattle.fsm_blocks.specs.Named.{Inside}
+use Rattle.fsm_blocks.specs.Parts.{counted, sections_by}
+use Rattle.fsm_blocks.proofs.SlotsLaws.{count_none, count-refused, count_at}
 use Rattle.fsm_blocks.proofs.manager.manager_count.Goals as goal
 
-pub returns-then-not-is_width : goal.returns-then-not-is_width
-returns-then-not-is_width c =
-    count-width c.args.reading c.args.offset_size c.args.base.0 c.args.slot c.args.bytes.now (ap not (sym c.is_width.ensures ∙ c.if-not-is_width.true))
+pub returns-in_err-list : goal.returns-in_err-list
+returns-in_err-list c =
+    let e = sym c.in_ok-size.ensures in rw e
+    (let p = err_from_is_err_and c.from_residual-in_err-list.result c.from_residual-in_err-list.ensures.1 in rw (p.1, p.2)
+    (count-refused c.args.reading c.in_ok-size.size.bytes c.args.base.0 c.args.slot c.args.bytes.now c.in_ok-size.size.width _ c.locate.ensures.named _ c.in_err-list.was))
 
-pub locate-found-requires : goal.locate-found-requires
-locate-found-requires c = ap not (sym c.is_width.ensures ∙ c.if-not-is_width.false)
+pub returns-in_default : goal.returns-in_default
+returns-in_default c =
+    let e = sym c.in_ok-size.ensures in rw e
+    (count_none c.args.reading c.in_ok-size.size.bytes c.args.base.0 c.args.slot c.args.bytes.now c.in_ok-size.size.width _ c.locate.ensures.named (c.in_ok-list.was ∙ ap Ok c.in_default.is))
 
-pub overflow_add-end : goal.overflow_add-end
-overflow_add-end c =
-    let inside : (c.in-At.start + c.in-At.header.fsse_used ≤ length c.args.bytes.now) = inside-at _ _ _ _ c.locate-found.ensures.inside c.in-At.is in
-    omega (arith, inside)
+pub of-requires : goal.of-requires
+of-requires c = subst (Inside _) (c.in_ok-list.was ∙ ap Ok c.in-Some.is) c.locate.ensures.inside
 
-pub slice_bounds-fsse_count-end : goal.slice_bounds-fsse_count-end
-slice_bounds-fsse_count-end c =
-    let inside : (c.in-At.start + c.in-At.header.fsse_used ≤ length c.args.bytes.now) = inside-at _ _ _ _ c.locate-found.ensures.inside c.in-At.is in
-    let h = inside in search rules
-
-pub fsse_count-requires : goal.fsse_count-requires
-fsse_count-requires c = ap not (sym c.is_width.ensures ∙ c.if-not-is_width.false)
-
-pub returns-in-Nowhere : goal.returns-in-Nowhere
-returns-in-Nowhere c =
-    count_none c.args.reading c.args.offset_size c.args.base.0 c.args.slot c.args.bytes.now (ap not (sym c.is_width.ensures ∙ c.if-not-is_width.false)) _ c.locate-found.ensures.named c.in-Nowhere.is
-
-pub returns-in-Refused : goal.returns-in-Refused
-returns-in-Refused c =
-    count-refused c.args.reading c.args.offset_size c.args.base.0 c.args.slot c.args.bytes.now (ap not (sym c.is_width.ensures ∙ c.if-not-is_width.false)) _ c.locate-found.ensures.named _ c.in-Refused.is
-
-pub returns-in-At : goal.returns-in-At
-returns-in-At c =
-    count_at c.args.reading c.args.offset_size c.args.base.0 c.args.slot c.args.bytes.now (ap not (sym c.is_width.ensures ∙ c.if-not-is_width.false)) _ c.locate-found.ensures.named
-    _ _ c.in-At.is _ c.fsse_count.ensures
+pub returns : goal.returns
+returns c =
+    let b = c.in_ok-size.size.bytes in
+    let count : List ℕ → Outcome ℕ = λ bs. counted (sections_by c.in-Some.list.header b bs) in
+    let e = sym c.in_ok-size.ensures in rw e
+    (count_at c.args.reading b c.args.base.0 c.args.slot c.args.bytes.now c.in_ok-size.size.width _ c.locate.ensures.named
+    c.in-Some.list.start c.in-Some.list.header (c.in_ok-list.was ∙ ap Ok c.in-Some.is) _ (c.fsse_count.ensures ∙ ap count c.of.ensures))

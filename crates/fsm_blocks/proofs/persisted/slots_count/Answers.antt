@@ -1,21 +1,27 @@
+use Rattle.error.specs.Outcome.{sat}
+use Rattle.std.proofs.lemmas.Result.{err_from_is_err_and}
 use Rattle.fsm_blocks.proofs.SlotsLaws.{sum_start, sum_refused, sum_step, sum_end}
 use Rattle.fsm_blocks.proofs.persisted.slots_count.Goals as goal
 
-pub loop-i-init : goal.loop-i-init
-loop-i-init c = let a = c.args in sum_start a.reading a.offset_size a.base.0 a.bytes.now a.slots.now
+pub loop-slot-init : goal.loop-slot-init
+loop-slot-init c = let a = c.args in sum_start a.reading a.size.bytes a.base.0 a.bytes.now a.slots.now
 
-pub returns-in_default : goal.returns-in_default
-returns-in_default c =
-    let l = c.loop-i in
-    sum_refused c.args.reading c.args.offset_size c.args.base.0 c.args.bytes.now c.args.slots.now l.needed l.i l.invariant c.loop-i-test.true c.requires _ c.in_default.is c.manager_count-sections.ensures
+pub returns-in_err-n : goal.returns-in_err-n
+returns-in_err-n c =
+    let a = c.args in
+    let l = c.loop-slot in
+    let p = err_from_is_err_and c.from_residual.result c.from_residual.ensures.1 in rw (p.1, p.2)
+    (sum_refused a.reading a.size.bytes a.base.0 a.bytes.now a.slots.now l.needed l.slot-index l.invariant c.loop-slot-test.true c.args.size.width _ c.in_err-n.was c.manager_count.ensures)
 
-pub loop-i-preserved : goal.loop-i-preserved
-loop-i-preserved c =
-    let l = c.loop-i in
-    sum_step c.args.reading c.args.offset_size c.args.base.0 c.args.bytes.now c.args.slots.now l.needed l.i l.invariant c.loop-i-test.true c.requires _ c.in-Is.is c.manager_count-sections.ensures _ c.saturating_add-needed.ensures
+pub loop-slot-preserved : goal.loop-slot-preserved
+unfolding sat
+loop-slot-preserved c =
+    let a = c.args in
+    let l = c.loop-slot in
+    sum_step a.reading a.size.bytes a.base.0 a.bytes.now a.slots.now l.needed l.slot-index l.invariant c.loop-slot-test.true c.args.size.width _ c.in_ok-n.was c.manager_count.ensures _ c.saturating_add-needed.ensures
 
 pub returns : goal.returns
 returns c =
     let a = c.args in
-    let l = c.loop-i in
-    sum_end a.reading a.offset_size a.base.0 a.bytes.now a.slots.now l.needed l.i l.invariant c.loop-i-test.false
+    let l = c.loop-slot in
+    sum_end a.reading a.size.bytes a.base.0 a.bytes.now a.slots.now l.needed l.slot-index l.invariant c.loop-slot-test.false

@@ -1,21 +1,17 @@
-use native.Mathlib.Omega.{arith}
-use Rattle.fsm_plan.proofs.MeasureLaws.{none_len, used_over, blocks_over, blocks_are}
+use Rattle.std.proofs.lemmas.Result.{err_from_is_err_and}
+use Rattle.fsm_plan.proofs.MeasureLaws.{none_len, used_over, blocks_by}
 use Rattle.fsm_plan.proofs.measure.blocks_len.Goals as goal
 
 pub returns-then-count-eq0 : goal.returns-then-count-eq0
 returns-then-count-eq0 c = let a = c.args in none_len a.offset_size a.count a.sizes c.if-count-eq0.true
 
-pub returns-in_default : goal.returns-in_default
-returns-in_default c =
+pub returns-in_err-used : goal.returns-in_err-used
+returns-in_err-used c =
     let a = c.args in
-    used_over a.offset_size a.count a.sizes c.if-count-eq0.false _ c.fsse_used.ensures _ c.in_default.is
-
-pub returns-then-head-used : goal.returns-then-head-used
-returns-then-head-used c =
-    let a = c.args in
-    blocks_over a.offset_size a.count a.sizes c.if-count-eq0.false _ c.fsse_used.ensures _ c.in-Is.is (omega (arith, c.if-head-used.true))
+    let p = err_from_is_err_and c.from_residual.result c.from_residual.ensures.1 in
+    rw (p.1, p.2) (used_over a.offset_size a.count a.sizes c.if-count-eq0.false _ c.fsse_used.ensures _ c.in_err-used.was)
 
 pub returns : goal.returns
 returns c =
     let a = c.args in
-    blocks_are a.offset_size a.count a.sizes c.if-count-eq0.false _ c.fsse_used.ensures _ c.in-Is.is (omega (arith, c.if-head-used.false))
+    blocks_by a.offset_size a.count a.sizes c.if-count-eq0.false _ c.fsse_used.ensures _ c.in_ok-used.was _ c.from-head.ensures _ c.checked_add.ensures _ c.ok_or.ensures.value

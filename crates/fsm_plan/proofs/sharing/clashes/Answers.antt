@@ -1,37 +1,18 @@
-use Rattle.fsm_plan.proofs.SharingLaws.{apart_start, apart_found, apart_step, apart_end, taking}
+use Rattle.std.proofs.Common.{refl}
+use Rattle.fsm_sections.specs.Steps.{rest}
+use Rattle.fsm_plan.proofs.SharingLaws.{apart_start, apart_found, apart_step, apart_end}
 use Rattle.fsm_plan.proofs.sharing.clashes.Goals as goal
 
-pub loop-s-init : goal.loop-s-init
-loop-s-init c =
-    let a = c.args in
-    apart_start a.s a.a.now a.b.now a.c.now c.requires _ c.start-at.ensures
+pub loop-t-init : goal.loop-t-init
+loop-t-init c = apart_start (rest c.args.all) c.args.all c.requires refl
 
-pub returns-then-t : goal.returns-then-t
-returns-then-t c =
-    let a = c.args in
-    let l = c.loop-s in
-    apart_end a.s a.a.now a.b.now a.c.now c.requires l.at _ c.next_chain-t.ensures c.if-t.true l.invariant
-
-pub meets-requires : goal.meets-requires
-meets-requires c =
-    let a = c.args in
-    record { given = c.requires; pages = (taking a.s a.a.now a.b.now a.c.now c.requires c.loop-s.at _ c.next_chain-t.ensures c.if-t.false).pages }
+pub loop-t-preserved : goal.loop-t-preserved
+loop-t-preserved c =
+    apart_step (rest c.args.all) c.loop-t.left c.in-Some.t c.next.new.self c.in-Some.ensures.steps c.loop-t.invariant c.meets.result c.meets.ensures c.if-meets.false
 
 pub returns-then-meets : goal.returns-then-meets
 returns-then-meets c =
-    let a = c.args in
-    let l = c.loop-s in
-    let m = c.meets in
-    apart_found a.s a.a.now a.b.now a.c.now c.requires l.at _ c.next_chain-t.ensures c.if-t.false l.invariant m.result m.ensures c.if-meets.true
+    apart_found (rest c.args.all) c.loop-t.left c.in-Some.t c.next.new.self c.in-Some.ensures.steps c.loop-t.invariant c.meets.result c.meets.ensures c.if-meets.true
 
-pub loop-s-smaller : goal.loop-s-smaller
-loop-s-smaller c =
-    let a = c.args in
-    (taking a.s a.a.now a.b.now a.c.now c.requires c.loop-s.at _ c.next_chain-t.ensures c.if-t.false).less
-
-pub loop-s-preserved : goal.loop-s-preserved
-loop-s-preserved c =
-    let a = c.args in
-    let l = c.loop-s in
-    let m = c.meets in
-    apart_step a.s a.a.now a.b.now a.c.now c.requires l.at _ c.next_chain-t.ensures c.if-t.false l.invariant m.result m.ensures c.if-meets.false
+pub returns : goal.returns
+returns c = apart_end c.loop-t.left c.in_default.ensures.steps (rest c.args.all) c.loop-t.invariant

@@ -1,9 +1,9 @@
-use Rattle.fsm_sections.specs.Steps.{left}
+use Rattle.fsm_sections.specs.Steps.{rest, left}
 use Rattle.fsm_plan.proofs.SharingLaws.{Apart}
 use Rattle.fsm_plan.proofs.sharing.clashes.Given as goal
 
-abbrev pub invariant-loop-s : goal.invariant-loop-s
-invariant-loop-s l = Apart l.s l.a l.b l.c l.at
+abbrev pub invariant-loop-t : goal.invariant-loop-t
+invariant-loop-t l = Apart (rest l.fn.all) l.left
 
-abbrev pub decreases-loop-s : goal.decreases-loop-s
-decreases-loop-s l = left l.s l.a l.b l.c l.at
+abbrev pub decreases-loop-t : goal.decreases-loop-t
+decreases-loop-t l = left l.left

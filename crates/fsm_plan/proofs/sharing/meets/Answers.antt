@@ -1,37 +1,27 @@
-use mathlib.Core.Path.{refl}
-use Rattle.fsm_plan.proofs.SharingLaws.{alike, unmet_found, unmet_step, unmet_end, taking}
+use Rattle.std.proofs.Common.{refl, ◌∙◌}
+use Rattle.fsm_plan.proofs.SharingLaws.{alike, unmet_found, unmet_step, unmet_end}
 use Rattle.fsm_plan.proofs.sharing.meets.Goals as goal
 
-pub loop-s-init : goal.loop-s-init
-loop-s-init c = λ x h. refl
-
-pub returns-then-u : goal.returns-then-u
-returns-then-u c =
-    let a = c.args in
-    let l = c.loop-s in
-    unmet_end a.s a.a.now a.b.now a.c.now c.requires.given l.at _ c.next_chain-u.ensures c.if-u.true a.t l.invariant
+pub loop-u-init : goal.loop-u-init
+loop-u-init c = rw c.into_iter-u-iterator.ensures.into_iter_gives ((λ z h. refl), c.requires.go, refl)
 
 pub shares-requires : goal.shares-requires
 shares-requires c =
-    let a = c.args in
-    let u = c.next_chain-u in
-    alike a.s.page a.t.chain u.result.chain c.requires.pages (taking a.s a.a.now a.b.now a.c.now c.requires.given c.loop-s.at _ u.ensures c.if-u.false).pages
+    let w = c.in-Some.ensures.steps in
+    alike c.args.left.source.page c.args.t c.in-Some.u c.requires.pages (rw (← c.loop-u.invariant.2) w.pages)
 
 pub returns-then-shares : goal.returns-then-shares
 returns-then-shares c =
-    let a = c.args in
-    let l = c.loop-s in
+    let i = c.loop-u.invariant in
     let m = c.shares in
-    unmet_found a.s a.a.now a.b.now a.c.now c.requires.given l.at _ c.next_chain-u.ensures c.if-u.false a.t l.invariant m.result m.ensures c.if-shares.true
+    unmet_found c.loop-u.u-iterator c.in-Some.u c.next.new.self c.in-Some.ensures.steps i.1 c.args.t c.args.left i.0 m.result m.ensures c.if-shares.true
 
-pub loop-s-smaller : goal.loop-s-smaller
-loop-s-smaller c =
-    let a = c.args in
-    (taking a.s a.a.now a.b.now a.c.now c.requires.given c.loop-s.at _ c.next_chain-u.ensures c.if-u.false).less
-
-pub loop-s-preserved : goal.loop-s-preserved
-loop-s-preserved c =
-    let a = c.args in
-    let l = c.loop-s in
+pub loop-u-preserved : goal.loop-u-preserved
+loop-u-preserved c =
+    let i = c.loop-u.invariant in
     let m = c.shares in
-    unmet_step a.s a.a.now a.b.now a.c.now c.requires.given l.at _ c.next_chain-u.ensures c.if-u.false a.t l.invariant m.result m.ensures c.if-shares.false
+    let w = c.in-Some.ensures.steps in
+    (unmet_step c.loop-u.u-iterator c.in-Some.u c.next.new.self w i.1 c.args.t c.args.left i.0 m.result m.ensures c.if-shares.false, w.goes i.1, w.source ∙ i.2)
+
+pub returns : goal.returns
+returns c = let i = c.loop-u.invariant in unmet_end c.loop-u.u-iterator c.in-None.ensures.steps c.args.t c.args.left i.0

@@ -1,9 +1,7 @@
-use Rattle.fsm_sections.specs.Steps.{left}
+use Rattle.std.proofs.Common.{◌≡◌}
+use Rattle.fsm_sections.specs.Steps.{CanGo}
 use Rattle.fsm_plan.proofs.SharingLaws.{Unmet}
 use Rattle.fsm_plan.proofs.sharing.meets.Given as goal
 
-abbrev pub invariant-loop-s : goal.invariant-loop-s
-invariant-loop-s l = Unmet l.s l.a l.b l.c l.t l.at
-
-abbrev pub decreases-loop-s : goal.decreases-loop-s
-decreases-loop-s l = left l.s l.a l.b l.c l.at
+abbrev pub invariant-loop-u : goal.invariant-loop-u
+invariant-loop-u l = Unmet l.t l.fn.left l.u-iterator × CanGo l.u-iterator × (l.u-iterator.source ≡ l.fn.left.source)

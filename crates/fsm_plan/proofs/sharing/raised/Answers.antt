@@ -1,6 +1,6 @@
 use native.Mathlib.Omega.{arith}
 use Rattle.fsm_sections.proofs.ChainLaws.{last_fits}
-use Rattle.fsm_plan.proofs.SharingLaws.{raised_none, raised_to}
+use Rattle.fsm_plan.proofs.SharingLaws.{raised_none, raised_by}
 use Rattle.fsm_plan.proofs.sharing.raised.Goals as goal
 
 pub returns-then-t-eq0 : goal.returns-then-t-eq0
@@ -16,12 +16,7 @@ overflow_add-last c =
     let a = c.args in
     omega (arith, last_fits a.t.addr a.t.size a.t.count c.requires (omega arith) c.if-t-eq0.false)
 
-pub overflow_add-result : goal.overflow_add-result
-overflow_add-result c =
-    let a = c.args in
-    omega (arith, last_fits a.t.addr a.t.size a.t.count c.requires (omega arith) c.if-t-eq0.false)
-
 pub returns : goal.returns
 returns c =
     let a = c.args in
-    raised_to a.floor a.t c.if-t-floor.false
+    raised_by a.floor a.t c.if-t-floor.false _ c.checked_add.ensures

@@ -1,3 +1,4 @@
+use Rattle.std.proofs.Common.{refl}
 use Rattle.fsm_sections.proofs.SourceLaws.{part_is, head_chain, whole-chain, pages-is, tail_is, left_within}
 use Rattle.fsm_sections.specs.Sections.{section}
 use Rattle.fsm_sections.proofs.parts.part_chain.Goals as goal
@@ -15,13 +16,13 @@ pub returns-in-Pages : goal.returns-in-Pages
 returns-in-Pages c =
     let a = c.args in
     pages-is a.part a.page a.addr a.size _ _ _ c.in-Pages.is c.head_size-head.ensures
-    c.quotient.ensures c.wrapping_add_u64.ensures.value
+    c.quotient.ensures refl
 
 pub returns-in-Tail : goal.returns-in-Tail
 returns-in-Tail c =
     let a = c.args in
     tail_is a.part a.page a.addr a.size _ _ _ _ c.in-Tail.is c.head_size-in-Tail.ensures
-    c.remainder-left.ensures c.wrapping_add_u64-in-Tail.ensures.value c.one_chain-in-Tail.ensures
+    c.remainder-left.ensures refl c.one_chain-in-Tail.ensures
 
 pub returns-in-Whole : goal.returns-in-Whole
 returns-in-Whole c =

@@ -1,59 +1,40 @@
-use Rattle.std.proofs.Common.{◌+◌, ltb, sym, refl, ap, ◌∙◌, subst, arith}
-use Rattle.fsm_sections.specs.declared.run.RunCursor.{RunCursor}
-use Rattle.fsm_sizes.proofs.NoteLaws.{of_one, stands_alike, stands-full, stands_then}
-use Rattle.fsm_sizes.proofs.SourceSizesLaws.{Seen, seen_none, seen_row, seen_all}
+use Rattle.std.proofs.Common.{◌+◌, ltb, refl, ap, ◌∙◌, arith}
+use Rattle.fsm_sections.specs.RunSteps.{rows_left}
+use Rattle.fsm_sizes.proofs.NoteLaws.{of_one, stands_alike, stands_then, stands-over-by}
+use Rattle.fsm_sizes.proofs.SourceSizesLaws.{seen_none, seen_row, seen_all}
 use Rattle.fsm_sizes.proofs.windows.gather_run.Goals as goal
 
-pub loop-of-init : goal.loop-of-init
-loop-of-init c =
+pub loop-r-init : goal.loop-r-init
+loop-r-init c =
+    ((λ x. 0), seen_none _ c.into_iter-r-iterator.result (ap rows_left c.into_iter-r-iterator.ensures.into_iter_gives ∙ c.new-r-items.ensures), c.requires.room.2, c.requires.stands)
+
+pub note-requires : goal.note-requires
+note-requires c =
+    let i = c.loop-r.invariant in
+    let t = i.3 in
+    record { room = (t.room, omega (arith, i.2, t.same), c.requires.room.1); table = t.table i.2 }
+
+pub returns-in_err-found : goal.returns-in_err-found
+returns-in_err-found c =
     let a = c.args in
-    ((λ x. 0), subst (λ (at : RunCursor). Seen a.part a.page a.count a.run.now at (λ x. 0)) (sym c.start-at.ensures) (seen_none a.part a.page a.count a.run.now), c.requires.stands)
+    let i = c.loop-r.invariant in
+    let r = c.in-Some.r in
+    rw c.from_residual.ensures (stands-over-by a.w.from a.w.reach _ _ _ _ _ _ _ _ i.3 i.2 (of_one r.size r.count) _ _ _ c.in_err-found.ensures)
 
-pub shape_of-of-then-of-found : goal.shape_of-of-then-of-found
-shape_of-of-then-of-found c = c.loop-of.invariant.2.same
-
-pub shape_of-link-then-of-found : goal.shape_of-link-then-of-found
-shape_of-link-then-of-found c = let t = c.loop-of.invariant.2 in t.room.alike ∙ t.same ∙ sym c.requires.room.0.alike
-
-pub shape_of-slot-then-of-found : goal.shape_of-slot-then-of-found
-shape_of-slot-then-of-found c = let t = c.loop-of.invariant.2 in t.room.slots ∙ t.same ∙ sym c.requires.room.0.slots
-
-pub returns-then-of-found : goal.returns-then-of-found
-returns-then-of-found c =
-    let t = c.loop-of.invariant.2 in stands-full c.args.w.from c.args.w.reach _ _ _ _ _ _ _ _ t (omega (arith, c.if-of-found.true, t.same))
-
-pub shape_of-of-then-r : goal.shape_of-of-then-r
-shape_of-of-then-r c = c.loop-of.invariant.2.same
-
-pub shape_of-link-then-r : goal.shape_of-link-then-r
-shape_of-link-then-r c = let t = c.loop-of.invariant.2 in t.room.alike ∙ t.same ∙ sym c.requires.room.0.alike
-
-pub shape_of-slot-then-r : goal.shape_of-slot-then-r
-shape_of-slot-then-r c = let t = c.loop-of.invariant.2 in t.room.slots ∙ t.same ∙ sym c.requires.room.0.slots
-
-pub returns-then-r : goal.returns-then-r
-returns-then-r c =
+pub loop-r-preserved : goal.loop-r-preserved
+loop-r-preserved c =
     let a = c.args in
-    let i = c.loop-of.invariant in
-    stands_alike a.w.from a.w.reach _ _ _ _ _ _ _ _ i.2
-    (λ x. ap (ltb 0) (seen_all a.part a.page a.count a.run.now _ _ c.next_row-r.ensures i.0 i.1 c.if-r.true x))
-
-pub note-found-requires : goal.note-found-requires
-note-found-requires c =
-    let t = c.loop-of.invariant.2 in
-    record { room = (t.room, omega (arith, c.if-of-found.false), c.requires.room.1); table = t.table (omega (arith, c.if-of-found.false, t.same)) }
-
-pub loop-of-smaller : goal.loop-of-smaller
-loop-of-smaller c = c.next_row-r.ensures.less c.if-r.false
-
-pub loop-of-preserved : goal.loop-of-preserved
-loop-of-preserved c =
-    let a = c.args in
-    let i = c.loop-of.invariant in
-    let r = c.next_row-r in
-    let z = r.result.size in
-    let n = r.result.count in (
-      (λ x. i.0 x + of_one z n x),
-      seen_row a.part a.page a.count a.run.now _ _ r.ensures i.0 i.1 c.if-r.false,
-      stands_then a.w.from a.w.reach _ _ _ _ _ _ _ _ i.2 (omega (arith, c.if-of-found.false, i.2.same)) (of_one z n) _ _ _ _ c.note-found.ensures (λ x. refl),
+    let i = c.loop-r.invariant in
+    let r = c.in-Some.r in
+    let e = c.in_ok-found.ensures in (
+      (λ x. i.0 x + of_one r.size r.count x),
+      seen_row _ c.loop-r.r-iterator c.next.new.self i.0 i.1 r c.in-Some.ensures.steps,
+      omega (arith, e.0, i.3.same),
+      stands_then a.w.from a.w.reach _ _ _ _ _ _ _ _ i.3 i.2 (of_one r.size r.count) _ _ _ _ e.1 (λ x. refl),
     )
+
+pub returns : goal.returns
+returns c =
+    let a = c.args in
+    let i = c.loop-r.invariant in
+    (i.2, stands_alike a.w.from a.w.reach _ _ _ _ _ _ _ _ i.3 (λ x. ap (ltb 0) (seen_all _ c.loop-r.r-iterator c.next.new.self i.0 i.1 c.in-None.ensures.steps x)))

@@ -1,4 +1,4 @@
-use Prim.Native.Nat.{◌-◌, ◌≤◌}
+use Prim.Native.Nat.{◌≤◌}
 use lib.ListN.{length}
 use Rattle.text.specs.Text.{written}
 use Rattle.text.proofs.TextLaws.{Printing}
@@ -8,6 +8,3 @@ use Rattle.holes_text.proofs.listing.write_listing.Given as goal
 abbrev pub invariant-loop-slot : goal.invariant-loop-slot
 invariant-loop-slot l =
     (l.from ≤ length l.run) × Printing (written l.initial.to (slots_from l.counts l.run 0 0) l.initial.out) l.to (slots_from l.counts l.run l.slot l.from) l.out
-
-abbrev pub decreases-loop-slot : goal.decreases-loop-slot
-decreases-loop-slot l = length l.counts - l.slot

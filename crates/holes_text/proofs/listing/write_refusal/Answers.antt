@@ -7,4 +7,4 @@ pub returns : goal.returns
 unfolding refused_text
 returns c =
     let a = c.args in
-    then 0 refused_line (word a.number 10) a.out.now c.write_bytes-second.ensures c.write_word.ensures
+    rw (← c.from.ensures) (then 0 refused_line (word c.from.result 10) a.out.now c.write_bytes-second.ensures c.write_word.ensures)

@@ -1,4 +1,3 @@
-use Prim.Native.Nat.{◌-◌, ◌≤◌}
 use Rattle.fsm_sections.specs.Sections.{decode}
 use Rattle.text.specs.Text.{written}
 use Rattle.holes_text.specs.Listing.{slot_text}
@@ -8,7 +7,4 @@ use Rattle.holes_text.proofs.listing.write_slot.Given as goal
 
 abbrev pub invariant-loop-i : goal.invariant-loop-i
 invariant-loop-i l =
-    (l.i ≤ l.n) × Printing (written l.at (slot_text l.slot (decode l.count l.run)) l.initial.out) l.to (lines_from l.slot l.n l.run l.i) l.out
-
-abbrev pub decreases-loop-i : goal.decreases-loop-i
-decreases-loop-i l = l.n - l.i
+    Printing (written l.at (slot_text l.slot (decode l.count l.run)) l.initial.out) l.to (lines_from l.slot l.n l.run l.i) l.out

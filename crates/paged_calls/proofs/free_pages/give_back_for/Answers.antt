@@ -1,26 +1,29 @@
-use Rattle.paged_calls.proofs.FreeLeftLaws.{joins_metadata, leaves-metadata, joins_raw, leaves-raw}
+use Rattle.std.proofs.lemmas.Result.{err_from_is_err_and}
+use Rattle.paged_calls.proofs.FreeLeftLaws.{leaves-metadata, leaves-raw}
 use Rattle.paged_calls.proofs.free_pages.give_back_for.Goals as goal
 
-pub give_back-step-requires : goal.give_back-step-requires
-give_back-step-requires c =
+pub returns-in_err-step-in-Meta : goal.returns-in_err-step-in-Meta
+returns-in_err-step-in-Meta c =
     let a = c.args in
-    joins_metadata a.page a.kind a.f a.metadata.now a.raw.now a.unclassified.now a.marks.now a.lists _ c.in-Meta.is c.both.ensures a.own
-    c.requires
+    let p = err_from_is_err_and c.from_residual.result c.from_residual.ensures.1 in
+    rw (p.1, p.2) (leaves-metadata a.page a.kind a.f a.metadata.now a.raw.now a.unclassified.now a.marks.now a.lists _ _ _ _ c.in-Meta.is
+    c.give_back.ensures c.in_err-step-in-Meta.was)
 
-pub give_back-step-requires-in-Raw : goal.give_back-step-requires-in-Raw
-give_back-step-requires-in-Raw c =
+pub returns-in_err-step-in-Raw : goal.returns-in_err-step-in-Raw
+returns-in_err-step-in-Raw c =
     let a = c.args in
-    joins_raw a.page a.kind a.f a.metadata.now a.raw.now a.unclassified.now a.marks.now a.lists _ c.in-Raw.is c.both-in-Raw.ensures a.own
-    c.requires
+    let p = err_from_is_err_and c.from_residual-in_err-step-in-Raw.result c.from_residual-in_err-step-in-Raw.ensures.1 in
+    rw (p.1, p.2) (leaves-raw a.page a.kind a.f a.metadata.now a.raw.now a.unclassified.now a.marks.now a.lists _ _ _ _ c.in-Raw.is
+    c.give_back-in-Raw.ensures c.in_err-step-in-Raw.was)
 
-pub returns-in-Meta : goal.returns-in-Meta
-returns-in-Meta c =
+pub returns-in_ok-step-in-Meta : goal.returns-in_ok-step-in-Meta
+returns-in_ok-step-in-Meta c =
     let a = c.args in
-    leaves-metadata a.page a.kind a.f a.metadata.now a.raw.now a.unclassified.now a.marks.now a.lists _ c.in-Meta.is
-    c.both.ensures _ _ _ _ _ _ c.give_back-step.ensures _ c.applied.ensures
+    leaves-metadata a.page a.kind a.f a.metadata.now a.raw.now a.unclassified.now a.marks.now a.lists _ _ _ _ c.in-Meta.is
+    c.give_back.ensures c.in_ok-step-in-Meta.was
 
-pub returns-in-Raw : goal.returns-in-Raw
-returns-in-Raw c =
+pub returns-in_ok-step-in-Raw : goal.returns-in_ok-step-in-Raw
+returns-in_ok-step-in-Raw c =
     let a = c.args in
-    leaves-raw a.page a.kind a.f a.metadata.now a.raw.now a.unclassified.now a.marks.now a.lists _ c.in-Raw.is
-    c.both-in-Raw.ensures _ _ _ _ _ _ c.give_back-step-in-Raw.ensures _ c.applied-in-Raw.ensures
+    leaves-raw a.page a.kind a.f a.metadata.now a.raw.now a.unclassified.now a.marks.now a.lists _ _ _ _ c.in-Raw.is
+    c.give_back-in-Raw.ensures c.in_ok-step-in-Raw.was

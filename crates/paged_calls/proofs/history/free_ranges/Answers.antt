@@ -1,31 +1,25 @@
-use mathlib.Core.Path.{refl, sym, ap, ◌∙◌}
+use mathlib.Core.Path.{sym, ap, ◌∙◌}
+use mathlib.Core.List.{List}
+use Prim.Native.Nat.{ℕ}
 use native.Mathlib.Omega.{arith}
-use borrow.Author.Rules.{rules}
+use Rattle.free_lists.specs.Lists.{lists_in}
 use Rattle.free_lists.specs.History.{lists_after}
 use Rattle.paged_lists.specs.PagedHistory.{on_shared}
 use Rattle.paged_calls.specs.Encoding.{frees_of}
-use Rattle.paged_calls.proofs.HistoryLaws.{empty_lists_lem, free_step, free-end}
+use Rattle.paged_calls.proofs.HistoryLaws.{free_step, free-end}
 use Rattle.paged_calls.proofs.history.free_ranges.Goals as goal
 
-pub loop-at-init : goal.loop-at-init
-loop-at-init c =
-    let a = c.args in (
-      search rules,
-      (refl, refl, refl),
-      ap (lists_after (on_shared (frees_of a.frees.now)))
-          (empty_lists_lem a.metadata.now a.raw.now a.unclassified.now _ _ _ c.new.ensures c.new-2.ensures c.new-3.ensures),
-    )
-
-pub overflow_add-at-in-loop-at : goal.overflow_add-at-in-loop-at
-overflow_add-at-in-loop-at c = omega (arith, c.loop-at-test.true, c.well_formed)
-
-pub loop-at-preserved : goal.loop-at-preserved
-loop-at-preserved c =
-    let l = c.loop-at in (
-      search rules,
-      (search rules, search rules, search rules),
-      l.invariant.2 ∙ free_step _ l.at _ _ (omega (arith, c.loop-at-test.true)) c.apply-applied.ensures.lists,
+pub loop-range-preserved : goal.loop-range-preserved
+loop-range-preserved c =
+    let l = c.loop-range in
+    let steps = c.in-Some.ensures.steps in (
+      steps.0 ∙ l.invariant.0,
+      l.invariant.1 ∙ ap (λ (rest : List ℕ). lists_after (on_shared (frees_of rest)) (lists_in l.metadata l.raw l.unclassified l.lists)) steps.1.0
+          ∙ free_step _ _ _ _ (steps.1.1 ∙ l.invariant.0) c.apply-applied.ensures.lists,
     )
 
 pub returns : goal.returns
-returns c = let l = c.loop-at in sym (l.invariant.2 ∙ free-end _ l.at _ (omega arith))
+returns c =
+    let l = c.loop-range in
+    let steps = c.in-None.ensures.steps in
+    sym (l.invariant.1 ∙ free-end _ _ (omega (arith, steps.1.0, l.invariant.0)))

@@ -1,23 +1,24 @@
-use mathlib.Core.Path.{refl, sym, ◌∙◌}
+use mathlib.Core.Path.{sym, ap, ◌∙◌}
+use mathlib.Core.List.{List}
+use Prim.Native.Nat.{ℕ}
 use native.Mathlib.Omega.{arith}
-use borrow.Author.Rules.{rules}
+use Rattle.paged_lists.specs.PagedCalls.{paged_in}
+use Rattle.paged_lists.specs.PagedHistory.{paged_after}
+use Rattle.paged_calls.specs.Encoding.{paged_calls_of}
 use Rattle.paged_calls.proofs.HistoryLaws.{call_step, call_end}
 use Rattle.paged_calls.proofs.history.make_in_pages.Goals as goal
 
-pub loop-at-init : goal.loop-at-init
-loop-at-init c = (search rules, (refl, refl, refl, refl), refl)
-
-pub overflow_add-at-in-loop-at-4 : goal.overflow_add-at-in-loop-at-4
-overflow_add-at-in-loop-at-4 c = omega (arith, c.loop-at-test.true, c.well_formed)
-
-pub loop-at-preserved : goal.loop-at-preserved
-loop-at-preserved c =
-    let l = c.loop-at in (
-      search rules,
-      (search rules, search rules, search rules, search rules),
-      l.invariant.2
-          ∙ call_step _ l.at _ _ _ _ _ _ c.type_of-kind.ensures c.paged_call_of-call.ensures (omega (arith, c.loop-at-test.true)) c.perform-applied.ensures,
+pub loop-row-preserved : goal.loop-row-preserved
+loop-row-preserved c =
+    let l = c.loop-row in
+    let steps = c.in-Some.ensures.steps in (
+      steps.0 ∙ l.invariant.0,
+      l.invariant.1 ∙ ap (λ (rest : List ℕ). paged_after c.args.page (paged_calls_of rest) (paged_in l.metadata l.raw l.unclassified l.marks l.lists)) steps.1.0
+          ∙ call_step _ _ _ _ _ _ _ _ (steps.1.1 ∙ l.invariant.0) c.type_of.ensures c.paged_call_of-call.ensures c.perform-applied.ensures,
     )
 
 pub returns : goal.returns
-returns c = let l = c.loop-at in sym (l.invariant.2 ∙ call_end _ l.at _ _ (omega arith))
+returns c =
+    let l = c.loop-row in
+    let steps = c.in-None.ensures.steps in
+    sym (l.invariant.1 ∙ call_end _ _ _ (omega (arith, steps.1.0, l.invariant.0)))

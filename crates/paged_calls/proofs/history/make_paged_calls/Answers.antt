@@ -11,4 +11,4 @@ returns c =
     let u = a.unclassified.now in
     let ms = a.marks.now in
     shown a.page (runs_of m r u) (length ms) (frees_of a.frees.now) (paged_calls_of a.calls.now) _ _
-    (begun-is m r u a.frees.now ms _ _ c.free_ranges-lists.ensures c.set_marks.ensures) c.make_in_pages.ensures
+    (begun-is m r u a.frees.now ms _ _ c.free_ranges-lists.ensures (c.fill.ensures.after (λ y e. e))) c.make_in_pages.ensures

@@ -5,11 +5,8 @@ use native.Mathlib.Omega.{arith}
 use Rattle.pairs.specs.declared.Pair.{Pair}
 use Rattle.free_regions.specs.Regions.{region}
 use Rattle.free_space.specs.Runs.{region_at}
-use Rattle.paged_calls.proofs.CodeLaws.{last-region, none_reached, last_reached}
+use Rattle.paged_calls.proofs.CodeLaws.{last-region, last_reached}
 use Rattle.paged_calls.proofs.tests.end_of.Goals as goal
-
-pub returns-then-list-eq0 : goal.returns-then-list-eq0
-returns-then-list-eq0 c = none_reached c.args.run.now c.args.list c.if-list-eq0.true
 
 pub overflow_add-result : goal.overflow_add-result
 overflow_add-result c =

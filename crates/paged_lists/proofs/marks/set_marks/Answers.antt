@@ -1,37 +1,25 @@
-use Prim.Native.Nat.{ℕ, ◌-◌}
-use mathlib.Core.Path.{sym, ap, ◌∙◌}
-use mathlib.Core.List.{List}
-use native.Mathlib.Omega.{arith}
-use lib.ListN.{length, replicate, set}
-use Rattle.error.proofs.OverLaws.{length_over, over-end, fill_start, fill_next}
-use Rattle.paged_lists.proofs.MarkLaws.{fill_cut}
+use Rattle.std.proofs.Common.{◌≡◌, ◌+◌, ◌-◌, ℕ, List, length, take, drop, replicate, sym, ap, ◌∙◌, length-take, length-drop, min, arith}
+use borrow.Rule.Slice.PartMut.{put_mid}
+use Rattle.error.specs.Lent.{over}
+use Rattle.error.proofs.OverLaws.{over-end}
+use Rattle.paged_lists.proofs.MarkLaws.{put_mid-over, fill_cut}
 use Rattle.paged_lists.proofs.marks.set_marks.Goals as goal
 
 pub returns-then-len-first : goal.returns-then-len-first
 returns-then-len-first c =
     let a = c.args in sym (over-end a.first (replicate a.count a.mark) a.marks.now (omega arith))
 
-pub loop-i-init : goal.loop-i-init
-loop-i-init c =
-    let a = c.args in
-    (omega (arith, c.min.ensures), omega arith, omega arith, fill_start a.first a.mark a.marks.now)
-
-pub bounds-marks-i : goal.bounds-marks-i
-bounds-marks-i c = let l = c.loop-i in omega (arith, simp length_over at (ap length l.invariant.3))
-
-pub loop-i-preserved : goal.loop-i-preserved
-loop-i-preserved c =
-    let l = c.loop-i in let a = c.args in (
-      l.invariant.0,
-      omega arith,
-      omega arith,
-      ap (λ (p : List ℕ). set p l.i a.mark) l.invariant.3 ∙ fill_next a.first l.i a.mark a.marks.now l.invariant.1,
-    )
-
-pub shape_of-marks : goal.shape_of-marks
-shape_of-marks c = let l = c.loop-i in simp length_over at (ap length l.invariant.3)
-
 pub returns : goal.returns
 returns c =
-    let l = c.loop-i in let a = c.args in
-    l.invariant.3 ∙ fill_cut a.first (l.i - a.first) a.count a.mark a.marks.now (omega arith) (λ h. omega arith)
+    let a = c.args in
+    let n = c.min.result in
+    let is-n : n ≡ min a.count (length a.marks.now - a.first) = c.min.ensures in
+    let k : a.first + n - a.first ≡ n = omega arith in
+    let long : length (take (a.first + n - a.first) (drop a.first a.marks.now)) ≡ n = simp (length-take, length-drop) (omega arith) in
+    let ys = c.fill.new.self in
+    let filled : ys ≡ replicate n a.mark = c.fill.ensures.after (λ y e. e) ∙ ap (λ (m : ℕ). replicate m a.mark) long in
+    let many : length ys ≡ n = c.fill.ensures.len ∙ long in
+    ap (λ (m : ℕ). put_mid a.first m a.marks.now ys) (k ∙ sym many)
+    ∙ put_mid-over a.first a.marks.now ys (omega arith)
+    ∙ ap (λ (l : List ℕ). over a.first l a.marks.now) filled
+    ∙ fill_cut a.first n a.count a.mark a.marks.now (omega arith) (λ h. omega arith)

@@ -1,5 +1,5 @@
 use mathlib.Core.Path.{◌≡◌}
-use Prim.Native.Nat.{◌+◌, ◌-◌, ◌/◌, ◌^◌, ◌≤◌}
+use Prim.Native.Nat.{◌+◌, ◌-◌, ◌/◌, ◌^◌}
 use lib.ListN.{length, drop}
 use Rattle.error.specs.Lent.{over}
 use Rattle.text.specs.Decimal.{decimal}
@@ -7,7 +7,4 @@ use Rattle.text.proofs.decimal.write_decimal.Given as goal
 
 abbrev pub invariant-loop-i : goal.invariant-loop-i
 invariant-loop-i l =
-    (l.i ≤ length (decimal l.n)) × (l.rest ≡ l.n / 10 ^ (length (decimal l.n) - l.i)) × (l.out ≡ over (l.at + l.i) (drop l.i (decimal l.n)) l.initial.out)
-
-abbrev pub decreases-loop-i : goal.decreases-loop-i
-decreases-loop-i l = l.i
+    (l.rest ≡ l.n / 10 ^ (length (decimal l.n) - l.i)) × (l.out ≡ over (l.at + l.i) (drop l.i (decimal l.n)) l.initial.out)

@@ -9,4 +9,4 @@ returns c =
     let a = c.args in
     then a.at (decimal a.n) (a.stop ∷ []) a.out.now
     (digits-written a.n a.at a.out.now w.0 w.1 c.place_after-second.ensures)
-    c.write_byte.ensures
+    c.write_bytes.ensures

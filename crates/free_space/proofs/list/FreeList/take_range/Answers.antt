@@ -1,6 +1,0 @@
-use Rattle.std.proofs.Common.{ap, ◌∙◌}
-use Rattle.error.specs.Lent.{leaving}
-use Rattle.free_space.proofs.list.FreeList.take_range.Goals as goal
-
-pub returns : goal.returns
-returns c = c.keep.ensures ∙ ap (leaving c.args.run.now) c.decide_range-d.ensures.0
