@@ -14,10 +14,10 @@
 --   or_top            the number that an outcome has, all ones for a refusal or Nothing: what a C interface shows of it
 --   left_or_top       that number, and the lent memory
 use Rattle.std.specs.Prelude.{ℕ, ◌+◌, ◌-◌, ◌*◌, ◌/◌, ◌^◌, Bool, ◌&&◌, ◌||◌, not, [], ◌∷◌, ltb, eqb}
-use Rattle.std.specs.declared.ops.Range as std
 use Rattle.error.specs.declared.Refusal.TheVariants.{Width, Page, Overflow, Short}
 use Rattle.error.specs.Outcome.{Outcome, answer, nothing, refuse, when, first_of, sat}
 use Rattle.error.specs.Lent.{With, with, Left}
+use Rattle.fields.specs.declared.convert.SliceRange.{SliceRange}
 use Rattle.fields.specs.Width.{valid_width}
 
 abbrev pub top : ℕ
@@ -30,7 +30,7 @@ unfoldable pub sum : ℕ → ℕ → Outcome ℕ
 sum a b = first_of (when (ltb top (a + b)) Overflow ∷ []) (answer (a + b))
 
 abbrev pub Range : Type 0
-Range = std.Range ℕ
+Range = SliceRange
 
 unfoldable pub range : ℕ → ℕ → Outcome Range
 range offset len = first_of (when (ltb top (offset + len)) Overflow ∷ []) (answer (record { start = offset; end = offset + len }))

@@ -5,18 +5,24 @@ ghost use Rattle.error.specs.Outcome.{sat};
 ghost use Rattle.fields.specs.Ranges.{range, undefined_addr, undefined_at, aligned_up};
 
 use error::Refusal;
-use std::ops::Range;
 
 // The undefined address of 8 bytes.
 pub const UNDEF: u64 = u64::MAX;
 
+// The places from `start` up to `end`. std's Range is no `Copy`.
+#[derive(Clone, Copy, Debug, PartialEq, Eq)]
+pub struct SliceRange {
+    pub start: u64,
+    pub end: u64,
+}
+
 // The range of `len` places from `offset` on.
 #[tactic(auto, unfolding(crate::specs::Ranges::range, error::specs::Outcome::first_of))]
-pub fn slice_range(offset: u64, len: u64) -> Result<Range<u64>, Refusal>
+pub fn slice_range(offset: u64, len: u64) -> Result<SliceRange, Refusal>
     ensures { as_outcome result ≡ range offset len }
 {
     let end = offset.checked_add(len).ok_or(Refusal::Overflow)?;
-    Ok(offset..end)
+    Ok(SliceRange { start: offset, end })
 }
 
 // The undefined address of an offset size: all bits of so many bytes, at most of 8, are one.
@@ -44,7 +50,7 @@ pub fn is_undefined_addr(addr: u64, offset_size: u8) -> Result<bool, Refusal>
 }
 
 // The first multiple of `page` at or after `value`.
-#[tactic(auto, unfolding(crate::specs::Ranges::aligned_up, crate::specs::Ranges::first_multiple, error::specs::Outcome::first_of))]
+#[tactic(auto, unfolding(crate::specs::Ranges::aligned_up, error::specs::Outcome::first_of), using(crate::proofs::RangeLaws::next_first))]
 pub fn align_up(value: u64, page: u64) -> Result<u64, Refusal>
     ensures { as_outcome result ≡ aligned_up value page }
 {

@@ -17,3 +17,4 @@ pub mod StepLaws
 pub mod SiftLaws
 pub mod ChainLaws
 pub mod RunLaws
+pub mod CursorLaws

@@ -8,3 +8,4 @@ pub mod Runs
 pub mod Nexts
 pub mod Steps
 pub mod NextSays
+pub mod Cursors

@@ -5,6 +5,7 @@ ghost use Rattle.fsm_sections.specs.Sections.{decode};
 ghost use Rattle.fsm_sections.specs.Chains.{sections_of};
 ghost use Rattle.fsm_sections.specs.Sources.{chains_in};
 ghost use Rattle.fsm_sections.specs.RunSteps.{regions_left, first_of, rows_left, Alike, GivesRow};
+ghost use Rattle.fsm_sections.specs.Cursors.{run_start, passed, rest_in, taken_of, RowIs};
 
 use crate::parts::part_chain;
 use crate::{FreeSection, Part};
@@ -135,4 +136,92 @@ impl<'a> Iterator for Rows<'a> {
             count: chain.count,
         })
     }
+}
+
+// Where a pass over a run stands that a caller leaves and takes up again, with the run lent anew: so many regions are passed.
+#[derive(Clone, Copy, Debug, PartialEq, Eq)]
+pub struct RunCursor {
+    i: usize,
+}
+
+impl RunCursor {
+    // Before the first region.
+    pub fn start() -> RunCursor
+        ensures { result ≡ run_start }
+    {
+        RunCursor { i: 0 }
+    }
+
+    // After `n` regions more. A place of a run fits; no other is reached.
+    pub(crate) fn after(self, n: usize) -> RunCursor
+        ensures { result ≡ passed n self }
+    {
+        RunCursor {
+            i: self.i.saturating_add(n),
+        }
+    }
+}
+
+impl<'a> Regions<'a> {
+    // Those of the first `count` regions of a run that are left at a cursor.
+    pub(crate) fn at(run: &'a [u64], count: usize, at: RunCursor) -> Regions<'a>
+        ensures { regions_left result ≡ rest_in count run.now at }
+    {
+        let all = Regions::new(run, count);
+        let passed = at.i.min(all.run.len() / 2);
+        Regions {
+            run: &all.run[2 * passed..],
+        }
+    }
+}
+
+// A region, and where the pass stands then.
+#[derive(Clone, Copy, Debug, PartialEq, Eq)]
+pub struct RunStep {
+    pub region: FreeSection,
+    pub at: RunCursor,
+}
+
+// The next of the first `count` regions of a run. Pairs that the run does not have are not there.
+pub fn next_in(run: &[u64], count: usize, at: RunCursor) -> Option<RunStep>
+    ensures { rest_in count run.now at ≡ taken_of count run.now result }
+{
+    let region = Regions::at(run, count, at).next()?;
+    Some(RunStep {
+        region,
+        at: at.after(1),
+    })
+}
+
+// A row, and where the pass stands then.
+#[derive(Clone, Copy, Debug, PartialEq, Eq)]
+pub struct RowStep {
+    pub row: Row,
+    pub at: RunCursor,
+}
+
+// The sections of the next region and, where regions are uncut, of those after it that have its size.
+pub fn next_row(run: &[u64], count: usize, at: RunCursor, part: Part, page: u64) -> Option<RowStep>
+    ensures { RowIs part page count run.now at result }
+{
+    let mut left = Regions::at(run, count, at);
+    let region = left.next()?;
+    if let Part::Whole = part {
+        let more = alike(left.run, region.size);
+        return Some(RowStep {
+            row: Row {
+                size: region.size,
+                count: (1 + more) as u64,
+            },
+            at: at.after(1 + more),
+        });
+    }
+    let chain = part_chain(part, page, region.addr, region.size);
+    Some(RowStep {
+        row: Row {
+            size: chain.size,
+            count: chain.count,
+        },
+        at: at.after(1),
+    })
 }

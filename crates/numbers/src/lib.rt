@@ -1,7 +1,40 @@
-// Division of 64-bit numbers, with a shift where the divisor is a power of two.
+// Small arithmetic on 64-bit numbers: the lesser and the greater of two, sums and differences that stop at the ends, and division with a shift.
 #![tactic(auto)]
 
-ghost use Rattle.std.specs.Prelude.{◌≡◌, ◌/◌, ◌%◌, ◌^◌, ◌<◌, IfSome};
+ghost use Rattle.std.specs.Prelude.{◌≡◌, ◌+◌, ◌-◌, ◌/◌, ◌%◌, ◌^◌, ◌<◌, IfSome, min, max};
+ghost use Rattle.error.specs.Outcome.{sat};
+
+pub mod index;
+
+// The greatest 64-bit number.
+pub const MAX: u64 = u64::MAX;
+
+pub fn min(a: u64, b: u64) -> u64
+    ensures { result ≡ min a b }
+{
+    a.min(b)
+}
+
+pub fn max(a: u64, b: u64) -> u64
+    ensures { result ≡ max a b }
+{
+    a.max(b)
+}
+
+// The sum of two numbers, at most 2^64 - 1.
+#[tactic(auto, unfolding(error::specs::Outcome::sat))]
+pub fn saturating_add(a: u64, b: u64) -> u64
+    ensures { result ≡ sat (a + b) }
+{
+    a.saturating_add(b)
+}
+
+// What is left of a number less another, 0 where that is more.
+pub fn saturating_sub(a: u64, b: u64) -> u64
+    ensures { result ≡ a - b }
+{
+    a.saturating_sub(b)
+}
 
 // By how many bits a power of two shifts.
 // The test is what is promised, that `1 << bits` is `by`; is_power_of_two says it by a count of ones.

@@ -26,6 +26,9 @@ over-same zero (suc e) (x ∷ xs) = ap (λ (l : List ℕ). x ∷ l) (over-same z
 over-same (suc i) zero (x ∷ xs) = ap (λ (l : List ℕ). x ∷ l) (over-nil i xs)
 over-same (suc i) (suc e) (x ∷ xs) = ap (λ (l : List ℕ). x ∷ l) (over-same i e xs)
 
+pub copied_same : (from end to : ℕ) (xs : List ℕ) → to ≡ from → xs ≡ over to (slice from end xs) xs
+copied_same from end to xs e = sym (ap (λ (i : ℕ). over i (slice from end xs) xs) e ∙ over-same from end xs)
+
 -- the lesser of two numbers, where the second is more
 is-first : (n m l to : ℕ) → n ≡ min m (l - to) → to + n < l → m ≤ n
 is-first n m l to e h = omega arith

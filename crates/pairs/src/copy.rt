@@ -13,5 +13,9 @@ pub fn copy_within(run: &mut [u64], from: usize, end: usize, to: usize)
     if n == 0 {
         return;
     }
+    // Numbers that stay where they are, as where a region takes another's place, are not gone through.
+    if to == from {
+        return;
+    }
     run.copy_within(from..from + n, to);
 }
