@@ -1,6 +1,6 @@
 // The calls on sections and their blocks.
 use crate::lines::{end_line, put_first, put_numbers};
-use crate::memory::{NUMBERS, bytes_memory};
+use crate::memory::{NUMBERS, bytes_memory, numbers_memory};
 use crate::reply::{Answered, Failure, Reply, pairs_reply};
 use crate::words::pairs_in;
 use error::Refusal;
@@ -16,7 +16,7 @@ pub(crate) fn split_call(args: &[u64], out: &mut [u8]) -> Answered {
         return Err(Failure::Bad);
     };
     let n = pairs_in(run, *count)?;
-    let mut sections = [0; NUMBERS];
+    let mut sections = numbers_memory::<NUMBERS>();
     let pieces = split_at_pages(run, n, *page, &mut sections)?;
     Ok(pairs_reply(b"", &sections, pieces as u64, out))
 }
@@ -73,7 +73,7 @@ pub(crate) fn fsse_parse_call(args: &[u64], bytes: &[u8], out: &mut [u8]) -> Ans
         fsse_addr: 0,
         fsse_used: bytes.len() as u64,
     };
-    let mut sections = [0; NUMBERS];
+    let mut sections = numbers_memory::<NUMBERS>();
     let n = parse_fsse(bytes, header, o, &mut sections)?;
     Ok(pairs_reply(b"ok ", &sections, n, out))
 }
@@ -91,7 +91,7 @@ pub(crate) fn read_call<
         return Err(Failure::Bad);
     }
     let o = u8::try_from(*o)?;
-    let mut sections = [0; NUMBERS];
+    let mut sections = numbers_memory::<NUMBERS>();
     let n = read_by(bytes, slots, BaseAddress(*base), o, &mut sections)?;
     Ok(pairs_reply(b"ok ", &sections, n, out))
 }

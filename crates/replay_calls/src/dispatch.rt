@@ -1,10 +1,12 @@
 // One line, answered.
+ghost use Rattle.std.specs.Prelude.{◌≤◌};
+
 use crate::addresses::address_call;
 use crate::blocks::{fshd_parse_call, fsse_parse_call, read_call, serialize_call, split_call};
 use crate::images::{image_call, image_into_call};
 use crate::lengths::{blocks_len_call, fsse_len_call};
 use crate::lists::{Lists, change_call, question_call};
-use crate::memory::{INPUT, NUMBERS};
+use crate::memory::{FEW, NUMBERS, SOME, input_memory, numbers_memory};
 use crate::message::{managers_call, parse_message_call, serialize_message_call};
 use crate::pages::pages_call;
 use crate::plans::plan_call;
@@ -90,21 +92,43 @@ fn bytes_call(
     }
 }
 
-// The answer to a line.
-pub(crate) fn answer_line(line: &[u8], lists: &mut Lists, out: &mut [u8]) -> Answered {
-    let name = call_name(line);
-    let mut numbers = [0; NUMBERS];
-    if has_bytes(name) {
-        let mut bytes = [0; INPUT];
-        let words = read_words(line, &mut numbers, &mut bytes)?;
-        return bytes_call(
-            name,
-            &numbers[..words.numbers],
-            &mut bytes[..words.bytes],
-            lists,
-            out,
-        );
-    }
+// Answers a call of at most N numbers.
+fn few_numbers<const N: usize>(
+    name: &[u8],
+    line: &[u8],
+    lists: &mut Lists,
+    out: &mut [u8],
+) -> Answered
+    requires { N ≤ 32768 }
+{
+    let mut numbers = numbers_memory::<N>();
     let n = read_numbers(line, &mut numbers)?;
     numbers_call(name, &numbers[..n], lists, out)
+}
+
+// Answers a call whose last word is bytes.
+fn line_with_bytes(name: &[u8], line: &[u8], lists: &Lists, out: &mut [u8]) -> Answered {
+    let mut numbers = numbers_memory::<NUMBERS>();
+    let mut bytes = input_memory();
+    let words = read_words(line, &mut numbers, &mut bytes)?;
+    bytes_call(
+        name,
+        &numbers[..words.numbers],
+        &mut bytes[..words.bytes],
+        lists,
+        out,
+    )
+}
+
+// The answer to a line. Memory for few numbers takes less time to make, and most calls have few; one stands after each space.
+pub(crate) fn answer_line(line: &[u8], lists: &mut Lists, out: &mut [u8]) -> Answered {
+    let name = call_name(line);
+    if has_bytes(name) {
+        return line_with_bytes(name, line, lists, out);
+    }
+    match line.iter().filter(|byte| **byte == b' ').count() {
+        0..=FEW => few_numbers::<FEW>(name, line, lists, out),
+        ..=SOME => few_numbers::<SOME>(name, line, lists, out),
+        _ => few_numbers::<NUMBERS>(name, line, lists, out),
+    }
 }

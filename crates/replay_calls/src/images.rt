@@ -1,6 +1,6 @@
 // The calls that read an image.
 use crate::lines::{end_line, pairs_line, put_numbers};
-use crate::memory::NUMBERS;
+use crate::memory::{NUMBERS, numbers_memory};
 use crate::reply::{Answered, Failure, Reply};
 use image::{ImageRead, read_image};
 use text::words::write_bytes;
@@ -21,7 +21,7 @@ pub(crate) fn image_call(args: &[u64], image: &[u8], out: &mut [u8]) -> Answered
     let &[place] = args else {
         return Err(Failure::Bad);
     };
-    let mut sections = [0; NUMBERS];
+    let mut sections = numbers_memory::<NUMBERS>();
     let read = read_image(image, place, &mut sections);
     read.answer?;
     Ok(Reply::Text(counts_line(&read.counts, &sections, out)))

@@ -1,6 +1,6 @@
 // The calls on the File Space Info message.
 use crate::lines::{end_line, put_counted, put_first, put_numbers};
-use crate::memory::{NUMBERS, bytes_memory};
+use crate::memory::{NUMBERS, bytes_memory, numbers_memory};
 use crate::reply::{Answered, Failure, Reply};
 use file_space_info::{FileSpaceInfo, FileSpaceStrategy};
 use text::words::write_bytes;
@@ -24,7 +24,7 @@ pub(crate) fn parse_message_call(args: &[u64], bytes: &[u8], out: &mut [u8]) -> 
     let &[o, l] = args else {
         return Err(Failure::Bad);
     };
-    let mut addrs = [0; NUMBERS];
+    let mut addrs = numbers_memory::<NUMBERS>();
     let parsed = FileSpaceInfo::parse(bytes, u8::try_from(o)?, u8::try_from(l)?, &mut addrs)?;
     Ok(Reply::Text(message_line(parsed.info, &addrs, parsed.count, out)))
 }

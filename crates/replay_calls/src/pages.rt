@@ -1,4 +1,6 @@
 // The calls that hand out bytes in pages by kind, and those of the marks.
+ghost use Rattle.std.specs.Prelude.{◌≡◌, length};
+
 use crate::lines::end_line;
 use crate::lists::{Lists, MARKS};
 use crate::reply::{Answered, Failure, Reply};
@@ -6,13 +8,19 @@ use paged_calls::perform;
 use paged_lists::{PageType, PagedCall};
 use replay_lines::answer::put_number;
 
+fn marks_memory() -> [u8; MARKS]
+    ensures { 8192 ≡ length result }
+{
+    [0; MARKS]
+}
+
 // Puts any bytes in place of the marks: they need not be marks.
 fn lend_marks(lists: &mut Lists, marks: &[u64]) -> Answered {
     let n = marks.len();
     if MARKS < n {
         return Err(Failure::Bad);
     }
-    let mut bytes = [0; MARKS];
+    let mut bytes = marks_memory();
     for (byte, mark) in bytes.iter_mut().zip(marks) {
         *byte = u8::try_from(*mark)?;
     }

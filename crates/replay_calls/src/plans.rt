@@ -2,7 +2,7 @@
 ghost use Rattle.std.specs.Prelude.{◌≤◌, length};
 
 use crate::lines::{end_line, put_numbers, put_pairs};
-use crate::memory::NUMBERS;
+use crate::memory::{NUMBERS, numbers_memory};
 use crate::reply::{Answered, Failure, Reply};
 use fsm_plan::Counts;
 use fsm_plan::blocks::{PagedManagerBlock, PagedManagerPlan};
@@ -73,7 +73,7 @@ pub(crate) fn plan_call(args: &[u64], out: &mut [u8]) -> Answered {
         raw: raw.len() / 2,
         unclassified: unclassified.len() / 2,
     };
-    let mut sections = [0; NUMBERS];
+    let mut sections = numbers_memory::<NUMBERS>();
     let plan = plan_paged_managers(
         meta,
         raw,

@@ -1,7 +1,7 @@
 // Standard input, line by line, and an answer to each on standard output.
 use crate::dispatch::answer_line;
 use crate::lists::Lists;
-use crate::memory::{INPUT, bytes_memory};
+use crate::memory::{INPUT, bytes_memory, input_memory};
 use crate::reply::{Answered, Failure, Reply, say};
 use std::io::{self, Read};
 use streams::read_full;
@@ -54,7 +54,7 @@ struct Chunk {
 impl Chunk {
     fn new() -> Chunk {
         Chunk {
-            bytes: [0; INPUT],
+            bytes: input_memory(),
             at: 0,
             end: 0,
         }

@@ -7,7 +7,7 @@ use crate::reply::Failure;
 
 // The digit that a byte is.
 fn digit_of(byte: u8) -> Result<u64, Failure>
-    ensures { IfOk result (λ n. n ≡ byte - 48) }
+    ensures { IfOk result (λ n. (n ≤ 9) × (n ≡ byte - 48)) }
 {
     match byte {
         b'0'..=b'9' => Ok(u64::from(byte - b'0')),

@@ -10,4 +10,4 @@ loop-byte-preserved c =
     let l = c.loop-byte in
     let tens : c.in_ok-tens.tens ≡ l.value * 10 = search rules in
     let sum : c.in_ok-value.value ≡ c.in_ok-tens.tens + c.in_ok-digit.digit = search rules in
-    sum ∙ spell_step c.args.word.now l.byte-index l.value c.in_ok-tens.tens c.in_ok-digit.digit c.loop-byte-test.true l.invariant tens c.in_ok-digit.ensures
+    sum ∙ spell_step c.args.word.now l.byte-index l.value c.in_ok-tens.tens c.in_ok-digit.digit c.loop-byte-test.true l.invariant tens c.in_ok-digit.ensures.1
