@@ -1,3 +1,4 @@
+use native.Mathlib.Omega.{arith}
 use Rattle.error.specs.Outcome.{sat}
 use Rattle.std.proofs.lemmas.Result.{err_from_is_err_and}
 use Rattle.fsm_blocks.proofs.SlotsLaws.{sum_start, sum_refused, sum_step, sum_end}
@@ -18,7 +19,7 @@ unfolding sat
 loop-slot-preserved c =
     let a = c.args in
     let l = c.loop-slot in
-    sum_step a.reading a.size.bytes a.base.0 a.bytes.now a.slots.now l.needed l.slot-index l.invariant c.loop-slot-test.true c.args.size.width _ c.in_ok-n.was c.manager_count.ensures _ c.saturating_add-needed.ensures
+    sum_step a.reading a.size.bytes a.base.0 a.bytes.now a.slots.now l.needed l.slot-index l.invariant c.loop-slot-test.true c.args.size.width _ c.in_ok-n.was c.manager_count.ensures _ (omega arith)
 
 pub returns : goal.returns
 returns c =
