@@ -119,7 +119,8 @@ fn give(run: &mut [u64], list: FreeList, d: Decision) -> Result<Option<Given>, R
 }
 
 // The same for one that gives nothing out.
-// Beside `give`: where there is nothing, the record stays.
+// Beside `give`: where there is nothing, the record stays. Inlined, since the decision goes through memory at a call.
+#[inline(always)]
 fn keep(run: &mut [u64], list: FreeList, d: Decision) -> Result<FreeList, Refusal>
     requires { Applicable run.old list d }
     ensures { left (as_outcome result) run.new ≡ leaving run.old (kept_by run.old list d) }

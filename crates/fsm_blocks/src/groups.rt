@@ -12,7 +12,6 @@ use crate::header::FsmHeader;
 use error::Refusal;
 use fields::bytes::read_uint_le;
 use fields::width::enc_size;
-use pairs::put_pair;
 
 // The number that eight bytes at `at` spell: one load.
 fn eight_at(bytes: &[u8], at: usize) -> u64
@@ -27,11 +26,27 @@ fn eight_at(bytes: &[u8], at: usize) -> u64
 pub fn number_at(bytes: &[u8], at: usize, width: usize) -> u64
     ensures { result ≡ le_value (take (min width 8) (drop at bytes.now)) }
 {
-    if width == 8 && 8 <= bytes.len() && at <= bytes.len() - 8 {
-        eight_at(bytes, at)
-    } else {
-        read_uint_le(bytes, at, width)
+    // One test after the other: with all in one condition, a loop over entries tests the width at each.
+    if width != 8 {
+        return read_uint_le(bytes, at, width);
     }
+    if bytes.len() < 8 {
+        return read_uint_le(bytes, at, width);
+    }
+    if bytes.len() - 8 < at {
+        return read_uint_le(bytes, at, width);
+    }
+    eight_at(bytes, at)
+}
+
+// The number that `width` bytes at `at` spell. By a call: inlined, it would be too much for the compiler to take the test of the width
+// out of the loop in `put_entries`.
+#[inline(never)]
+fn other_at(bytes: &[u8], at: usize, width: usize) -> u64
+    requires { (width ≤ 8) × (at + width ≤ length bytes.now) }
+    ensures { result ≡ le_at at width bytes.now }
+{
+    read_uint_le(bytes, at, width)
 }
 
 // The number that `width` bytes at `at` spell. Sizes and addresses mostly take eight bytes, and the counts of fewer than 65,536
@@ -47,7 +62,7 @@ fn field_at(bytes: &[u8], at: usize, width: usize) -> u64
             let two: [u8; 2] = bytes[at..at + 2].try_into().unwrap();
             u64::from(u16::from_le_bytes(two))
         }
-        _ => read_uint_le(bytes, at, width),
+        _ => other_at(bytes, at, width),
     }
 }
 
@@ -110,8 +125,8 @@ pub(crate) fn groups_count(groups: &[u8], w: GroupWidths, total: u64) -> Result<
     Ok(total)
 }
 
-// Puts `count` entries of one size into the run.
-// By the place: two runs with other steps.
+// Puts `count` entries of one size into the run: by the place, as these are two runs with other steps, and without a test of it, as
+// `put_pair` would make.
 fn put_entries(
     groups: &[u8],
     at: usize,
@@ -126,7 +141,8 @@ fn put_entries(
 {
     for i in 0..count {
         let addr = field_at(groups, at + i * (width + 1), width);
-        put_pair(out, from + 2 * i, addr, size);
+        out[from + 2 * i] = addr;
+        out[from + 2 * i + 1] = size;
     }
 }
 

@@ -119,7 +119,9 @@ impl<'a> Iterator for Rows<'a> {
 
     ghost remaining = { item_count (λ r. regions_left r.regions) };
 
-    // The sections of the next region and, where regions are uncut, of those after it that have its size.
+    // The sections of the next region and, where regions are uncut, of those after it that have its size. Inlined, since a row goes
+    // through memory at a call.
+    #[inline(always)]
     fn next(&mut self) -> Option<Row> {
         let region = self.regions.next()?;
         if let Part::Whole = self.part {
