@@ -42,13 +42,15 @@ impl Line {
     }
 }
 
-// The bytes that were read last, of which those from `at` up to `end` are not taken yet.
+// The bytes that were read last, of which those from `at` up to `end` are not taken yet, and whether more may follow: once the input
+// has ended it is not read again.
 // Fixed memory with how much of it counts: no heap.
 #[derive(Drop)]
 struct Chunk {
     bytes: [u8; INPUT],
     at: usize,
     end: usize,
+    more: bool,
 }
 
 impl Chunk {
@@ -57,14 +59,16 @@ impl Chunk {
             bytes: input_memory(),
             at: 0,
             end: 0,
+            more: true,
         }
     }
 
     // Reads the next bytes if all are taken, and answers whether there are any.
     fn fill<R: Read>(&mut self, reader: &mut R) -> io::Result<bool> {
-        if self.end <= self.at {
+        if self.end <= self.at && self.more {
             self.end = read_full(reader, &mut self.bytes)?;
             self.at = 0;
+            self.more = 0 < self.end;
         }
         Ok(self.at < self.end)
     }
