@@ -1,17 +1,17 @@
--- Laws of text in lent bytes: one text after another, and bytes that are copied. Assumes nothing.
+-- Laws of text in lent bytes: one text after another, a byte, and bytes that are copied. Assumes nothing.
 use mathlib.Core.Path.{◌≡◌, refl, sym, ap, ap₂, ◌∙◌}
-use mathlib.Core.List.{List, [], ◌++◌}
+use mathlib.Core.List.{List, [], ◌∷◌, ◌++◌}
 use mathlib.Core.Logic.{⊎_elim}
 use Prim.Native.Nat.{ℕ, ◌+◌, ◌-◌, ◌≤◌, ◌<◌, min}
 use native.Mathlib.Nat.{min-eq_left, min-eq_right}
 use native.Mathlib.Omega.{arith}
-use lib.ListN.{length, take, length-append}
+use lib.ListN.{length, take, set, length-append}
 use lib.Seq.{take-append_seam, take-length, length-take-le, take_all}
 use borrow.Rule.Slice.PartMut.{put_mid}
 use Rattle.std.proofs.lemmas.Slice.{put_mid-paste}
 use Rattle.error.specs.Lent.{With, with, over}
 use Rattle.error.proofs.TestLaws.{le-or-lt}
-use Rattle.error.proofs.OverLaws.{length_over, over-nil, over_right, over-cut, over-end, over-paste}
+use Rattle.error.proofs.OverLaws.{length_over, over-nil, over_right, over-cut, over-end, set-over, over-paste}
 use Rattle.text.specs.Decimal.{decimal}
 use Rattle.text.specs.Text.{written}
 
@@ -69,6 +69,14 @@ pub printing_length : (at : ℕ) (text out₀ : List ℕ) (to : ℕ) (rest out :
 printing_length at text out₀ to rest out p =
     let n = ap (λ (w : With ℕ (List ℕ)). length w.memory) p.same in
     omega (arith, length_over to rest out, length_over at text out₀)
+
+-- ---- a byte
+
+pub byte_in : (at v : ℕ) (out : List ℕ) → at < length out → with (at + 1) (set out at v) ≡ written at (v ∷ []) out
+byte_in at v out h = let n : at + 1 ≡ min (at + 1) (length out) = omega arith in ap₂ with n (set-over out at v)
+
+pub byte_out : (at v : ℕ) (out : List ℕ) → length out ≤ at → with (length out) out ≡ written at (v ∷ []) out
+byte_out at v out h = let n : length out ≡ min (at + 1) (length out) = omega arith in ap₂ with n (sym (over-end at (v ∷ []) out h))
 
 -- ---- a word: digits, whose number is counted, and the byte after them
 

@@ -1,7 +1,6 @@
 -- `ends`: the section ends at a number
 use mathlib.Core.Path.{refl, ap, ◌∙◌}
 use Prim.Native.Nat.{◌^◌, ◌<◌, ◌+◌}
-use native.Mathlib.Nat.{mod-lt, le_of_lt}
 use native.Mathlib.Omega.{arith}
 use lib.ListN.{length}
 use Rattle.split_records.specs.Records.{pieces_left}
@@ -32,10 +31,7 @@ overflow_add-a c =
     record { fits = h }
 
 pub overflow_sub-page : goal.overflow_sub-page
-overflow_sub-page c =
-    let l = c.loop-i in
-    let a = c.args in
-    le_of_lt (mod-lt ((section_at a.sections.now l.i).addr + l.d) c.requires.0)
+overflow_sub-page c = omega (arith, c.requires.0)
 
 pub overflow_add-next : goal.overflow_add-next
 overflow_add-next c =
@@ -43,11 +39,11 @@ overflow_add-next c =
     let a = c.args in
     fits-here a.count a.sections.now c.requires.1 c.requires.2 l.i l.invariant.0 in
     let l = c.loop-i in
-    let h : l.d + c.min-z.result < 2 ^ 64 = omega (arith, ends, c.loop-i-test.false, c.min-z.ensures) in
-    record { fits = h }
+    record { fits = omega (arith, ends, c.loop-i-test.false) }
 
 pub returns : goal.returns
 returns c =
     let l = c.loop-i in
     let a = c.args in
-    l.invariant.1 ∙ cut a.page a.count a.sections.now c.requires.1 c.requires.0 l.i l.d c.min-z.result l.invariant.0 c.loop-i-test.false c.min-z.ensures
+    let ends = fits-here a.count a.sections.now c.requires.1 c.requires.2 l.i l.invariant.0 in
+    l.invariant.1 ∙ cut a.page a.count a.sections.now c.requires.1 c.requires.0 l.i l.d _ l.invariant.0 c.loop-i-test.false (omega (arith, ends))

@@ -1,23 +1,13 @@
-use mathlib.Core.Path.{◌≡◌, ap, ◌∙◌}
-use mathlib.Core.List.{List}
-use Prim.Native.Nat.{ℕ, ◌-◌}
 use native.Mathlib.Omega.{arith}
-use borrow.Rule.Slice.PartMut.{put_mid}
-use Rattle.std.proofs.Common.{rules}
-use Rattle.std.proofs.lemmas.List.{places, same_lists}
-use Rattle.error.specs.Lent.{with}
-use Rattle.text.specs.Text.{written}
+use Rattle.std.proofs.lemmas.List.{reverse-reverse}
 use Rattle.text.proofs.TextLaws.{copy_start, copy_end, copied-part}
 use Rattle.text.proofs.words.write_bytes.Goals as goal
 
+-- the part holds the bytes, by whatever steps: also if it was turned and turned back
 pub returns-then-at-end : goal.returns-then-at-end
 returns-then-at-end c =
     let a = c.args in
-    let end = c.place_after-end.result in
-    let part = c.copy_from_slice.new.self in
-    let whole : (xs : List ℕ) → xs ≡ put_mid a.at (end - a.at) a.out.now part → with end xs ≡ written a.at a.bytes.now a.out.now =
-    λ xs e. ap (with end) e ∙ copied-part a.at end a.bytes.now a.out.now part c.if-at-end.true c.place_after-end.ensures c.copy_from_slice.ensures.after in
-    whole _ (same_lists _ _ (search (rules, places)) (λ k d h. grind (arith, places)))
+    copied-part a.at c.place_after-end.result a.bytes.now a.out.now _ c.if-at-end.true c.place_after-end.ensures (grind (arith, reverse-reverse))
 
 pub returns-else-at-end : goal.returns-else-at-end
 returns-else-at-end c =

@@ -1,4 +1,5 @@
 use mathlib.Core.List.{[], ◌∷◌}
+use native.Mathlib.Omega.{arith}
 use Rattle.text.specs.Decimal.{decimal}
 use Rattle.text.proofs.TextLaws.{then, digits-written}
 use Rattle.text.proofs.words.write_word.Goals as goal
@@ -8,5 +9,5 @@ returns c =
     let w = c.write_decimal-count.ensures in
     let a = c.args in
     then a.at (decimal a.n) (a.stop ∷ []) a.out.now
-    (digits-written a.n a.at a.out.now w.0 w.1 c.place_after-second.ensures)
-    c.write_bytes.ensures
+    (digits-written a.n a.at a.out.now w.0 w.1 (omega arith))
+    c.write_byte.ensures
