@@ -1,21 +1,24 @@
 -- Laws of sums, ranges and multiples: the cases of each definition, and what the first multiple of a unit is. Assumes nothing.
-use mathlib.Core.Path.{◌≡◌, refl, ap, ◌∙◌}
+use mathlib.Core.Path.{◌≡◌, refl, sym, ap, ◌∙◌}
 use mathlib.Core.Bool.{false, not}
 use mathlib.Core.Logic.{◌⊎◌, inl, inr, ⊎_elim}
 use Prim.Native.Nat.{ℕ, zero, suc, ◌+◌, ◌-◌, ◌*◌, ◌/◌, ◌%◌, ◌^◌, ◌≤◌, ◌<◌}
-use native.Mathlib.Nat.{div-add-mod', mod-lt, mod_self, mod-eq_of_lt, suc-mul, pow-le-pow_right}
+use native.Mathlib.Nat.{div-add-mod', mod-lt, lt_of_not-le, mod_self, mod-eq_of_lt, suc-mul, pow-le-pow_right}
 use native.Mathlib.Numerals.{unary_clauses}
 use native.Mathlib.Omega.{arith}
-use borrow.Author.Tests.{not-false, lt-ltb, le-ltb, leb-true}
+use borrow.Author.Tests.{not-false, lt-ltb, le-ltb, leb-true, ne_eqb}
 use lib.Arith.{digits_div}
 use lib.Dec.{leb, lit<, lit≤}
 use lib.Pow.{shl_exact}
+use Rattle.std.specs.Prelude.{Option, Some, None}
 use Rattle.std.specs.Int.{next_multiple_of}
+use Rattle.std.specs.Option.{SomeIff, ok_or}
+use Rattle.error.specs.Answers.{as_outcome}
 use Rattle.error.specs.declared.Refusal.TheVariants.{Overflow}
 use Rattle.error.specs.Outcome.{answer, refused, sat}
 use Rattle.error.proofs.TestLaws.{and_true}
-use Rattle.error.proofs.OutcomeLaws.{refuses, passes}
-use Rattle.fields.specs.Ranges.{top, sum, range, undefined_addr, first_multiple}
+use Rattle.error.proofs.OutcomeLaws.{refuses, passes, first_passes}
+use Rattle.fields.specs.Ranges.{top, sum, range, undefined_addr, first_multiple, aligned_up}
 use Rattle.fields.specs.Width.{valid_width}
 use Rattle.fields.proofs.WidthLaws.{pow256, some_power}
 
@@ -107,3 +110,13 @@ module _ (value page : ℕ) (n : page ≡ 0 → ⊥) where
       let m : (page - value % page) % page ≡ page - value % page = mod-eq_of_lt (omega arith) in
       omega (arith, m, first-after value page (omega arith) (λ e. omega arith)))
       (zero-or-pos (value % page))
+
+  -- std's next multiple that fits, or the refusal; for a caller who asks std for it
+  pub aligned_is : (o : Option ℕ) → SomeIff o ((0 < page) × (next_multiple_of value page < 2 ^ 64)) (next_multiple_of value page) → as_outcome (ok_or o Overflow) ≡ aligned_up value page
+  unfolding aligned_up
+  aligned_is None h =
+      refuses _ _ _ (lt-ltb top (first_multiple value page) (lt_of_not-le (λ q. h (omega arith, omega (arith, next_first)))))
+      ∙ sym (first_passes _ _ _ _ (ne_eqb page 0 n))
+  aligned_is (Some x) h =
+      ap answer (h.1 ∙ next_first) ∙ passes _ _ _ (le-ltb top (first_multiple value page) (omega (arith, next_first)))
+      ∙ sym (first_passes _ _ _ _ (ne_eqb page 0 n))
